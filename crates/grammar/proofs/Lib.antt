@@ -1,0 +1,7 @@
+-- The theorems of the language.
+pub mod Nodes
+pub mod References
+pub mod First
+pub mod Acceptance
+pub mod Terminals
+pub mod Determinism

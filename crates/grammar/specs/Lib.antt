@@ -1,0 +1,7 @@
+-- The definitions of the language. "The paper" is document 01; a sentence in quotation marks is the paper's.
+pub mod Image
+pub mod Outcomes
+pub mod WellFormed
+pub mod Terminal
+pub mod Evaluates
+pub mod Questions

@@ -1,0 +1,108 @@
+// Reads the fields of a grammar image. Every function answers for every byte string and every number: a byte past the end reads
+// as 0. Which bits are which field is said in the crate `grammar`, specs/Image.antt.
+ghost use mathlib.Core.Path.{_≡_};
+ghost use Prim.Native.Nat.{_<_};
+ghost use Rattle.grammar.specs.Image.{byteAt, word16, word32};
+ghost use Rattle.image.specs.Fields.{HeaderFields, RuleFields, NodeFields};
+
+pub struct Header {
+    pub edition: usize,
+    pub rules: usize,
+    pub nodes: usize,
+    pub start: usize,
+}
+
+pub struct Rule {
+    pub zero: usize,
+    pub root: usize,
+}
+
+pub struct Node {
+    pub kind: usize,
+    pub zero: usize,
+    pub a: usize,
+    pub b: usize,
+}
+
+// A byte as a number that later sums can use.
+fn wide(byte: u8) -> usize
+    ensures { λ r. ⌜ (r ≡ byte) × (r < 256) ⌝ }
+{
+    byte as usize
+}
+
+// The byte at a place, 0 past the end.
+fn byte_at(bytes: &[u8], at: usize) -> usize
+    ensures { λ r. ⌜ (r ≡ byteAt (now (bytes .entry)) at) × (r < 256) ⌝ }
+{
+    if at < bytes.len() { wide(bytes[at]) } else { 0 }
+}
+
+// The two bytes from a place on as a number, the first byte highest.
+fn word16_at(bytes: &[u8], at: usize) -> usize
+    ensures { λ r. ⌜ (r ≡ word16 (now (bytes .entry)) at) × (r < 65536) ⌝ }
+{
+    if bytes.len() <= at {
+        return 0;
+    }
+    byte_at(bytes, at) * 256 + byte_at(bytes, at + 1)
+}
+
+// The four bytes from a place on as a number, the first byte highest.
+fn word32_at(bytes: &[u8], at: usize) -> usize
+    ensures { λ r. ⌜ (r ≡ word32 (now (bytes .entry)) at) × (r < 4294967296) ⌝ }
+{
+    if bytes.len() <= at {
+        return 0;
+    }
+    word16_at(bytes, at) * 65536 + word16_at(bytes, at + 2)
+}
+
+// The fields of the header.
+pub fn header_of(image: &[u8]) -> Header
+    ensures { λ r. ⌜ HeaderFields (now (image .entry)) r ⌝ }
+{
+    let word = word32_at(image, 0);
+    Header {
+        edition: word / 268435456 % 16,
+        rules: word / 1048576 % 256,
+        nodes: word / 256 % 4096,
+        start: word % 256,
+    }
+}
+
+// The fields of a rule's word.
+pub fn rule_at(image: &[u8], rule: usize) -> Rule
+    ensures { λ r. ⌜ RuleFields (now (image .entry)) rule r ⌝ }
+{
+    if image.len() / 2 <= rule {
+        return Rule { zero: 0, root: 0 };
+    }
+    let word = word16_at(image, 4 + 2 * rule);
+    Rule {
+        zero: word / 4096 % 16,
+        root: word % 4096,
+    }
+}
+
+// The fields of a node's word.
+pub fn node_at(image: &[u8], node: usize) -> Node
+    ensures { λ r. ⌜ NodeFields (now (image .entry)) node r ⌝ }
+{
+    if image.len() / 4 <= node {
+        return Node {
+            kind: 0,
+            zero: 0,
+            a: 0,
+            b: 0,
+        };
+    }
+    let header = word32_at(image, 0);
+    let word = word32_at(image, 4 + 2 * (header / 1048576 % 256) + 4 * node);
+    Node {
+        kind: word / 268435456 % 16,
+        zero: word / 16777216 % 16,
+        a: word / 4096 % 4096,
+        b: word % 4096,
+    }
+}
