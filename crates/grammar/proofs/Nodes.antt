@@ -1,6 +1,7 @@
 -- Which node a word stands for, by its kind. Assumes nothing.
-use Prim.Native.Nat.{ℕ, _≤_}
-use mathlib.Core.Path.{_≡_, ap}
+use Prim.Native.Nat.{ℕ, zero, suc, _≤_}
+use native.Mathlib.Omega.{arith}
+use mathlib.Core.Path.{_≡_, refl, sym, ap, _∙_}
 use mathlib.Core.List.{List, [], _∷_}
 use lib.ListN.{List·getD-eq-default}
 use Rattle.grammar.specs.Image.{kind, fieldA, fieldB, any, range, node, nodeOfKind}
@@ -57,3 +58,31 @@ module _ (img : List ℕ) (n : ℕ) where
       ∷ [])
       unlawful
       h
+
+-- The kind of a node, read back from it.
+abbrev kindOf : Node → ℕ
+kindOf empty = 0
+kindOf (terminal any) = 1
+kindOf (terminal (range from to)) = 2
+kindOf (sequence a b) = 3
+kindOf (choice a b) = 4
+kindOf (star a) = 5
+kindOf (not-predicate a) = 6
+kindOf (call r) = 7
+kindOf unlawful = 8
+
+read-back : (k a b : ℕ) → k ≤ 7 → kindOf (nodeOfKind k a b) ≡ k
+unfolding nodeOfKind
+read-back zero a b h = refl
+read-back (suc zero) a b h = refl
+read-back (suc (suc zero)) a b h = refl
+read-back (suc (suc (suc zero))) a b h = refl
+read-back (suc (suc (suc (suc zero)))) a b h = refl
+read-back (suc (suc (suc (suc (suc zero))))) a b h = refl
+read-back (suc (suc (suc (suc (suc (suc zero)))))) a b h = refl
+read-back (suc (suc (suc (suc (suc (suc (suc zero))))))) a b h = refl
+read-back (suc (suc (suc (suc (suc (suc (suc (suc k)))))))) a b h = absurd (omega arith)
+
+pub kind-of-star : (img : List ℕ) (n a : ℕ) → kind img n ≤ 7 → node img n ≡ star a → kind img n ≡ 5
+unfolding node
+kind-of-star img n a h e = sym (read-back (kind img n) (fieldA img n) (fieldB img n) h) ∙ ap kindOf e

@@ -49,13 +49,29 @@ fn word16_at(bytes: &[u8], at: usize) -> usize
 }
 
 // The four bytes from a place on as a number, the first byte highest.
-fn word32_at(bytes: &[u8], at: usize) -> usize
+fn partial_word32_at(bytes: &[u8], at: usize) -> usize
     ensures { λ r. ⌜ (r ≡ word32 (now (bytes .entry)) at) × (r < 4294967296) ⌝ }
 {
     if bytes.len() <= at {
         return 0;
     }
     word16_at(bytes, at) * 65536 + word16_at(bytes, at + 2)
+}
+
+// The same, with one test where all four bytes are there: the compiler then makes one load of them.
+fn word32_at(bytes: &[u8], at: usize) -> usize
+    ensures { λ r. ⌜ (r ≡ word32 (now (bytes .entry)) at) × (r < 4294967296) ⌝ }
+{
+    if bytes.len() < 4 {
+        return partial_word32_at(bytes, at);
+    }
+    if bytes.len() - 4 < at {
+        return partial_word32_at(bytes, at);
+    }
+    wide(bytes[at]) * 16777216
+        + wide(bytes[at + 1]) * 65536
+        + wide(bytes[at + 2]) * 256
+        + wide(bytes[at + 3])
 }
 
 // The fields of the header.

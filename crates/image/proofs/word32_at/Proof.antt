@@ -1,38 +1,107 @@
 use Rattle.image.proofs.PastTheEnd.{past-word32}
+use Rattle.grammar.specs.Image.{byteAt}
 use native.Mathlib.Omega.{arith}
+use mathlib.Core.Path.{_≡_, ap}
+use Prim.Native.Nat.{_+_}
 use borrow.Author.Needs.{needs}
 use Rattle.image.proofs.word32_at.Statement.{statement}
 use Rattle.image.proofs.word32_at.Tie as tie
 
-returns : tie.Need-returns
-returns c = omega (arith, past-word32 (c .before .before .args .bytes .now) (c .before .before .args .at) (c .if1 .taken))
+partial-word32-at-requires : tie.Need-partial-word32-at-requires
+partial-word32-at-requires c κs = search needs
 
-word16-at-requires : tie.Need-word16-at-requires
-word16-at-requires c κs = search needs
+returns : tie.Need-returns
+returns c = search needs
+
+sub-if2 : tie.Need-sub-if2
+sub-if2 c = search needs
+
+partial-word32-at-requires-2 : tie.Need-partial-word32-at-requires-2
+partial-word32-at-requires-2 c κs = search needs
+
+returns-2 : tie.Need-returns-2
+returns-2 c = search needs
+
+shared-slice-read-wide : tie.Need-shared-slice-read-wide
+shared-slice-read-wide c = search needs
+
+wide-requires : tie.Need-wide-requires
+wide-requires c κs = search needs
 
 mul-result : tie.Need-mul-result
 mul-result c = search needs
 
-add-word16-at : tie.Need-add-word16-at
-add-word16-at c = search needs
+add-wide : tie.Need-add-wide
+add-wide c = search needs
 
-word16-at-requires-2 : tie.Need-word16-at-requires-2
-word16-at-requires-2 c κs = search needs
+shared-slice-read-wide-2 : tie.Need-shared-slice-read-wide-2
+shared-slice-read-wide-2 c = search needs
+
+wide-requires-2 : tie.Need-wide-requires-2
+wide-requires-2 c κs = search needs
+
+mul-result-2 : tie.Need-mul-result-2
+mul-result-2 c = search needs
 
 add-result : tie.Need-add-result
 add-result c = search needs
 
-returns-2 : tie.Need-returns-2
-returns-2 c = search needs
+add-wide-2 : tie.Need-add-wide-2
+add-wide-2 c = search needs
+
+shared-slice-read-wide-3 : tie.Need-shared-slice-read-wide-3
+shared-slice-read-wide-3 c = search needs
+
+wide-requires-3 : tie.Need-wide-requires-3
+wide-requires-3 c κs = search needs
+
+mul-result-3 : tie.Need-mul-result-3
+mul-result-3 c = search needs
+
+add-result-2 : tie.Need-add-result-2
+add-result-2 c = search needs
+
+add-wide-3 : tie.Need-add-wide-3
+add-wide-3 c = search needs
+
+shared-slice-read-wide-4 : tie.Need-shared-slice-read-wide-4
+shared-slice-read-wide-4 c = search needs
+
+wide-requires-4 : tie.Need-wide-requires-4
+wide-requires-4 c κs = search needs
+
+add-result-3 : tie.Need-add-result-3
+add-result-3 c = search needs
+
+returns-3 : tie.Need-returns-3
+returns-3 c =
+    let last : c .before .before .before .before .before .before .before .before .before .before .before .args .at + 2 + 1 ≡ c .before .before .before .before .before .before .before .before .before .before .before .args .at + 3 = omega arith in
+    omega (arith, ap (byteAt (c .before .before .before .before .before .before .before .before .before .before .before .args .bytes .now)) last)
 
 pub word32-at-spec : {M : Type 1} → statement M
 word32-at-spec =
     tie.close
     (tie.spec
+    partial-word32-at-requires
     returns
-    word16-at-requires
+    sub-if2
+    partial-word32-at-requires-2
+    returns-2
+    shared-slice-read-wide
+    wide-requires
     mul-result
-    add-word16-at
-    word16-at-requires-2
+    add-wide
+    shared-slice-read-wide-2
+    wide-requires-2
+    mul-result-2
     add-result
-    returns-2)
+    add-wide-2
+    shared-slice-read-wide-3
+    wide-requires-3
+    mul-result-3
+    add-result-2
+    add-wide-3
+    shared-slice-read-wide-4
+    wide-requires-4
+    add-result-3
+    returns-3)

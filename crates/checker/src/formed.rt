@@ -1,0 +1,73 @@
+// The well-formed set, and question 7: "Is every node in the well-formed set?"
+use crate::order;
+use crate::sets;
+ghost use Prim.Native.Nat.{_<_};
+ghost use mathlib.Core.Path.{_≡_};
+ghost use Rattle.grammar.specs.Image.{node, nodes};
+ghost use Rattle.grammar.specs.Questions.{Lawful, Question7};
+ghost use Rattle.checker.specs.Tells.{Tells};
+ghost use Rattle.checker.specs.Order.{VisitsAll};
+ghost use Rattle.checker.specs.Rounds.{formedFrom, Outcomes, Formed};
+
+// Whether node n joins the well-formed set, given its outcome sets and the nodes found well formed so far.
+fn node_formed(image: &[u8], known: &[u8; 1024], formed: &[bool; 1024], n: usize) -> bool
+    requires { ⌜ Lawful (now image) × (n < nodes (now image)) ⌝ }
+    ensures { λ r. ⌜ r ≡ formedFrom (now (image .entry)) (now (known .entry)) (now (formed .entry)) (node (now (image .entry)) n) ⌝ }
+{
+    let word = image::node_at(image, n);
+    let kind = word.kind;
+    let a = word.a;
+    let b = word.b;
+    match kind {
+        0 | 1 | 2 => true,
+        3 => formed[a] & (!sets::has_empty(known[a]) | formed[b]),
+        4 => formed[a] & formed[b],
+        5 => formed[a] & !sets::has_empty(known[a]),
+        6 => formed[a],
+        7 => {
+            let body = image::rule_at(image, a);
+            let root = body.root;
+            formed[root]
+        }
+        8..=15 => false,
+        _ => false,
+    }
+}
+
+// "The rounds stop at the first that adds nothing."
+pub fn formed_nodes(image: &[u8], order: &[u16; 1024], known: &[u8; 1024]) -> [bool; 1024]
+    requires { ⌜ Lawful (now image) × VisitsAll (nodes (now image)) (now order) × Outcomes (now image) (now known) ⌝ }
+    ensures { λ r. ⌜ Formed (now (image .entry)) r ⌝ }
+{
+    let header = image::header_of(image);
+    let count = header.nodes;
+    let mut formed = [false; 1024];
+    'rounds: loop {
+        let mut changed = false;
+        for i in 0..count {
+            let n = order::visited(order, i);
+            let old = formed[n];
+            if !old & node_formed(image, known, &formed, n) {
+                formed[n] = true;
+                changed = true;
+            }
+        }
+        if !changed {
+            break 'rounds;
+        }
+    }
+    formed
+}
+
+pub fn all_formed(image: &[u8], formed: &[bool; 1024]) -> bool
+    requires { ⌜ Lawful (now image) × Formed (now image) (now formed) ⌝ }
+    ensures { λ yes. ⌜ Tells yes (Question7 (now (image .entry))) ⌝ }
+{
+    let header = image::header_of(image);
+    for n in 0..header.nodes {
+        if !formed[n] {
+            return false;
+        }
+    }
+    true
+}

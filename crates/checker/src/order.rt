@@ -1,0 +1,35 @@
+// The order in which a round visits the nodes. Children stand above their parents, so from the highest node down a round learns a
+// whole tree at once.
+ghost use Prim.Native.Nat.{_<_};
+ghost use mathlib.Core.Path.{_≡_};
+ghost use lib.ListN.{getD};
+ghost use Rattle.grammar.specs.Image.{nodes};
+ghost use Rattle.grammar.specs.Questions.{Question2};
+ghost use Rattle.checker.specs.Order.{VisitsAll};
+
+pub fn round_order(image: &[u8]) -> [u16; 1024]
+    requires { ⌜ Question2 (now image) ⌝ }
+    ensures { λ r. ⌜ VisitsAll (nodes (now (image .entry))) r ⌝ }
+{
+    let header = image::header_of(image);
+    let count = header.nodes;
+    let mut order = [0u16; 1024];
+    for i in 0..count {
+        order[i] = (count - 1 - i) as u16;
+    }
+    order
+}
+
+fn wide(x: u16) -> usize
+    ensures { λ r. ⌜ r ≡ x ⌝ }
+{
+    x as usize
+}
+
+// The node that a round visits in its place i.
+pub fn visited(order: &[u16; 1024], i: usize) -> usize
+    requires { ⌜ i < 1024 ⌝ }
+    ensures { λ r. ⌜ r ≡ getD (now (order .entry)) i 0 ⌝ }
+{
+    wide(order[i])
+}

@@ -1,0 +1,92 @@
+// The outcome sets of all nodes, and question 6: "Does every star's body lack outcome 0?"
+use crate::order;
+use crate::sets;
+ghost use Prim.Native.Nat.{_<_};
+ghost use mathlib.Core.Path.{_≡_};
+ghost use Rattle.grammar.specs.Image.{node, nodes};
+ghost use Rattle.grammar.specs.Questions.{Lawful, Question6};
+ghost use Rattle.checker.specs.Tells.{Tells};
+ghost use Rattle.checker.specs.Order.{VisitsAll};
+ghost use Rattle.checker.specs.Rounds.{gathered, Outcomes, StarConsumes};
+
+// The outcomes of node n, from the sets known so far.
+fn node_outcomes(image: &[u8], known: &[u8; 1024], n: usize) -> u8
+    requires { ⌜ Lawful (now image) × (n < nodes (now image)) ⌝ }
+    ensures { λ r. ⌜ r ≡ gathered (now (image .entry)) (now (known .entry)) (node (now (image .entry)) n) ⌝ }
+{
+    let word = image::node_at(image, n);
+    let kind = word.kind;
+    let a = word.a;
+    let b = word.b;
+    match kind {
+        0 => 1,
+        1 | 2 => 6,
+        3 => sets::then_set(known[a], known[b]),
+        4 => sets::else_set(known[a], known[b]),
+        5 => sets::star_set(known[a]),
+        6 => sets::not_set(known[a]),
+        7 => {
+            let body = image::rule_at(image, a);
+            let root = body.root;
+            known[root]
+        }
+        8..=15 => 0,
+        _ => 0,
+    }
+}
+
+// "The rounds stop at the first that adds nothing."
+pub fn outcome_sets(image: &[u8], order: &[u16; 1024]) -> [u8; 1024]
+    requires { ⌜ Lawful (now image) × VisitsAll (nodes (now image)) (now order) ⌝ }
+    ensures { λ r. ⌜ Outcomes (now (image .entry)) r ⌝ }
+{
+    let header = image::header_of(image);
+    let count = header.nodes;
+    let mut known = [0u8; 1024];
+    'rounds: loop {
+        let mut changed = false;
+        for i in 0..count {
+            let n = order::visited(order, i);
+            let old = known[n];
+            let new = sets::join(old, node_outcomes(image, &known, n));
+            if new != old {
+                known[n] = new;
+                changed = true;
+            }
+        }
+        if !changed {
+            break 'rounds;
+        }
+    }
+    known
+}
+
+// Whether node n, if it is a star, has a body that lacks outcome 0.
+fn star_consumes(image: &[u8], known: &[u8; 1024], n: usize) -> bool
+    requires { ⌜ Lawful (now image) × Outcomes (now image) (now known) × (n < nodes (now image)) ⌝ }
+    ensures { λ yes. ⌜ Tells yes (StarConsumes (now (image .entry)) n) ⌝ }
+{
+    let word = image::node_at(image, n);
+    let kind = word.kind;
+    let a = word.a;
+    if kind != 5 {
+        return true;
+    }
+    if sets::has_empty(known[a]) {
+        return false;
+    }
+    true
+}
+
+pub fn stars_consume(image: &[u8], known: &[u8; 1024]) -> bool
+    requires { ⌜ Lawful (now image) × Outcomes (now image) (now known) ⌝ }
+    ensures { λ yes. ⌜ Tells yes (Question6 (now (image .entry))) ⌝ }
+{
+    let header = image::header_of(image);
+    for n in 0..header.nodes {
+        if !star_consumes(image, known, n) {
+            return false;
+        }
+    }
+    true
+}

@@ -1,0 +1,24 @@
+// Links the static library `exports`, which holds the proved functions.
+// BANNELGO_LIB names its folder, absolute or relative to this package; the default is ../target/staticlib.
+
+use std::path::{Path, PathBuf};
+
+fn main() {
+    let package = std::env::var("CARGO_MANIFEST_DIR").expect("cargo sets CARGO_MANIFEST_DIR");
+    let package = Path::new(&package);
+    let folder: PathBuf = match std::env::var("BANNELGO_LIB") {
+        Ok(named) => package.join(named),
+        Err(_) => package.join("../target/staticlib"),
+    };
+    let library = folder.join("libexports.a");
+
+    println!("cargo:rerun-if-env-changed=BANNELGO_LIB");
+    println!("cargo:rerun-if-changed={}", library.display());
+    if !library.is_file() {
+        eprintln!("{} is missing", library.display());
+        eprintln!("build it with: rt staticlib exports");
+        std::process::exit(1);
+    }
+    println!("cargo:rustc-link-search=native={}", folder.display());
+    println!("cargo:rustc-link-lib=static=exports");
+}

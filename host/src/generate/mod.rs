@@ -1,0 +1,34 @@
+//! Random grammars of a stated number of rules and nodes.
+
+mod change;
+mod guarded;
+mod wild;
+
+pub use change::change_one_node;
+pub use guarded::guarded;
+pub use wild::{wild, Taste, TASTES};
+
+use crate::expr::{byte, Expr};
+use crate::rng::Rng;
+
+/// Shares `nodes` among `rules`, at least one for each.
+fn shares(rng: &mut Rng, rules: usize, nodes: usize) -> Vec<usize> {
+    let mut shares = vec![1; rules];
+    // In one of three cases a few rules get all the rest.
+    let getting = if rng.one_in(3) { rules.min(3) } else { rules };
+    let first = rng.below(rules);
+    for _ in rules..nodes {
+        shares[(first + rng.below(getting)) % rules] += 1;
+    }
+    shares
+}
+
+/// A byte or a range of bytes.
+fn some_bytes(rng: &mut Rng) -> Expr {
+    let (one, other) = (rng.byte(), rng.byte());
+    match rng.below(3) {
+        0 => byte(one),
+        1 => Expr::Bytes(one.min(other), one.max(other)),
+        _ => Expr::AnyByte,
+    }
+}

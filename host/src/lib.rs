@@ -1,0 +1,16 @@
+//! The Rust side of Bannelgo's gap-sheet reader.
+//!
+//! `image_check` calls the proved library. `reference` answers the same question with code written
+//! apart from it, and the tests compare the two. The other modules make grammar images.
+
+pub mod big_images;
+pub mod expr;
+pub mod generate;
+pub mod image_check;
+pub mod image_words;
+pub mod numbering;
+pub mod raw;
+pub mod reference;
+pub mod rng;
+pub mod samples;
+pub mod sheet;

@@ -1,0 +1,76 @@
+//! A grammar of the usual size: a sheet of gaps in meter data.
+//!
+//! A sheet has a title line, then comments, blank lines and entries. An entry has a meter's name, two
+//! times and values; a question mark stands for a value that is missing.
+
+use crate::expr::{byte, choice, not, or_else, sequence, star, then, Expr, Grammar};
+use Expr::{AnyByte, Bytes, Call, Empty};
+
+const TITLE: Expr = Call(1);
+const LINE: Expr = Call(2);
+const ENTRY: Expr = Call(3);
+const COMMENT: Expr = Call(4);
+const BLANK: Expr = Call(5);
+const NAME: Expr = Call(6);
+const LETTER: Expr = Call(7);
+const DIGIT: Expr = Call(8);
+const NUMBER: Expr = Call(9);
+const TIME: Expr = Call(10);
+const VALUE: Expr = Call(11);
+const SEPARATOR: Expr = Call(12);
+const SPACE: Expr = Call(13);
+const NEW_LINE: Expr = Call(14);
+const END: Expr = Call(15);
+
+/// 16 rules, 122 nodes; rule 0 is the sheet, the others are numbered like the constants above.
+pub fn sheet() -> Grammar {
+    let rules = vec![
+        sequence([TITLE, star(LINE), END]),
+        sequence([gaps(), SPACE, NAME, NEW_LINE]),
+        choice([COMMENT, ENTRY, BLANK]),
+        sequence([NAME, SEPARATOR, two_times(), values(), NEW_LINE]),
+        sequence([byte(b'#'), star(then(not(NEW_LINE), AnyByte)), NEW_LINE]),
+        then(SPACE, NEW_LINE),
+        then(LETTER, star(name_byte())),
+        or_else(Bytes(b'a', b'z'), Bytes(b'A', b'Z')),
+        Bytes(b'0', b'9'),
+        then(DIGIT, star(DIGIT)),
+        time(),
+        sequence([sign(), NUMBER, fraction()]),
+        sequence([SPACE, or_else(byte(b';'), byte(b',')), SPACE]),
+        star(or_else(byte(b' '), byte(b'\t'))),
+        or_else(byte(b'\n'), then(byte(b'\r'), byte(b'\n'))),
+        not(AnyByte),
+    ];
+    Grammar { start: 0, rules }
+}
+
+fn gaps() -> Expr {
+    sequence([byte(b'G'), byte(b'A'), byte(b'P'), byte(b'S')])
+}
+
+fn two_times() -> Expr {
+    sequence([TIME, SPACE, byte(b'/'), SPACE, TIME])
+}
+
+fn values() -> Expr {
+    star(then(SEPARATOR, or_else(VALUE, byte(b'?'))))
+}
+
+fn name_byte() -> Expr {
+    choice([LETTER, DIGIT, byte(b'_'), byte(b'.')])
+}
+
+fn time() -> Expr {
+    let two_digits = || then(DIGIT, DIGIT);
+    let colon = || byte(b':');
+    sequence([two_digits(), colon(), two_digits(), colon(), two_digits()])
+}
+
+fn sign() -> Expr {
+    choice([byte(b'-'), byte(b'+'), Empty])
+}
+
+fn fraction() -> Expr {
+    or_else(then(byte(b'.'), NUMBER), Empty)
+}
