@@ -2,18 +2,16 @@
 -- well-formed set. Assumes nothing.
 use Prim.Native.Nat.{ℕ, _≤_, _<_}
 use native.Mathlib.Omega.{arith}
-use mathlib.Core.Path.{_≡_, refl, sym, ap, _∙_, subst}
-use mathlib.Core.Bool.{Bool, true, false, not, _&&_, true≢false}
+use mathlib.Core.Path.{_≡_, sym, ap, _∙_, subst}
+use mathlib.Core.Bool.{Bool, true, false, true≢false}
 use mathlib.Core.List.{List}
 use lib.ListN.{length, getD, set, replicate, length-set, length-replicate}
-use borrow.Author.Tests.{not-true}
 use Rattle.grammar.specs.Image.{nodes, node}
 use Rattle.grammar.specs.WellFormed.{WellFormed}
 use Rattle.grammar.specs.Questions.{Question4, oneIf}
 use Rattle.grammar.proofs.References.{refers}
 use Rattle.checker.specs.Order.{VisitsAll}
 use Rattle.checker.specs.Rounds.{formedFrom, Outcomes, Formed}
-use Rattle.checker.proofs.Bits.{both}
 use Rattle.checker.proofs.Forming.{OnlyFormed, CannotJoin, formed-only, formed-all}
 use Rattle.checker.proofs.Writes.{after-write, all-the-same}
 use Rattle.checker.proofs.Weights.{weightBy, weight-set, weight-most}
@@ -44,34 +42,31 @@ module _
     (in-list : n < length formed)
   where
     -- A visit that finds a node to mark leaves right marks,
-    pub marked : (not (getD formed n false) && formedFrom img known formed (node img n)) ≡ true → SoundMarks img (set formed n true)
+    pub marked : formedFrom img known formed (node img n) ≡ true → SoundMarks img (set formed n true)
     marked h =
-        let v = both (not (getD formed n false)) (formedFrom img known formed (node img n)) h in
         record {
           as-long = length-set formed n true ∙ sound .as-long;
           only =
               after-write (λ (k : ℕ) (b : Bool). b ≡ true → WellFormed img (node img k))
               formed n true false in-list
-              (λ e. formed-only img known formed sets (sound .only) (node img n) (refers img words n l) (v .1))
+              (λ e. formed-only img known formed sets (sound .only) (node img n) (refers img words n l) h)
               (sound .only);
         }
 
-    -- one more than before;
-    pub marked-heavier :
-        (not (getD formed n false) && formedFrom img known formed (node img n)) ≡ true → marks formed < marks (set formed n true)
-    marked-heavier h =
-        let v = both (not (getD formed n false)) (formedFrom img known formed (node img n)) h in
+    -- one more than before.
+    pub marked-heavier : getD formed n false ≡ false → marks formed < marks (set formed n true)
+    marked-heavier e =
         let sum = weight-set oneIf formed n true false in-list in
-        let was : oneIf (getD formed n false) ≡ 0 = ap oneIf (not-true (getD formed n false) (v .0)) in
+        let was : oneIf (getD formed n false) ≡ 0 = ap oneIf e in
         omega arith
 
-    -- one that finds none found that the node cannot join.
-    pub unmarked : (not (getD formed n false) && formedFrom img known formed (node img n)) ≡ false → CannotJoin img known formed n
-    unmarked h j = go (getD formed n false) (sym (ap (λ (b : Bool). not (getD formed n false) && b) j) ∙ h)
-      where
-        go : (b : Bool) → (not b && true) ≡ false → b ≡ true
-        go true e = refl
-        go false e = absurd (true≢false e)
+-- A visit that marks nothing found a node that does not qualify, or one that has a mark: neither can join.
+module _ (img known : List ℕ) (formed : List Bool) (n : ℕ) where
+  pub not-qualified : formedFrom img known formed (node img n) ≡ false → CannotJoin img known formed n
+  not-qualified h j = absurd (true≢false (sym j ∙ h))
+
+  pub has-mark : getD formed n false ≡ true → CannotJoin img known formed n
+  has-mark h j = h
 
 pub marks-bound : (img : List ℕ) (formed : List Bool) → SoundMarks img formed → marks formed ≤ 1024
 marks-bound img formed sound =

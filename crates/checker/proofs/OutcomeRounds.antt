@@ -2,7 +2,7 @@
 -- Assumes nothing.
 use Prim.Native.Nat.{ℕ, _≤_, _<_}
 use native.Mathlib.Omega.{arith}
-use mathlib.Core.Path.{_≡_, sym, ap, _∙_, subst}
+use mathlib.Core.Path.{_≡_, refl, sym, ap, _∙_, subst}
 use mathlib.Core.Bool.{Bool, true, false, _||_, or-true, true≢false}
 use mathlib.Core.Logic.{⊎-elim}
 use mathlib.Core.List.{List}
@@ -79,6 +79,16 @@ module _ (img known : List ℕ) (sound : Sound img known) (n v : ℕ) (l : n < 1
         ∙ bit-union o (getD known n 0) (gathered img known (node img n))
         ∙ ap (λ (b : Bool). bit o (getD known n 0) || b) h
         ∙ or-true (bit o (getD known n 0))
+
+-- A full set has every outcome, so that its node is closed too.
+bit-full : (o : Outcome) → bit o 7 ≡ true
+unfolding bit
+bit-full matches-empty = refl
+bit-full consumes = refl
+bit-full fails = refl
+
+pub full : (img known : List ℕ) (n : ℕ) → getD known n 0 ≡ 7 → Closed img known n
+full img known n e o h = ap (bit o) e ∙ bit-full o
 
 -- The weight is at most that of full sets.
 pub weight-bound : (img known : List ℕ) → Sound img known → weight known ≤ 7168

@@ -47,9 +47,11 @@ pub fn formed_nodes(image: &[u8], order: &[u16; 1024], known: &[u8; 1024]) -> [b
         for i in 0..count {
             let n = order::visited(order, i);
             let old = formed[n];
-            if !old & node_formed(image, known, &formed, n) {
-                formed[n] = true;
-                changed = true;
+            if !old {
+                if node_formed(image, known, &formed, n) {
+                    formed[n] = true;
+                    changed = true;
+                }
             }
         }
         if !changed {

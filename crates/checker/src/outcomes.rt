@@ -48,10 +48,13 @@ pub fn outcome_sets(image: &[u8], order: &[u16; 1024]) -> [u8; 1024]
         for i in 0..count {
             let n = order::visited(order, i);
             let old = known[n];
-            let new = sets::join(old, node_outcomes(image, &known, n));
-            if new != old {
-                known[n] = new;
-                changed = true;
+            // A full set gains nothing.
+            if old != 7 {
+                let new = sets::join(old, node_outcomes(image, &known, n));
+                if new != old {
+                    known[n] = new;
+                    changed = true;
+                }
             }
         }
         if !changed {

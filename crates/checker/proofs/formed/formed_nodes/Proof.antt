@@ -3,13 +3,13 @@ use lib.ListN.{length}
 use borrow.Author.Tests.{not-true, not-false}
 use mathlib.Core.Logic.{⊎-elim}
 use mathlib.Core.Path.{_≡_, refl}
-use Rattle.checker.proofs.FormedRounds.{SoundMarks, marks, marks-start, marked, marked-heavier, unmarked, marks-bound, least-marks}
+use Rattle.checker.proofs.FormedRounds.{SoundMarks, marks, marks-start, marked, marked-heavier, not-qualified, has-mark, marks-bound, least-marks}
 use Rattle.checker.proofs.Turns.{Turned, turn-none, turn-write, turn-keep, round-heavier, round-closed}
 use Rattle.checker.proofs.Forming.{CannotJoin}
 use native.Mathlib.Omega.{arith}
 use lib.ListN.{getD}
 use mathlib.Core.List.{List}
-use mathlib.Core.Bool.{Bool}
+use mathlib.Core.Bool.{Bool, false}
 use Prim.Native.Nat.{ℕ, _≤_, _<_, _-_}
 use borrow.Author.Needs.{needs}
 use Rattle.checker.proofs.formed.formed_nodes.Statement.{statement}
@@ -43,10 +43,10 @@ array-read-old : tie.Need-array-read-old Inv-loop μ-loop Inv-rounds μ-rounds
 array-read-old c = omega (arith, c .before .before .before .before .before .before .pre .1 .only-nodes (c .before .before .loop .i) (omega arith), c .before .before .before .before .before .before .pre .0 .counts .few-nodes)
 
 node-formed-requires : tie.Need-node-formed-requires Inv-loop μ-loop Inv-rounds μ-rounds
-node-formed-requires c κs = (c .before .before .before .before .before .before .before .pre .0, omega (arith, c .before .before .before .before .before .before .before .pre .1 .only-nodes (c .before .before .before .loop .i) (omega arith)))
+node-formed-requires c κs = (c .before .before .before .before .before .before .before .before .pre .0, omega (arith, c .before .before .before .before .before .before .before .before .pre .1 .only-nodes (c .before .before .before .before .loop .i) (omega arith)))
 
 array-write-formed : tie.Need-array-write-formed Inv-loop μ-loop Inv-rounds μ-rounds
-array-write-formed c = omega (arith, c .before .before .before .before .before .before .before .before .before .pre .1 .only-nodes (c .before .before .before .before .before .loop .i) (omega arith), c .before .before .before .before .before .before .before .before .before .pre .0 .counts .few-nodes)
+array-write-formed c = omega (arith, c .before .before .before .before .before .before .before .before .before .before .pre .1 .only-nodes (c .before .before .before .before .before .before .loop .i) (omega arith), c .before .before .before .before .before .before .before .before .before .before .pre .0 .counts .few-nodes)
 
 add-i : tie.Need-add-i Inv-loop μ-loop Inv-rounds μ-rounds
 add-i c = search needs
@@ -56,29 +56,34 @@ loop-less c = search needs
 
 loop-again : tie.Need-loop-again Inv-loop μ-loop Inv-rounds μ-rounds
 loop-again c =
-    let img = c .before .before .before .before .before .before .before .before .before .args .image .now in
-    let known = c .before .before .before .before .before .before .before .before .before .args .known .now in
-    let formed = c .before .before .before .before .before .loop .formed in
-    let n = c .before .before .before .visited .result in
-    let t = c .before .before .before .before .before .loop .inv .1 in
-    let in-nodes : n < nodes img = omega (arith, c .before .before .before .before .before .before .before .before .before .pre .1 .only-nodes (c .before .before .before .before .before .loop .i) (omega arith)) in
-    let in-list : n < length formed = omega (arith, t .sound .as-long, c .before .before .before .before .before .before .before .before .before .pre .0 .counts .few-nodes) in
-    let e = c .before .node-formed .ensures in (
+    let at-loop = c .before .before .before in
+    let start = at-loop .before .before .before .before in
+    let img = start .args .image .now in
+    let known = start .args .known .now in
+    let formed = at-loop .loop .formed in
+    let n = c .before .visited .result in
+    let t = at-loop .loop .inv .1 in
+    let in-nodes : n < nodes img = omega (arith, start .pre .1 .only-nodes (at-loop .loop .i) (omega arith)) in
+    let in-list : n < length formed = omega (arith, t .sound .as-long, start .pre .0 .counts .few-nodes) in (
       search needs,
       ⊎-elim
-          (λ w. rw (w .1, w .2)
+          (λ w. rw (w .4, w .5)
           (turn-write t
-          (marked img known formed (c .before .before .before .before .before .before .before .before .before .pre .0 .words) (c .before .before .before .before .before .before .before .before .before .pre .2) (t .sound) n in-nodes in-list (rw e at (w .0 .taken)))
-          (marked-heavier img known formed (c .before .before .before .before .before .before .before .before .before .pre .0 .words) (c .before .before .before .before .before .before .before .before .before .pre .2) (t .sound) n in-nodes in-list (rw e at (w .0 .taken)))))
+          (marked img known formed (start .pre .0 .words) (start .pre .2) (t .sound) n in-nodes in-list (cc))
+          (marked-heavier img known formed (start .pre .0 .words) (start .pre .2) (t .sound) n in-nodes in-list (not-true (getD formed n false) (w .0 .taken)))))
+          (λ v. ⊎-elim
+          (λ w. rw (w .4, w .5)
+          (turn-keep t (rw (c .before .visited .ensures) at (not-qualified img known formed n (cc)))))
           (λ w. rw (w .1, w .2)
-          (turn-keep t (rw (c .before .before .before .visited .ensures) at (unmarked img known formed (c .before .before .before .before .before .before .before .before .before .pre .0 .words) (c .before .before .before .before .before .before .before .before .before .pre .2) (t .sound) n in-nodes in-list (rw e at (w .0 .left))))))
+          (turn-keep t (rw (c .before .visited .ensures) at (has-mark img known formed n (not-false (getD formed n false) (w .0 .left))))))
+          v)
           (c .if1 .came),
     )
 
 rounds-less : tie.Need-rounds-less Inv-loop μ-loop Inv-rounds μ-rounds
 rounds-less c =
     let t = c .before .before .loop .inv .1 in
-    omega (arith, round-heavier t (not-false (c .before .before .loop .changed) (c .if2 .left)), marks-bound (c .before .before .before .before .before .before .args .image .now) (c .before .before .loop .formed) (t .sound))
+    omega (arith, round-heavier t (not-false (c .before .before .loop .changed) (c .if3 .left)), marks-bound (c .before .before .before .before .before .before .args .image .now) (c .before .before .loop .formed) (t .sound))
 
 rounds-again : tie.Need-rounds-again Inv-loop μ-loop Inv-rounds μ-rounds
 rounds-again c = c .before .before .loop .inv .1 .sound
@@ -87,7 +92,7 @@ returns : tie.Need-returns Inv-loop μ-loop Inv-rounds μ-rounds
 returns c =
     let t = c .before .before .loop .inv .1 in
     least-marks (c .before .before .before .before .before .before .args .image .now) (c .before .before .before .before .before .before .args .known .now) (c .before .before .before .before .before .before .args .order .now) (c .before .before .loop .formed) (c .before .before .before .before .before .before .pre .0 .words) (c .before .before .before .before .before .before .pre .1) (c .before .before .before .before .before .before .pre .2) (t .sound)
-    (λ k l. round-closed t (not-true (c .before .before .loop .changed) (c .if2 .taken)) k (omega (arith, c .before .before .before .before .header-of .ensures .its-nodes)))
+    (λ k l. round-closed t (not-true (c .before .before .loop .changed) (c .if3 .taken)) k (omega (arith, c .before .before .before .before .header-of .ensures .its-nodes)))
 
 pub formed-nodes-spec : {M : Type 1} → statement M
 formed-nodes-spec =

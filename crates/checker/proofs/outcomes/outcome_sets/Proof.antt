@@ -4,7 +4,7 @@ use Rattle.grammar.specs.Image.{node, nodes}
 use borrow.Author.Tests.{not-true, not-false}
 use mathlib.Core.Logic.{⊎-elim}
 use mathlib.Core.Path.{_≡_, refl}
-use Rattle.checker.proofs.OutcomeRounds.{Sound, weight, sound-start, stored, stored-heavier, kept, weight-bound, least}
+use Rattle.checker.proofs.OutcomeRounds.{Sound, weight, sound-start, stored, stored-heavier, kept, full, weight-bound, least}
 use Rattle.checker.proofs.Turns.{Turned, turn-none, turn-write, turn-keep, round-heavier, round-closed}
 use Rattle.checker.proofs.Gathering.{Closed}
 use native.Mathlib.Omega.{arith}
@@ -43,13 +43,13 @@ array-read-old : tie.Need-array-read-old Inv-loop μ-loop Inv-rounds μ-rounds
 array-read-old c = omega (arith, c .before .before .before .before .before .before .pre .1 .only-nodes (c .before .before .loop .i) (omega arith), c .before .before .before .before .before .before .pre .0 .counts .few-nodes)
 
 node-outcomes-requires : tie.Need-node-outcomes-requires Inv-loop μ-loop Inv-rounds μ-rounds
-node-outcomes-requires c κs = (c .before .before .before .before .before .before .before .pre .0, omega (arith, c .before .before .before .before .before .before .before .pre .1 .only-nodes (c .before .before .before .loop .i) (omega arith)))
+node-outcomes-requires c κs = (c .before .before .before .before .before .before .before .before .pre .0, omega (arith, c .before .before .before .before .before .before .before .before .pre .1 .only-nodes (c .before .before .before .before .loop .i) (omega arith)))
 
 join-requires : tie.Need-join-requires Inv-loop μ-loop Inv-rounds μ-rounds
 join-requires c κs = search needs
 
 array-write-known : tie.Need-array-write-known Inv-loop μ-loop Inv-rounds μ-rounds
-array-write-known c = omega (arith, c .before .before .before .before .before .before .before .before .before .before .pre .1 .only-nodes (c .before .before .before .before .before .before .loop .i) (omega arith), c .before .before .before .before .before .before .before .before .before .before .pre .0 .counts .few-nodes)
+array-write-known c = omega (arith, c .before .before .before .before .before .before .before .before .before .before .before .pre .1 .only-nodes (c .before .before .before .before .before .before .before .loop .i) (omega arith), c .before .before .before .before .before .before .before .before .before .before .before .pre .0 .counts .few-nodes)
 
 add-i : tie.Need-add-i Inv-loop μ-loop Inv-rounds μ-rounds
 add-i c = search needs
@@ -59,25 +59,34 @@ loop-less c = search needs
 
 loop-again : tie.Need-loop-again Inv-loop μ-loop Inv-rounds μ-rounds
 loop-again c =
-    let img = c .before .before .before .before .before .before .before .before .before .before .args .image .now in
-    let known = c .before .before .before .before .before .before .loop .known in
-    let n = c .before .before .before .before .visited .result in
-    let v = c .before .join .result in
-    let t = c .before .before .before .before .before .before .loop .inv .1 in
-    let small : n < 1024 = omega (arith, c .before .before .before .before .before .before .before .before .before .before .pre .1 .only-nodes (c .before .before .before .before .before .before .loop .i) (omega arith), c .before .before .before .before .before .before .before .before .before .before .pre .0 .counts .few-nodes) in
-    let gained : v ≡ union (getD known n 0) (gathered img known (node img n)) = cc in (
+    let at-loop = c .before .before .before in
+    let start = at-loop .before .before .before .before in
+    let img = start .args .image .now in
+    let known = at-loop .loop .known in
+    let n = c .before .visited .result in
+    let t = at-loop .loop .inv .1 in
+    let small : n < 1024 = omega (arith, start .pre .1 .only-nodes (at-loop .loop .i) (omega arith), start .pre .0 .counts .few-nodes) in (
       search needs,
       ⊎-elim
-          (λ w. rw (w .1, w .2)
-          (turn-write t (stored img known (t .sound) n v small gained (c .before .join .ensures .1)) (stored-heavier img known (t .sound) n v small gained (w .0 .taken))))
-          (λ w. rw (w .1, w .2) (turn-keep t (rw (c .before .before .before .before .visited .ensures) at (kept img known (t .sound) n v small gained (w .0 .left)))))
+          (λ w.
+          let v = w .3 .result in
+          let gained : v ≡ union (getD known n 0) (gathered img known (node img n)) = cc in
+          rw (w .5, w .6)
+          (turn-write t (stored img known (t .sound) n v small gained (w .3 .ensures .1)) (stored-heavier img known (t .sound) n v small gained (w .4 .taken))))
+          (λ v. ⊎-elim
+          (λ w.
+          let v = w .3 .result in
+          let gained : v ≡ union (getD known n 0) (gathered img known (node img n)) = cc in
+          rw (w .5, w .6) (turn-keep t (rw (c .before .visited .ensures) at (kept img known (t .sound) n v small gained (w .4 .left)))))
+          (λ w. rw (w .1, w .2) (turn-keep t (rw (c .before .visited .ensures) at (full img known n (w .0 .left)))))
+          v)
           (c .if1 .came),
     )
 
 rounds-less : tie.Need-rounds-less Inv-loop μ-loop Inv-rounds μ-rounds
 rounds-less c =
     let t = c .before .before .loop .inv .1 in
-    omega (arith, round-heavier t (not-false (c .before .before .loop .changed) (c .if2 .left)), weight-bound (c .before .before .before .before .before .before .args .image .now) (c .before .before .loop .known) (t .sound))
+    omega (arith, round-heavier t (not-false (c .before .before .loop .changed) (c .if3 .left)), weight-bound (c .before .before .before .before .before .before .args .image .now) (c .before .before .loop .known) (t .sound))
 
 rounds-again : tie.Need-rounds-again Inv-loop μ-loop Inv-rounds μ-rounds
 rounds-again c = c .before .before .loop .inv .1 .sound
@@ -86,7 +95,7 @@ returns : tie.Need-returns Inv-loop μ-loop Inv-rounds μ-rounds
 returns c =
     let t = c .before .before .loop .inv .1 in
     least (c .before .before .before .before .before .before .args .image .now) (c .before .before .loop .known) (c .before .before .before .before .before .before .args .order .now) (c .before .before .before .before .before .before .pre .0 .words) (c .before .before .before .before .before .before .pre .1) (t .sound)
-    (λ k l. round-closed t (not-true (c .before .before .loop .changed) (c .if2 .taken)) k (omega (arith, c .before .before .before .before .header-of .ensures .its-nodes)))
+    (λ k l. round-closed t (not-true (c .before .before .loop .changed) (c .if3 .taken)) k (omega (arith, c .before .before .before .before .header-of .ensures .its-nodes)))
 
 pub outcome-sets-spec : {M : Type 1} → statement M
 outcome-sets-spec =
