@@ -1,6 +1,7 @@
 -- A list after one write, and a list of one value. Assumes nothing.
-use Prim.Native.Nat.{ℕ, zero, suc, _<_}
-use mathlib.Core.Path.{_≡_, refl}
+use Prim.Native.Nat.{ℕ, zero, suc, _+_, _<_}
+use native.Mathlib.Omega.{arith}
+use mathlib.Core.Path.{_≡_, refl, _∙_}
 use mathlib.Core.Bool.{Bool, true, false}
 use mathlib.Core.List.{List}
 use lib.ListN.{length, getD, set, replicate}
@@ -26,3 +27,18 @@ module _ {A : Type 0} where
   all-the-same zero n a = refl
   all-the-same (suc m) zero a = refl
   all-the-same (suc m) (suc n) a = all-the-same m n a
+
+-- A list that is filled from its start by a rule f, with its next place written.
+pub next-written :
+    (f : ℕ → ℕ) (xs : List ℕ) (i v : ℕ)
+    → i < length xs
+    → v ≡ f i
+    → ((k : ℕ) → k < i → getD xs k 0 ≡ f k)
+    → (k : ℕ) → k < i + 1 → getD (set xs i v) k 0 ≡ f k
+next-written f xs i v l e h k b = go (eqb k i) refl
+  where
+    go : (t : Bool) → eqb k i ≡ t → getD (set xs i v) k 0 ≡ f k
+    go true d = rw (eqb-true k i d) (getD-set-same xs i v 0 l ∙ e)
+    go false d =
+        let other = eqb-false k i d in
+        getD-set-other xs i k v 0 other ∙ h k (omega (arith, other))

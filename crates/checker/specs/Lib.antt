@@ -4,4 +4,5 @@ pub mod Words
 pub mod Tally
 pub mod Sets
 pub mod Order
+pub mod Nodes
 pub mod Rounds

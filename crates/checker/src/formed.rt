@@ -1,4 +1,5 @@
 // The well-formed set, and question 7: "Is every node in the well-formed set?"
+use crate::nodes;
 use crate::order;
 use crate::sets;
 ghost use Prim.Native.Nat.{_<_};
@@ -7,14 +8,21 @@ ghost use Rattle.grammar.specs.Image.{node, nodes};
 ghost use Rattle.grammar.specs.Questions.{Lawful, Question7};
 ghost use Rattle.checker.specs.Tells.{Tells};
 ghost use Rattle.checker.specs.Order.{VisitsAll};
+ghost use Rattle.checker.specs.Nodes.{NodeWords};
 ghost use Rattle.checker.specs.Rounds.{formedFrom, Outcomes, Formed};
 
 // Whether node n joins the well-formed set, given its outcome sets and the nodes found well formed so far.
-fn node_formed(image: &[u8], known: &[u8; 1024], formed: &[bool; 1024], n: usize) -> bool
-    requires { ⌜ Lawful (now image) × (n < nodes (now image)) ⌝ }
+fn node_formed(
+    image: &[u8],
+    words: &[u32; 1024],
+    known: &[u8; 1024],
+    formed: &[bool; 1024],
+    n: usize,
+) -> bool
+    requires { ⌜ Lawful (now image) × (n < nodes (now image)) × NodeWords (now image) (now words) ⌝ }
     ensures { λ r. ⌜ r ≡ formedFrom (now (image .entry)) (now (known .entry)) (now (formed .entry)) (node (now (image .entry)) n) ⌝ }
 {
-    let word = image::node_at(image, n);
+    let word = nodes::node_in(image, words, n);
     let kind = word.kind;
     let a = word.a;
     let b = word.b;
@@ -35,8 +43,13 @@ fn node_formed(image: &[u8], known: &[u8; 1024], formed: &[bool; 1024], n: usize
 }
 
 // "The rounds stop at the first that adds nothing."
-pub fn formed_nodes(image: &[u8], order: &[u16; 1024], known: &[u8; 1024]) -> [bool; 1024]
-    requires { ⌜ Lawful (now image) × VisitsAll (nodes (now image)) (now order) × Outcomes (now image) (now known) ⌝ }
+pub fn formed_nodes(
+    image: &[u8],
+    order: &[u16; 1024],
+    words: &[u32; 1024],
+    known: &[u8; 1024],
+) -> [bool; 1024]
+    requires { ⌜ Lawful (now image) × VisitsAll (nodes (now image)) (now order) × Outcomes (now image) (now known) × NodeWords (now image) (now words) ⌝ }
     ensures { λ r. ⌜ Formed (now (image .entry)) r ⌝ }
 {
     let header = image::header_of(image);
@@ -48,7 +61,7 @@ pub fn formed_nodes(image: &[u8], order: &[u16; 1024], known: &[u8; 1024]) -> [b
             let n = order::visited(order, i);
             let old = formed[n];
             if !old {
-                if node_formed(image, known, &formed, n) {
+                if node_formed(image, words, known, &formed, n) {
                     formed[n] = true;
                     changed = true;
                 }

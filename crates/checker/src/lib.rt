@@ -2,6 +2,7 @@
 ghost use Rattle.grammar.specs.Questions.{Checked};
 
 mod formed;
+mod nodes;
 mod once;
 mod order;
 mod outcomes;
@@ -29,11 +30,12 @@ pub fn check(image: &[u8]) -> u8
         return 5;
     }
     let order = order::round_order(image);
-    let known = outcomes::outcome_sets(image, &order);
+    let words = nodes::node_words(image);
+    let known = outcomes::outcome_sets(image, &order, &words);
     if !outcomes::stars_consume(image, &known) {
         return 6;
     }
-    let formed = formed::formed_nodes(image, &order, &known);
+    let formed = formed::formed_nodes(image, &order, &words, &known);
     if !formed::all_formed(image, &formed) {
         return 7;
     }

@@ -1,4 +1,5 @@
 // The outcome sets of all nodes, and question 6: "Does every star's body lack outcome 0?"
+use crate::nodes;
 use crate::order;
 use crate::sets;
 ghost use Prim.Native.Nat.{_<_};
@@ -7,14 +8,15 @@ ghost use Rattle.grammar.specs.Image.{node, nodes};
 ghost use Rattle.grammar.specs.Questions.{Lawful, Question6};
 ghost use Rattle.checker.specs.Tells.{Tells};
 ghost use Rattle.checker.specs.Order.{VisitsAll};
+ghost use Rattle.checker.specs.Nodes.{NodeWords};
 ghost use Rattle.checker.specs.Rounds.{gathered, Outcomes, StarConsumes};
 
 // The outcomes of node n, from the sets known so far.
-fn node_outcomes(image: &[u8], known: &[u8; 1024], n: usize) -> u8
-    requires { ⌜ Lawful (now image) × (n < nodes (now image)) ⌝ }
+fn node_outcomes(image: &[u8], words: &[u32; 1024], known: &[u8; 1024], n: usize) -> u8
+    requires { ⌜ Lawful (now image) × (n < nodes (now image)) × NodeWords (now image) (now words) ⌝ }
     ensures { λ r. ⌜ r ≡ gathered (now (image .entry)) (now (known .entry)) (node (now (image .entry)) n) ⌝ }
 {
-    let word = image::node_at(image, n);
+    let word = nodes::node_in(image, words, n);
     let kind = word.kind;
     let a = word.a;
     let b = word.b;
@@ -36,8 +38,8 @@ fn node_outcomes(image: &[u8], known: &[u8; 1024], n: usize) -> u8
 }
 
 // "The rounds stop at the first that adds nothing."
-pub fn outcome_sets(image: &[u8], order: &[u16; 1024]) -> [u8; 1024]
-    requires { ⌜ Lawful (now image) × VisitsAll (nodes (now image)) (now order) ⌝ }
+pub fn outcome_sets(image: &[u8], order: &[u16; 1024], words: &[u32; 1024]) -> [u8; 1024]
+    requires { ⌜ Lawful (now image) × VisitsAll (nodes (now image)) (now order) × NodeWords (now image) (now words) ⌝ }
     ensures { λ r. ⌜ Outcomes (now (image .entry)) r ⌝ }
 {
     let header = image::header_of(image);
@@ -50,7 +52,7 @@ pub fn outcome_sets(image: &[u8], order: &[u16; 1024]) -> [u8; 1024]
             let old = known[n];
             // A full set gains nothing.
             if old != 7 {
-                let new = sets::join(old, node_outcomes(image, &known, n));
+                let new = sets::join(old, node_outcomes(image, words, &known, n));
                 if new != old {
                     known[n] = new;
                     changed = true;

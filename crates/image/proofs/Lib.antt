@@ -1,1 +1,2 @@
 pub mod PastTheEnd
+pub mod NodeWords

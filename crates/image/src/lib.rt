@@ -2,8 +2,8 @@
 // as 0. Which bits are which field is said in the crate `grammar`, specs/Image.antt.
 ghost use mathlib.Core.Path.{_≡_};
 ghost use Prim.Native.Nat.{_<_};
-ghost use Rattle.grammar.specs.Image.{byteAt, word16, word32};
-ghost use Rattle.image.specs.Fields.{HeaderFields, RuleFields, NodeFields};
+ghost use Rattle.grammar.specs.Image.{byteAt, word16, word32, nodeWord};
+ghost use Rattle.image.specs.Fields.{HeaderFields, RuleFields, WordFields, NodeFields};
 
 pub struct Header {
     pub edition: usize,
@@ -101,24 +101,39 @@ pub fn rule_at(image: &[u8], rule: usize) -> Rule
     }
 }
 
+// A node's word.
+pub fn node_word(image: &[u8], node: usize) -> u32
+    ensures { λ r. ⌜ r ≡ nodeWord (now (image .entry)) node ⌝ }
+{
+    if image.len() / 4 <= node {
+        return 0;
+    }
+    let header = word32_at(image, 0);
+    word32_at(image, 4 + 2 * (header / 1048576 % 256) + 4 * node) as u32
+}
+
+fn wide_word(word: u32) -> usize
+    ensures { λ r. ⌜ r ≡ word ⌝ }
+{
+    word as usize
+}
+
+// The fields of a word that is a node's.
+pub fn node_of(word: u32) -> Node
+    ensures { λ r. ⌜ WordFields word r ⌝ }
+{
+    let bits = wide_word(word);
+    Node {
+        kind: bits / 268435456 % 16,
+        zero: bits / 16777216 % 16,
+        a: bits / 4096 % 4096,
+        b: bits % 4096,
+    }
+}
+
 // The fields of a node's word.
 pub fn node_at(image: &[u8], node: usize) -> Node
     ensures { λ r. ⌜ NodeFields (now (image .entry)) node r ⌝ }
 {
-    if image.len() / 4 <= node {
-        return Node {
-            kind: 0,
-            zero: 0,
-            a: 0,
-            b: 0,
-        };
-    }
-    let header = word32_at(image, 0);
-    let word = word32_at(image, 4 + 2 * (header / 1048576 % 256) + 4 * node);
-    Node {
-        kind: word / 268435456 % 16,
-        zero: word / 16777216 % 16,
-        a: word / 4096 % 4096,
-        b: word % 4096,
-    }
+    node_of(node_word(image, node))
 }

@@ -77,31 +77,41 @@ returns-5 c =
 round-order-requires : tie.Need-round-order-requires
 round-order-requires c κs = lawful c .counts
 
+node-words-requires : tie.Need-node-words-requires
+node-words-requires c κs = lawful (c .before) .counts
+
 outcome-sets-requires : tie.Need-outcome-sets-requires
-outcome-sets-requires c κs = (lawful (c .before .before), c .before .round-order .ensures)
+outcome-sets-requires c κs =
+    let read = c .before .before in
+    (lawful (read .before .before), read .before .round-order .ensures, read .node-words .ensures)
 
 stars-consume-requires : tie.Need-stars-consume-requires
-stars-consume-requires c κs = (lawful (c .before .before .before .before), c .before .outcome-sets .ensures)
+stars-consume-requires c κs = (lawful (c .before .before .before .before .before .before), c .before .outcome-sets .ensures)
 
 returns-6 : tie.Need-returns-6
 returns-6 c =
-    let l = lawful (c .before .before .before .before .before .before) in
+    let l = lawful (c .before .before .before .before .before .before .before .before) in
     record {
       first =
           inr (l .header, inr (l .counts, inr (l .size, inr (l .words, inr (l .tree, inl (said-no (c .before .stars-consume .ensures) (c .if6 .taken), refl))))));
     }
 
 formed-nodes-requires : tie.Need-formed-nodes-requires
-formed-nodes-requires c κs = (lawful (c .before .before .before .before .before .before .before .before), c .before .before .before .before .before .before .before .round-order .ensures, c .before .before .before .before .before .outcome-sets .ensures)
+formed-nodes-requires c κs =
+    let found = c .before .before .before .before .before .before in
+    let read = found .before .before .before in
+    (lawful (read .before .before), read .before .round-order .ensures, found .outcome-sets .ensures, read .node-words .ensures)
 
 all-formed-requires : tie.Need-all-formed-requires
-all-formed-requires c κs = (lawful (c .before .before .before .before .before .before .before .before .before .before), c .before .formed-nodes .ensures)
+all-formed-requires c κs =
+    let at6 = c .before .before .before .before .before in
+    (lawful (at6 .before .before .before .before .before .before .before .before), c .before .formed-nodes .ensures)
 
 returns-7 : tie.Need-returns-7
 returns-7 c =
-    let at6 = c .before .before .before .before .before .before in
-    let q6 = said-yes (c .before .before .before .before .before .before .before .stars-consume .ensures) (c .before .before .before .before .before .before .if6 .left) in
-    let l = lawful (at6 .before .before .before .before .before .before) in
+    let at6 = c .before .before .before .before .before .before .before in
+    let q6 = said-yes (at6 .before .stars-consume .ensures) (at6 .if6 .left) in
+    let l = lawful (at6 .before .before .before .before .before .before .before .before) in
     record {
       first =
           inr
@@ -110,10 +120,10 @@ returns-7 c =
 
 returns-8 : tie.Need-returns-8
 returns-8 c =
-    let at6 = c .before .before .before .before .before .before in
-    let q6 = said-yes (c .before .before .before .before .before .before .before .stars-consume .ensures) (c .before .before .before .before .before .before .if6 .left) in
+    let at6 = c .before .before .before .before .before .before .before in
+    let q6 = said-yes (at6 .before .stars-consume .ensures) (at6 .if6 .left) in
     let q7 = said-yes (c .before .all-formed .ensures) (c .if7 .left) in
-    let l = lawful (at6 .before .before .before .before .before .before) in
+    let l = lawful (at6 .before .before .before .before .before .before .before .before) in
     record { first = inr (l .header, inr (l .counts, inr (l .size, inr (l .words, inr (l .tree, inr (q6, inr (q7, refl))))))) }
 
 pub check-spec : {M : Type 1} → statement M
@@ -131,6 +141,7 @@ check-spec =
     each-node-once-requires
     returns-5
     round-order-requires
+    node-words-requires
     outcome-sets-requires
     stars-consume-requires
     returns-6

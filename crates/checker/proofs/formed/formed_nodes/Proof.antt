@@ -16,16 +16,16 @@ use Rattle.checker.proofs.formed.formed_nodes.Statement.{statement}
 use Rattle.checker.proofs.formed.formed_nodes.Tie as tie
 
 abbrev Inv-loop : tie.InvT-loop
-Inv-loop image order known count formed₀ changed₀ i₀ formed changed i = (i ≤ count) × Turned marks (SoundMarks image) (λ (F : List Bool) (k : ℕ). CannotJoin image known F (getD order k 0)) formed₀ formed i changed
+Inv-loop image order words known count formed₀ changed₀ i₀ formed changed i = (i ≤ count) × Turned marks (SoundMarks image) (λ (F : List Bool) (k : ℕ). CannotJoin image known F (getD order k 0)) formed₀ formed i changed
 
 abbrev μ-loop : tie.MeasureT-loop
-μ-loop image order known count formed₀ changed₀ i₀ formed changed i = count - i
+μ-loop image order words known count formed₀ changed₀ i₀ formed changed i = count - i
 
 abbrev Inv-rounds : tie.InvT-rounds
-Inv-rounds image order known count formed₀ formed = SoundMarks image formed
+Inv-rounds image order words known count formed₀ formed = SoundMarks image formed
 
 abbrev μ-rounds : tie.MeasureT-rounds
-μ-rounds image order known count formed₀ formed = 1024 - marks formed
+μ-rounds image order words known count formed₀ formed = 1024 - marks formed
 
 header-of-requires : tie.Need-header-of-requires Inv-loop μ-loop Inv-rounds μ-rounds
 header-of-requires c κs = search needs
@@ -43,7 +43,7 @@ array-read-old : tie.Need-array-read-old Inv-loop μ-loop Inv-rounds μ-rounds
 array-read-old c = omega (arith, c .before .before .before .before .before .before .pre .1 .only-nodes (c .before .before .loop .i) (omega arith), c .before .before .before .before .before .before .pre .0 .counts .few-nodes)
 
 node-formed-requires : tie.Need-node-formed-requires Inv-loop μ-loop Inv-rounds μ-rounds
-node-formed-requires c κs = (c .before .before .before .before .before .before .before .before .pre .0, omega (arith, c .before .before .before .before .before .before .before .before .pre .1 .only-nodes (c .before .before .before .before .loop .i) (omega arith)))
+node-formed-requires c κs = (c .before .before .before .before .before .before .before .before .pre .0, omega (arith, c .before .before .before .before .before .before .before .before .pre .1 .only-nodes (c .before .before .before .before .loop .i) (omega arith)), c .before .before .before .before .before .before .before .before .pre .3)
 
 array-write-formed : tie.Need-array-write-formed Inv-loop μ-loop Inv-rounds μ-rounds
 array-write-formed c = omega (arith, c .before .before .before .before .before .before .before .before .before .before .pre .1 .only-nodes (c .before .before .before .before .before .before .loop .i) (omega arith), c .before .before .before .before .before .before .before .before .before .before .pre .0 .counts .few-nodes)

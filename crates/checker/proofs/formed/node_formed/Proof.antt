@@ -7,8 +7,8 @@ use borrow.Author.Needs.{needs}
 use Rattle.checker.proofs.formed.node_formed.Statement.{statement}
 use Rattle.checker.proofs.formed.node_formed.Tie as tie
 
-node-at-requires : tie.Need-node-at-requires
-node-at-requires c κs = search needs
+node-in-requires : tie.Need-node-in-requires
+node-in-requires c κs = (c .before .pre .2, c .before .pre .1, omega (arith, c .before .pre .0 .counts .few-nodes))
 
 element-copy-out-result : tie.Need-element-copy-out-result
 element-copy-out-result c = omega (arith, a-below (c .before .before .before .args .image .now) (c .before .before .before .pre .0 .counts) (c .before .before .before .pre .0 .words) (c .before .before .before .args .n) (c .before .before .before .pre .1) (omega arith) (omega arith))
@@ -44,7 +44,7 @@ rule-at-requires : tie.Need-rule-at-requires
 rule-at-requires c κs = search needs
 
 element-copy-out-result-7 : tie.Need-element-copy-out-result-7
-element-copy-out-result-7 c = let e = ap (root (c .before .before .before .before .args .image .now)) (c .before .before .node-at .ensures .its-a) in
+element-copy-out-result-7 c = let e = ap (root (c .before .before .before .before .args .image .now)) (c .before .before .node-in .ensures .its-a) in
     omega (arith, called-below (c .before .before .before .before .args .image .now) (c .before .before .before .before .pre .0 .counts) (c .before .before .before .before .pre .0 .words) (c .before .before .before .before .args .n) (c .before .before .before .before .pre .1) (omega arith))
 
 returns : tie.Need-returns
@@ -75,7 +75,7 @@ pub node-formed-spec : {M : Type 1} → statement M
 node-formed-spec =
     tie.close
     (tie.spec
-    node-at-requires
+    node-in-requires
     element-copy-out-result
     element-copy-out-has-empty
     has-empty-requires

@@ -1,10 +1,9 @@
-use Rattle.checker.proofs.Descending.{next-written}
 use mathlib.Core.Path.{ap}
 use Rattle.checker.proofs.Descending.{descending}
-use Rattle.checker.proofs.Writes.{after-write}
+use Rattle.checker.proofs.Writes.{next-written}
 use native.Mathlib.Omega.{arith}
 use lib.ListN.{length, getD, length-set}
-use mathlib.Core.Path.{_≡_, sym, _∙_}
+use mathlib.Core.Path.{_≡_, refl, _∙_}
 use Prim.Native.Nat.{ℕ, _≤_, _<_, _-_}
 use borrow.Author.Needs.{needs}
 use Rattle.checker.proofs.order.round_order.Statement.{statement}
@@ -48,7 +47,7 @@ loop-again c =
     let l : c .before .loop .i < length (c .before .loop .order) = omega (arith, c .before .before .before .before .pre .few-nodes) in (
       search needs,
       length-set (c .before .loop .order) (c .before .loop .i) _ ∙ c .before .loop .inv .1,
-      next-written _ (c .before .loop .order) (c .before .loop .i) l (c .before .loop .inv .2),
+      next-written (λ (k : ℕ). c .before .before .header-of .result .nodes - 1 - k) (c .before .loop .order) (c .before .loop .i) _ l refl (c .before .loop .inv .2),
     )
 
 returns : tie.Need-returns Inv-loop μ-loop

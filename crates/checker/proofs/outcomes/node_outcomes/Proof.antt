@@ -7,8 +7,8 @@ use borrow.Author.Needs.{needs}
 use Rattle.checker.proofs.outcomes.node_outcomes.Statement.{statement}
 use Rattle.checker.proofs.outcomes.node_outcomes.Tie as tie
 
-node-at-requires : tie.Need-node-at-requires
-node-at-requires c κs = search needs
+node-in-requires : tie.Need-node-in-requires
+node-in-requires c κs = (c .before .pre .2, c .before .pre .1, omega (arith, c .before .pre .0 .counts .few-nodes))
 
 element-copy-out-then-set : tie.Need-element-copy-out-then-set
 element-copy-out-then-set c = omega (arith, a-below (c .before .before .before .args .image .now) (c .before .before .before .pre .0 .counts) (c .before .before .before .pre .0 .words) (c .before .before .before .args .n) (c .before .before .before .pre .1) (omega arith) (omega arith))
@@ -44,7 +44,7 @@ rule-at-requires : tie.Need-rule-at-requires
 rule-at-requires c κs = search needs
 
 element-copy-out-result : tie.Need-element-copy-out-result
-element-copy-out-result c = let e = ap (root (c .before .before .before .before .args .image .now)) (c .before .before .node-at .ensures .its-a) in
+element-copy-out-result c = let e = ap (root (c .before .before .before .before .args .image .now)) (c .before .before .node-in .ensures .its-a) in
     omega (arith, called-below (c .before .before .before .before .args .image .now) (c .before .before .before .before .pre .0 .counts) (c .before .before .before .before .pre .0 .words) (c .before .before .before .before .args .n) (c .before .before .before .before .pre .1) (omega arith))
 
 returns : tie.Need-returns
@@ -78,7 +78,7 @@ pub node-outcomes-spec : {M : Type 1} → statement M
 node-outcomes-spec =
     tie.close
     (tie.spec
-    node-at-requires
+    node-in-requires
     element-copy-out-then-set
     element-copy-out-then-set-2
     then-set-requires

@@ -16,16 +16,16 @@ use Rattle.checker.proofs.outcomes.outcome_sets.Statement.{statement}
 use Rattle.checker.proofs.outcomes.outcome_sets.Tie as tie
 
 abbrev Inv-loop : tie.InvT-loop
-Inv-loop image order count known₀ changed₀ i₀ known changed i = (i ≤ count) × Turned weight (Sound image) (λ (L : List ℕ) (k : ℕ). Closed image L (getD order k 0)) known₀ known i changed
+Inv-loop image order words count known₀ changed₀ i₀ known changed i = (i ≤ count) × Turned weight (Sound image) (λ (L : List ℕ) (k : ℕ). Closed image L (getD order k 0)) known₀ known i changed
 
 abbrev μ-loop : tie.MeasureT-loop
-μ-loop image order count known₀ changed₀ i₀ known changed i = count - i
+μ-loop image order words count known₀ changed₀ i₀ known changed i = count - i
 
 abbrev Inv-rounds : tie.InvT-rounds
-Inv-rounds image order count known₀ known = Sound image known
+Inv-rounds image order words count known₀ known = Sound image known
 
 abbrev μ-rounds : tie.MeasureT-rounds
-μ-rounds image order count known₀ known = 7168 - weight known
+μ-rounds image order words count known₀ known = 7168 - weight known
 
 header-of-requires : tie.Need-header-of-requires Inv-loop μ-loop Inv-rounds μ-rounds
 header-of-requires c κs = search needs
@@ -43,7 +43,7 @@ array-read-old : tie.Need-array-read-old Inv-loop μ-loop Inv-rounds μ-rounds
 array-read-old c = omega (arith, c .before .before .before .before .before .before .pre .1 .only-nodes (c .before .before .loop .i) (omega arith), c .before .before .before .before .before .before .pre .0 .counts .few-nodes)
 
 node-outcomes-requires : tie.Need-node-outcomes-requires Inv-loop μ-loop Inv-rounds μ-rounds
-node-outcomes-requires c κs = (c .before .before .before .before .before .before .before .before .pre .0, omega (arith, c .before .before .before .before .before .before .before .before .pre .1 .only-nodes (c .before .before .before .before .loop .i) (omega arith)))
+node-outcomes-requires c κs = (c .before .before .before .before .before .before .before .before .pre .0, omega (arith, c .before .before .before .before .before .before .before .before .pre .1 .only-nodes (c .before .before .before .before .loop .i) (omega arith)), c .before .before .before .before .before .before .before .before .pre .2)
 
 join-requires : tie.Need-join-requires Inv-loop μ-loop Inv-rounds μ-rounds
 join-requires c κs = search needs

@@ -1,0 +1,9 @@
+-- The nodes' words as a list of numbers.
+use Prim.Native.Nat.{ℕ, _<_}
+use mathlib.Core.Path.{_≡_}
+use mathlib.Core.List.{List}
+use lib.ListN.{getD}
+use Rattle.grammar.specs.Image.{nodes, nodeWord}
+
+pub record NodeWords (img words : List ℕ) : Type 0 where
+  pub word-of : (n : ℕ) → n < nodes img → getD words n 0 ≡ nodeWord img n
