@@ -1,6 +1,7 @@
 -- The lemmas of the image check.
 pub mod Told
 pub mod Bits
+pub mod Table
 pub mod Gathering
 pub mod Forming
 pub mod Turns

@@ -1,5 +1,5 @@
 // Outcome sets as numbers: 1 for "matches nothing long", 2 for "consumes", 4 for "fails", added up.
-ghost use Prim.Native.Nat.{_<_};
+ghost use Prim.Native.Nat.{_%_, _<_};
 ghost use mathlib.Core.Path.{_≡_};
 ghost use Rattle.grammar.specs.Outcomes.{matches-empty, consumes, fails};
 ghost use Rattle.checker.specs.Sets.{bit, pack, union, thenSet, elseSet, starSet, notSet};
@@ -38,31 +38,51 @@ pub fn join(a: u8, b: u8) -> u8
     )
 }
 
-// "A then B"
+// The last three bits of a set, which are all its outcomes, as a place in a table.
+fn place(set: u8) -> usize
+    ensures { λ r. ⌜ (r ≡ set % 8) × (r < 8) ⌝ }
+{
+    (set % 8) as usize
+}
+
+// Row A, column B: the set of "A then B".
+const THEN: [[u8; 8]; 8] = [
+    [0, 0, 0, 0, 0, 0, 0, 0],
+    [0, 1, 2, 3, 4, 5, 6, 7],
+    [0, 2, 2, 2, 4, 6, 6, 6],
+    [0, 3, 2, 3, 4, 7, 6, 7],
+    [4, 4, 4, 4, 4, 4, 4, 4],
+    [4, 5, 6, 7, 4, 5, 6, 7],
+    [4, 6, 6, 6, 4, 6, 6, 6],
+    [4, 7, 6, 7, 4, 7, 6, 7],
+];
+
+// Row A, column B: the set of "A else B".
+const ELSE: [[u8; 8]; 8] = [
+    [0, 0, 0, 0, 0, 0, 0, 0],
+    [1, 1, 1, 1, 1, 1, 1, 1],
+    [2, 2, 2, 2, 2, 2, 2, 2],
+    [3, 3, 3, 3, 3, 3, 3, 3],
+    [0, 1, 2, 3, 4, 5, 6, 7],
+    [1, 1, 3, 3, 5, 5, 7, 7],
+    [2, 3, 2, 3, 6, 7, 6, 7],
+    [3, 3, 3, 3, 7, 7, 7, 7],
+];
+
 pub fn then_set(a: u8, b: u8) -> u8
     ensures { λ r. ⌜ (r ≡ thenSet a b) × (r < 8) ⌝ }
 {
-    let a0 = has_empty(a);
-    let a1 = has_consumes(a);
-    let b0 = has_empty(b);
-    let b1 = has_consumes(b);
-    set_of(
-        a0 & b0,
-        a1 & (b0 | b1) | a0 & b1,
-        has_fails(a) | (a0 | a1) & has_fails(b),
-    )
+    let row = place(a);
+    let column = place(b);
+    THEN[row][column]
 }
 
-// "A else B"
 pub fn else_set(a: u8, b: u8) -> u8
     ensures { λ r. ⌜ (r ≡ elseSet a b) × (r < 8) ⌝ }
 {
-    let af = has_fails(a);
-    set_of(
-        has_empty(a) | af & has_empty(b),
-        has_consumes(a) | af & has_consumes(b),
-        af & has_fails(b),
-    )
+    let row = place(a);
+    let column = place(b);
+    ELSE[row][column]
 }
 
 // "Star"
