@@ -5,3 +5,4 @@ pub mod First
 pub mod Acceptance
 pub mod Terminals
 pub mod Determinism
+pub mod Tests

@@ -1,0 +1,33 @@
+-- The table of marked cases. A line says what a call answers; `Says` gives each line its meaning by the definition that the call's
+-- promise cites. The theorem is `marked-hold` in proofs/Marked.antt.
+use Prim.Native.Nat.{ℕ}
+use mathlib.Core.List.{List, [], _∷_}
+use Rattle.grammar.specs.Questions.{Checked}
+use Rattle.marked.specs.Images.{D2, M7, M8, M9, secondEdition, startTooHigh, byteTooMany, ownChild, orphan}
+
+pub data Line : Type 0 where
+  -- the image check gives this image this number
+  image-number : (img : List ℕ) (number : ℕ) → Line
+
+abbrev pub Says : Line → Type 0
+Says (image-number img number) = Checked img number
+
+-- Every line of a table holds.
+abbrev pub Hold : List Line → Type 0
+Hold [] = Unit {0}
+Hold (line ∷ lines) = Says line × Hold lines
+
+-- "D2 is: [..]. M7 S = S then a byte: 7. M8 S = not S: 7. M9 star over not a byte: 6."
+abbrev pub marked : List Line
+marked = image-number D2 0 ∷ image-number M7 7 ∷ image-number M8 7 ∷ image-number M9 6 ∷ []
+
+-- An image for each of the numbers 1 to 7 that no marked case has.
+abbrev pub witnesses : List Line
+witnesses =
+    image-number [] 1
+    ∷ image-number secondEdition 1
+    ∷ image-number startTooHigh 2
+    ∷ image-number byteTooMany 3
+    ∷ image-number ownChild 4
+    ∷ image-number orphan 5
+    ∷ []
