@@ -13,7 +13,7 @@ use Rattle.grammar.proofs.References.{refers}
 use Rattle.checker.specs.Order.{VisitsAll}
 use Rattle.checker.specs.Rounds.{formedFrom, Outcomes, Formed}
 use Rattle.checker.proofs.Forming.{OnlyFormed, CannotJoin, formed-only, formed-all}
-use Rattle.checker.proofs.Writes.{after-write, all-the-same}
+use Rattle.lawful.proofs.Writes.{after-write, all-the-same}
 use Rattle.checker.proofs.Weights.{weightBy, weight-set, weight-most}
 
 -- The marks so far: one for each possible node, none wrong.

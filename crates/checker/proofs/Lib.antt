@@ -1,14 +1,11 @@
 -- The lemmas of the image check.
-pub mod Told
 pub mod Bits
 pub mod Table
 pub mod Gathering
 pub mod Forming
 pub mod Turns
 pub mod Weights
-pub mod Writes
 pub mod OutcomeRounds
 pub mod FormedRounds
-pub mod Tallies
 pub mod Descending
 pub mod ByKind

@@ -16,7 +16,7 @@ use Rattle.checker.specs.Order.{VisitsAll}
 use Rattle.checker.specs.Rounds.{gathered, Outcomes}
 use Rattle.checker.proofs.Bits.{bit-union, either, union-above}
 use Rattle.checker.proofs.Gathering.{Only, Closed, gathered-only, gathered-all}
-use Rattle.checker.proofs.Writes.{after-write, all-the-same}
+use Rattle.lawful.proofs.Writes.{after-write, all-the-same}
 use Rattle.checker.proofs.Weights.{weightBy, weight-set, weight-most}
 
 -- The sets so far: an entry for each possible node, each a set, nothing wrong in any.

@@ -1,7 +1,4 @@
 -- What the private functions of the image check promise each other. The check's own promise is `Checked` of the crate `grammar`.
-pub mod Tells
-pub mod Words
-pub mod Tally
 pub mod Sets
 pub mod Order
 pub mod Nodes

@@ -6,7 +6,7 @@ ghost use Prim.Native.Nat.{_<_};
 ghost use mathlib.Core.Path.{_≡_};
 ghost use Rattle.grammar.specs.Image.{node, nodes};
 ghost use Rattle.grammar.specs.Questions.{Lawful, Question7};
-ghost use Rattle.checker.specs.Tells.{Tells};
+ghost use Rattle.lawful.specs.Tells.{Tells};
 ghost use Rattle.checker.specs.Order.{VisitsAll};
 ghost use Rattle.checker.specs.Nodes.{NodeWords};
 ghost use Rattle.checker.specs.Rounds.{formedFrom, Outcomes, Formed};

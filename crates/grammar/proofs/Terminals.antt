@@ -2,6 +2,7 @@
 --     shape        what it gives is in the text, and it examined at least one place
 --     prefix       what it examined decides it: a text with the same bytes there gives the same
 --     suffix       it does not look back: what stands before its position does not matter
+--     match-consumes   a match has length 1 or more
 -- Assumes nothing.
 use Prim.Native.Nat.{ℕ, _+_, _≤_, _<_}
 use native.Mathlib.Omega.{arith}
@@ -78,3 +79,13 @@ suffix t before text p =
         by-test : (b : Bool) → ltb p (length text) ≡ b → ltb (length before + p) (length before + length text) ≡ ltb p (length text)
         by-test true e = lt-ltb (length before + p) (length before + length text) (let h = ltb-true p (length text) e in omega arith) ∙ sym e
         by-test false e = le-ltb (length before + p) (length before + length text) (let h = ltb-false p (length text) e in omega arith) ∙ sym e
+
+-- A match consumes, at any position.
+pub match-consumes :
+    (t : Terminal) (text : List ℕ) (p : ℕ) → terminalAt t text p .matched ≡ true → 1 ≤ terminalAt t text p .length
+unfolding terminalAt
+match-consumes t text p = go (ltb p (length text) && accepts t (byteAt text p))
+  where
+    go : (b : Bool) → tested b .matched ≡ true → 1 ≤ tested b .length
+    go true e = omega arith
+    go false e = absurd (true≢false (sym e))

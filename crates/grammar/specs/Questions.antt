@@ -92,23 +92,26 @@ pub record Question6 (img : List ℕ) : Type 0 where
 pub record Question7 (img : List ℕ) : Type 0 where
   pub every-node : (n : ℕ) → n < nodes img → WellFormed img (node img n)
 
--- The questions on the image, in order. A call with questions of its own appends them, from 8 on.
-abbrev pub ofImage : List ℕ → List Question
-ofImage img =
+-- Questions 1 to 5, which ask nothing of what the grammar means,
+abbrev pub ofLawful : List ℕ → List Question
+ofLawful img =
     record { number = 1; holds = Question1 img }
     ∷ record { number = 2; holds = Question2 img }
     ∷ record { number = 3; holds = Question3 img }
     ∷ record { number = 4; holds = Question4 img }
     ∷ record { number = 5; holds = Question5 img }
-    ∷ record { number = 6; holds = Question6 img }
-    ∷ record { number = 7; holds = Question7 img }
     ∷ []
+
+-- and all the questions on the image, in order. A call with questions of its own appends them, from 8 on.
+abbrev pub ofImage : List ℕ → List Question
+ofImage img =
+    ofLawful img ++ record { number = 6; holds = Question6 img } ∷ record { number = 7; holds = Question7 img } ∷ []
 
 -- What the image check promises: "The image check asks 1 to 7 only and gives 0 when all pass."
 pub record Checked (img : List ℕ) (r : ℕ) : Type 0 where
   pub first : First (ofImage img) r
 
--- A lawful image passes questions 1 to 5, which ask nothing of what the grammar means.
+-- A lawful image passes questions 1 to 5.
 pub record Lawful (img : List ℕ) : Type 0 where
   pub header : Question1 img
   pub counts : Question2 img

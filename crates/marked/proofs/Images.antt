@@ -17,7 +17,7 @@ use Rattle.grammar.specs.WellFormed.{WellFormed, wf-empty, wf-terminal, wf-call
 use Rattle.grammar.specs.Questions.{Question6, Question7, Lawful, Checked}
 use Rattle.grammar.specs.Questions.{roots, childrenBelow, occurrences}
 use Rattle.grammar.proofs.Tests.{every, headerTest, ruleTest, nodeTest, wordsTest, onceTest, header-asked, words-asked, lawful-image}
-use Rattle.grammar.proofs.Acceptance.{checked}
+use Rattle.grammar.proofs.Acceptance.{checked, refused-6, refused-7}
 use Rattle.marked.specs.Images.{D2, M7, M8, M9, secondEdition, startTooHigh, byteTooMany, ownChild, orphan}
 
 -- The three tests that say that an image is lawful.
@@ -95,18 +95,7 @@ m7-stars = record { stars = go }
 
 pub m7-refused : Checked M7 7
 unfolding M7 onRing rules nodes root ruleWord kind nodeWord fieldA fieldB node nodeOfKind body
-m7-refused =
-    let l = lawful (passes .1) in
-    record {
-      first =
-          inr (
-            l .header,
-            inr (
-              l .counts,
-              inr (l .size, inr (l .words, inr (l .tree, inr (m7-stars, inl ((λ q. ring M7 refl refl (q .every-node 0 (lit< tt)) refl), refl))))),
-            ),
-          );
-    }
+m7-refused = refused-7 (lawful (passes .1)) m7-stars (λ q. ring M7 refl refl (q .every-node 0 (lit< tt)) refl)
 
 -- M8: no star.
 m8-stars : Question6 M8
@@ -120,32 +109,12 @@ m8-stars = record { stars = go }
 
 pub m8-refused : Checked M8 7
 unfolding M8 onRing rules nodes root ruleWord kind nodeWord fieldA fieldB node nodeOfKind body
-m8-refused =
-    let l = lawful (passes .2) in
-    record {
-      first =
-          inr (
-            l .header,
-            inr (
-              l .counts,
-              inr (l .size, inr (l .words, inr (l .tree, inr (m8-stars, inl ((λ q. ring M8 refl refl (q .every-node 0 (lit< tt)) refl), refl))))),
-            ),
-          );
-    }
+m8-refused = refused-7 (lawful (passes .2)) m8-stars (λ q. ring M8 refl refl (q .every-node 0 (lit< tt)) refl)
 
 -- M9: the star's body matches nothing long where there is no byte.
 pub m9-refused : Checked M9 6
 unfolding M9 rules nodes kind nodeWord fieldA fieldB node nodeOfKind
-m9-refused =
-    let l = lawful (passes .3) in
-    record {
-      first =
-          inr (
-            l .header,
-            inr
-                (l .counts, inr (l .size, inr (l .words, inr (l .tree, inl ((λ q. q .stars 0 1 (lit< tt) refl (not-0 terminal-f)), refl))))),
-          );
-    }
+m9-refused = refused-6 (lawful (passes .3)) (λ q. q .stars 0 1 (lit< tt) refl (not-0 terminal-f))
 
 -- The witnesses.
 pub empty-refused : Checked [] 1

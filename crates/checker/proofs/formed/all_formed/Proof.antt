@@ -1,7 +1,7 @@
 use Rattle.grammar.specs.Image.{nodes}
 use mathlib.Core.Bool.{true≢false}
 use mathlib.Core.Path.{sym, _∙_}
-use Rattle.checker.proofs.Told.{so, not-so}
+use Rattle.lawful.proofs.Told.{so, not-so}
 use borrow.Author.Tests.{not-false, not-true}
 use borrow.Author.Count.{below-none, below-more}
 use native.Mathlib.Omega.{arith}

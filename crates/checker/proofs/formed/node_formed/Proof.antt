@@ -1,7 +1,8 @@
 use Rattle.checker.proofs.ByKind.{forms-0-to-2}
 use Rattle.grammar.specs.Image.{root}
 use mathlib.Core.Path.{ap, sym}
-use Rattle.checker.proofs.ByKind.{forms-3, forms-4, forms-5, forms-6, forms-7, forms-8, a-below, b-below, called-below}
+use Rattle.checker.proofs.ByKind.{forms-3, forms-4, forms-5, forms-6, forms-7, forms-8}
+use Rattle.lawful.proofs.InRange.{a-below, b-below, called-below}
 use native.Mathlib.Omega.{arith}
 use borrow.Author.Needs.{needs}
 use Rattle.checker.proofs.formed.node_formed.Statement.{statement}

@@ -1,5 +1,5 @@
 use Rattle.grammar.specs.Image.{nodeWord}
-use Rattle.checker.proofs.Writes.{next-written}
+use Rattle.lawful.proofs.Writes.{next-written}
 use native.Mathlib.Omega.{arith}
 use lib.ListN.{length, getD, length-set}
 use mathlib.Core.Path.{_≡_, _∙_}

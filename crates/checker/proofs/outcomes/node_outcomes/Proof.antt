@@ -1,7 +1,8 @@
 use Rattle.checker.proofs.ByKind.{gathers-1-2}
 use Rattle.grammar.specs.Image.{root}
 use mathlib.Core.Path.{ap, sym}
-use Rattle.checker.proofs.ByKind.{gathers-0, gathers-3, gathers-4, gathers-5, gathers-6, gathers-7, gathers-8, a-below, b-below, called-below}
+use Rattle.checker.proofs.ByKind.{gathers-0, gathers-3, gathers-4, gathers-5, gathers-6, gathers-7, gathers-8}
+use Rattle.lawful.proofs.InRange.{a-below, b-below, called-below}
 use native.Mathlib.Omega.{arith}
 use borrow.Author.Needs.{needs}
 use Rattle.checker.proofs.outcomes.node_outcomes.Statement.{statement}

@@ -6,8 +6,8 @@ use Rattle.grammar.specs.Outcomes.{Has, matches-empty}
 use Rattle.grammar.specs.Image.{node, fieldA, star}
 use mathlib.Core.Bool.{true≢false}
 use mathlib.Core.Path.{_≡_, sym, _∙_, ap}
-use Rattle.checker.proofs.ByKind.{a-below}
-use Rattle.checker.proofs.Told.{so, not-so}
+use Rattle.lawful.proofs.InRange.{a-below}
+use Rattle.lawful.proofs.Told.{so, not-so}
 use native.Mathlib.Omega.{arith}
 use borrow.Author.Needs.{needs}
 use Rattle.checker.proofs.outcomes.star_consumes.Statement.{statement}

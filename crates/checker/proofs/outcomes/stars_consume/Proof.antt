@@ -1,4 +1,4 @@
-use Rattle.checker.proofs.Told.{so, not-so, said-no, said-yes}
+use Rattle.lawful.proofs.Told.{so, not-so, said-no, said-yes}
 use Rattle.checker.specs.Rounds.{StarConsumes}
 use borrow.Author.Count.{below-none, below-more}
 use native.Mathlib.Omega.{arith}
