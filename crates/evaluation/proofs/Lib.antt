@@ -1,0 +1,6 @@
+-- The theorems about evaluations.
+pub mod Shape
+pub mod Described
+pub mod Plain
+pub mod Totality
+pub mod Locality

@@ -1,0 +1,97 @@
+-- What an evaluation examined decides it.
+--     prefix-decides   a text with the same bytes up to where it examined gives the same evaluation; where it examined the end, p +
+--                      examined is n + 1 and no such text is asked
+--     moved, unmoved   what stands before the position does not matter: an evaluation moves with the rest of the text, the end
+--                      included
+-- Proved from the terminal's laws. Assumes nothing.
+use Prim.Native.Nat.{ℕ, _+_, _≤_}
+use native.Mathlib.Omega.{arith}
+use native.Mathlib.Nat.{add-assoc}
+use mathlib.Core.Path.{_≡_, refl, sym, ap, _∙_, subst}
+use mathlib.Core.List.{List, _++_}
+use lib.ListN.{length, take}
+use Rattle.grammar.specs.declared.Evaluation.{Evaluation}
+use Rattle.grammar.specs.Evaluates.{Evaluates, Fresh, Subject, CallAnswer}
+use Rattle.grammar.specs.Evaluates.{firstFailed, inSequence, takenOver, secondChoice, lastRound, roundThen, negated}
+use Rattle.grammar.specs.Evaluates.{ev-empty, ev-terminal, ev-then-first-fails, ev-then, ev-else-first, ev-else-second}
+use Rattle.grammar.specs.Evaluates.{ev-star, ev-last-round, ev-round, ev-not, ev-call, ev-body, ev-record}
+use Rattle.grammar.specs.Terminal.{terminalAt}
+use Rattle.grammar.proofs.Terminals.{prefix, suffix}
+use Rattle.evaluation.proofs.Plain.{no-record}
+
+-- The examined length of an evaluation, from an equation with it.
+seen : {x z : Evaluation} → z ≡ x → x .examined ≡ z .examined
+seen e = ap (λ (v : Evaluation). v .examined) (sym e)
+
+module _ (img text other : List ℕ) (answers : ℕ → ℕ → CallAnswer) (m : ℕ)
+    (in-text : m ≤ length text) (in-other : m ≤ length other) (agree : take m text ≡ take m other)
+  where
+    pub prefix-decides :
+        {s : Subject} {p : ℕ} {z : Evaluation}
+        → Evaluates img text answers s p z
+        → p + z .examined ≤ m
+        → Evaluates img other answers s p z
+    prefix-decides (ev-empty e) h = ev-empty e
+    prefix-decides {p = p} (ev-terminal {t} e) h =
+        ev-terminal (e ∙ sym (prefix t text other p m in-text in-other agree (let k = seen e in omega arith)))
+    prefix-decides (ev-then-first-fails u a e) h = ev-then-first-fails (prefix-decides u (let k = seen e in omega arith)) a e
+    prefix-decides (ev-then u a v e) h =
+        ev-then (prefix-decides u (let k = seen e in omega arith)) a (prefix-decides v (let k = seen e in omega arith)) e
+    prefix-decides (ev-else-first u a e) h = ev-else-first (prefix-decides u (let k = seen e in omega arith)) a e
+    prefix-decides (ev-else-second u a v e) h =
+        ev-else-second (prefix-decides u (let k = seen e in omega arith)) a (prefix-decides v (let k = seen e in omega arith)) e
+    prefix-decides (ev-star u e) h = ev-star (prefix-decides u (let k = seen e in omega arith)) e
+    prefix-decides (ev-last-round u a e) h = ev-last-round (prefix-decides u (let k = seen e in omega arith)) a e
+    prefix-decides (ev-round u a v e) h =
+        ev-round (prefix-decides u (let k = seen e in omega arith)) a (prefix-decides v (let k = seen e in omega arith)) e
+    prefix-decides (ev-not u e) h = ev-not (prefix-decides u (let k = seen e in omega arith)) e
+    prefix-decides (ev-call u e) h = ev-call (prefix-decides u (let k = seen e in omega arith)) e
+    prefix-decides (ev-body q u) h = ev-body q (prefix-decides u h)
+    prefix-decides (ev-record q) h = ev-record q
+
+-- An evaluation at a position that is written another way.
+at-place : {img text : List ℕ} {s : Subject} {p q : ℕ} {z : Evaluation} → Fresh img text s p z → p ≡ q → Fresh img text s q z
+at-place {img} {text} {s} {z = z} u e = subst (λ (k : ℕ). Fresh img text s k z) e u
+
+module _ (img before text : List ℕ) where
+  pub moved :
+      {s : Subject} {p : ℕ} {z : Evaluation} → Fresh img text s p z → Fresh img (before ++ text) s (length before + p) z
+  moved (ev-empty e) = ev-empty e
+  moved {p = p} (ev-terminal {t} e) = ev-terminal (e ∙ sym (suffix t before text p))
+  moved (ev-then-first-fails u a e) = ev-then-first-fails (moved u) a e
+  moved {p = p} (ev-then {x = x} u a v e) = ev-then (moved u) a (at-place (moved v) (sym (add-assoc (length before) p (x .length)))) e
+  moved (ev-else-first u a e) = ev-else-first (moved u) a e
+  moved (ev-else-second u a v e) = ev-else-second (moved u) a (moved v) e
+  moved (ev-star u e) = ev-star (moved u) e
+  moved (ev-last-round u a e) = ev-last-round (moved u) a e
+  moved {p = p} (ev-round {x = x} u a v e) = ev-round (moved u) a (at-place (moved v) (sym (add-assoc (length before) p (x .length)))) e
+  moved (ev-not u e) = ev-not (moved u) e
+  moved (ev-call u e) = ev-call (moved u) e
+  moved (ev-body q u) = ev-body q (moved u)
+  moved (ev-record q) = absurd (no-record q)
+
+  pub unmoved :
+      {s : Subject} {q : ℕ} {z : Evaluation}
+      → Fresh img (before ++ text) s q z
+      → (p : ℕ) → q ≡ length before + p → Fresh img text s p z
+  unmoved (ev-empty e) p h = ev-empty e
+  unmoved (ev-terminal {t} e) p h =
+      ev-terminal (e ∙ ap (λ (k : ℕ). terminalAt t (before ++ text) k) h ∙ suffix t before text p)
+  unmoved (ev-then-first-fails u a e) p h = ev-then-first-fails (unmoved u p h) a e
+  unmoved (ev-then {x = x} u a v e) p h = ev-then (unmoved u p h) a (unmoved v (p + x .length) (omega arith)) e
+  unmoved (ev-else-first u a e) p h = ev-else-first (unmoved u p h) a e
+  unmoved (ev-else-second u a v e) p h = ev-else-second (unmoved u p h) a (unmoved v p h) e
+  unmoved (ev-star u e) p h = ev-star (unmoved u p h) e
+  unmoved (ev-last-round u a e) p h = ev-last-round (unmoved u p h) a e
+  unmoved (ev-round {x = x} u a v e) p h = ev-round (unmoved u p h) a (unmoved v (p + x .length) (omega arith)) e
+  unmoved (ev-not u e) p h = ev-not (unmoved u p h) e
+  unmoved (ev-call u e) p h = ev-call (unmoved u p h) e
+  unmoved (ev-body q u) p h = ev-body q (unmoved u p h)
+  unmoved (ev-record q) p h = absurd (no-record q)
+
+-- An evaluation in x ++ z stands at the moved position of y ++ z.
+pub relocated :
+    (img x y z : List ℕ) {s : Subject} {v : Evaluation} (j : ℕ)
+    → Fresh img (x ++ z) s (length x + j) v
+    → Fresh img (y ++ z) s (length y + j) v
+relocated img x y z j u = moved img y z (unmoved img x z u j refl)

@@ -1,0 +1,2 @@
+-- The shape of an evaluation; the theorems about evaluations are in proofs/.
+pub mod Within
