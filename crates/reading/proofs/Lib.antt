@@ -1,0 +1,2 @@
+-- The lemmas of the evaluator.
+pub mod TerminalWords

@@ -1,0 +1,3 @@
+-- What the evaluator computes (the model), and what its functions promise each other.
+pub mod Model
+pub mod Gives

@@ -1,0 +1,5 @@
+// Reading: evaluating nodes and rules of an accepted grammar at positions of a text.
+
+mod answers;
+mod memo;
+mod terminals;

@@ -1,0 +1,39 @@
+// The terminals: what kinds 1 and 2 do at a position, as the word of the evaluation.
+ghost use mathlib.Core.Path.{_≡_};
+ghost use Rattle.grammar.specs.Image.{any, range};
+ghost use Rattle.grammar.specs.Terminal.{terminalAt};
+ghost use Rattle.records.specs.Words.{wordOf};
+
+// A match of one byte, and a failure that examined one place.
+const ONE_BYTE: u64 = 0xC000_0002_0001_0001;
+const NO_BYTE: u64 = 0x8000_0002_0001_0000;
+
+// "1 any byte"
+pub fn any_byte(text: &[u8], at: usize) -> u64
+    ensures { λ r. ⌜ r ≡ wordOf (terminalAt any (now (text .entry)) at) ⌝ }
+{
+    if at < text.len() { ONE_BYTE } else { NO_BYTE }
+}
+
+fn wide(byte: u8) -> usize
+    ensures { λ r. ⌜ r ≡ byte ⌝ }
+{
+    byte as usize
+}
+
+// "2 byte from A to B inclusive"
+pub fn byte_between(text: &[u8], from: usize, to: usize, at: usize) -> u64
+    ensures { λ r. ⌜ r ≡ wordOf (terminalAt (range from to) (now (text .entry)) at) ⌝ }
+{
+    if text.len() <= at {
+        return NO_BYTE;
+    }
+    let byte = wide(text[at]);
+    if byte < from {
+        return NO_BYTE;
+    }
+    if to < byte {
+        return NO_BYTE;
+    }
+    ONE_BYTE
+}

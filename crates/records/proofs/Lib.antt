@@ -1,0 +1,3 @@
+-- The lemmas of the record word.
+pub mod Codec
+pub mod Test

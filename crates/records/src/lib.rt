@@ -1,0 +1,129 @@
+// Records: what an evaluation found, as one 64-bit word.
+// "A record is a 64-bit word: held 1, matched 1, zero 16, nesting 13, examined 17, length 16."
+ghost use Prim.Native.Nat.{_<_};
+ghost use mathlib.Core.Path.{_≡_};
+ghost use Rattle.records.specs.Words.{isHeld, matchedOf, spareOf, nestingOf, examinedOf, lengthOf, recordWord, decoded};
+
+pub struct Record {
+    pub matched: bool,
+    // The sixteen bits that are zero in a true record.
+    pub spare: usize,
+    pub nesting: usize,
+    pub examined: usize,
+    pub length: usize,
+}
+
+// What the decoder answers: "is each record met possible?"
+pub enum Decoded {
+    Possible(Record),
+    Impossible,
+}
+
+// Whether a word is held. "a word without its held bit counts as empty"
+pub fn is_held(word: u64) -> bool
+    ensures { λ r. ⌜ r ≡ isHeld word ⌝ }
+{
+    0x8000_0000_0000_0000 <= word
+}
+
+fn wide(word: u64) -> usize
+    ensures { λ r. ⌜ r ≡ word ⌝ }
+{
+    word as usize
+}
+
+pub fn matched_of(word: u64) -> bool
+    ensures { λ r. ⌜ r ≡ matchedOf word ⌝ }
+{
+    word / 4611686018427387904 % 2 == 1
+}
+
+pub fn spare_of(word: u64) -> usize
+    ensures { λ r. ⌜ (r ≡ spareOf word) × (r < 65536) ⌝ }
+{
+    wide(word) / 70368744177664 % 65536
+}
+
+pub fn nesting_of(word: u64) -> usize
+    ensures { λ r. ⌜ (r ≡ nestingOf word) × (r < 8192) ⌝ }
+{
+    wide(word) / 8589934592 % 8192
+}
+
+pub fn examined_of(word: u64) -> usize
+    ensures { λ r. ⌜ (r ≡ examinedOf word) × (r < 131072) ⌝ }
+{
+    wide(word) / 65536 % 131072
+}
+
+pub fn length_of(word: u64) -> usize
+    ensures { λ r. ⌜ (r ≡ lengthOf word) × (r < 65536) ⌝ }
+{
+    wide(word) % 65536
+}
+
+impl Record {
+    // "An empty slot is 0".
+    pub const EMPTY: u64 = 0;
+    // "nesting 1 to 4,096"
+    pub const MAX_NESTING: usize = 4096;
+
+    // The record of a held word that position `at` of a text of n bytes can have.
+    pub fn from_word(word: u64, at: usize, n: usize) -> Decoded
+        ensures { λ r. ⌜ r ≡ decoded word at n ⌝ }
+    {
+        let matched = matched_of(word);
+        let spare = spare_of(word);
+        let nesting = nesting_of(word);
+        let examined = examined_of(word);
+        let length = length_of(word);
+        if nesting < 1 {
+            return Decoded::Impossible;
+        }
+        if Record::MAX_NESTING < nesting {
+            return Decoded::Impossible;
+        }
+        if examined < length {
+            return Decoded::Impossible;
+        }
+        if n < at {
+            return Decoded::Impossible;
+        }
+        if n - at < length {
+            return Decoded::Impossible;
+        }
+        if spare != 0 {
+            return Decoded::Impossible;
+        }
+        if n - at < examined {
+            if n - at < examined - 1 {
+                return Decoded::Impossible;
+            }
+        }
+        if !matched {
+            if length != 0 {
+                return Decoded::Impossible;
+            }
+        }
+        Decoded::Possible(Record {
+            matched,
+            spare,
+            nesting,
+            examined,
+            length,
+        })
+    }
+
+    // The record's word. A field that is too wide loses its upper bits.
+    pub fn word(self) -> u64
+        ensures { λ r. ⌜ r ≡ recordWord self ⌝ }
+    {
+        let low = self.length % 65536 + self.examined % 131072 * 65536;
+        let high = self.nesting % 8192 * 8589934592 + self.spare % 65536 * 70368744177664;
+        if self.matched {
+            0xC000_0000_0000_0000 + (high + low) as u64
+        } else {
+            0x8000_0000_0000_0000 + (high + low) as u64
+        }
+    }
+}
