@@ -1,2 +1,6 @@
 -- The lemmas of the evaluator.
 pub mod TerminalWords
+pub mod Gives
+pub mod Runs
+pub mod Stars
+pub mod Rules

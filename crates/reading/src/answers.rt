@@ -5,7 +5,7 @@ ghost use Rattle.grammar.specs.Evaluates.{firstFailed, inSequence, takenOver, s
 ghost use Rattle.records.specs.Words.{wordOf, valueOf, nestingOf};
 ghost use Rattle.reading.specs.Gives.{Joinable};
 
-fn larger(a: usize, b: usize) -> usize
+pub fn larger(a: usize, b: usize) -> usize
     ensures { λ r. ⌜ r ≡ max a b ⌝ }
 {
     if a < b { b } else { a }
@@ -31,7 +31,12 @@ pub fn first_failed(x: u64) -> u64
     requires { ⌜ nestingOf x ≤ 4096 ⌝ }
     ensures { λ r. ⌜ r ≡ wordOf (firstFailed (valueOf x)) ⌝ }
 {
-    answer(false, 1 + records::nesting_of(x), records::examined_of(x), 0)
+    answer(
+        false,
+        1 + records::nesting_of(x),
+        records::examined_of(x),
+        0,
+    )
 }
 
 // "else the larger of A's examined and A's length + B's examined; lengths add."
@@ -69,7 +74,12 @@ pub fn second_choice(x: u64, y: u64) -> u64
 {
     let nesting = 1 + larger(records::nesting_of(x), records::nesting_of(y));
     let examined = larger(records::examined_of(x), records::examined_of(y));
-    answer(records::matched_of(y), nesting, examined, records::length_of(y))
+    answer(
+        records::matched_of(y),
+        nesting,
+        examined,
+        records::length_of(y),
+    )
 }
 
 // "Not: length 0, A's examined."

@@ -6,6 +6,7 @@ ghost use Rattle.records.specs.Words.{wordOf};
 
 // A match of one byte, and a failure that examined one place.
 const ONE_BYTE: u64 = 0xC000_0002_0001_0001;
+
 const NO_BYTE: u64 = 0x8000_0002_0001_0000;
 
 // "1 any byte"

@@ -78,7 +78,7 @@ pub plain-word :
     → examined < 2 ^ 17
     → length < 2 ^ 16
     → recordWord (record { matched = m; spare = 0; nesting = nesting; examined = examined; length = length })
-      ≡ wordOf (record { matched = m; length = length; examined = examined; nesting = nesting })
+    ≡ wordOf (record { matched = m; length = length; examined = examined; nesting = nesting })
 unfolding recordWord wordOf
 plain-word m nesting examined length a b c = omega arith
 

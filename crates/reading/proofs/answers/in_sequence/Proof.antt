@@ -49,13 +49,13 @@ answer-requires-2 c κs = search needs
 
 returns : tie.Need-returns
 unfolding valueOf
-returns c = 
+returns c =
     let e : matchedOf (c .before .before .before .before .before .before .before .before .before .before .before .args .y) ≡ true = sym (c .before .before .before .matched-of .ensures) ∙ c .before .before .if1 .taken in
     rw e (cc)
 
 returns-2 : tie.Need-returns-2
 unfolding valueOf
-returns-2 c = 
+returns-2 c =
     let e : matchedOf (c .before .before .before .before .before .before .before .before .before .before .args .y) ≡ false = sym (c .before .before .matched-of .ensures) ∙ c .before .if1 .left in
     rw e (cc)
 

@@ -1,0 +1,182 @@
+-- The ways through a rule: its pair is met in the table, or its body is evaluated and stored; and a node's first step.
+-- Assumes nothing.
+use Prim.Native.Nat.{ℕ, zero, suc, _+_, _-_, _*_, _%_, _≤_, _<_, _^_}
+use native.Mathlib.Omega.{arith}
+use native.Mathlib.Nat.{mul-le-mul}
+use mathlib.Core.Path.{_≡_, refl, sym, ap, _∙_, subst}
+use mathlib.Core.Bool.{Bool, true, false, true≢false}
+use mathlib.Core.List.{List}
+use lib.ListN.{length, getD, set}
+use lib.Dec.{leb}
+use borrow.Author.Tests.{le-leb, lt-leb}
+use Rattle.grammar.specs.declared.Evaluation.{Evaluation}
+use Rattle.grammar.specs.Image.{Node, node, rules, root, fieldA}
+use Rattle.evaluation.specs.Within.{Within}
+use Rattle.records.specs.declared.Record.{Record}
+use Rattle.records.specs.declared.Decoded.{Decoded}
+use Rattle.records.specs.declared.Decoded.the-variants.{Possible, Impossible}
+use Rattle.records.specs.Words.{isHeld, possible, IsPossible, nestingOf, valueOf, wordOf, recordOf, recordWord, pick}
+use Rattle.records.proofs.Codec.{word-again}
+use Rattle.records.proofs.Test.{says-possible}
+use Rattle.reading.specs.Model.{Answer, answered, refused, Out, out, Evaluator, bind, met, looked, ruleM, kindM, nodeM}
+use Rattle.reading.specs.Gives.{Gives}
+use Rattle.reading.proofs.Gives.{found, was-refused, gives-value, gives-refusal}
+
+-- What the decoder's answer says.
+pub was-possible : (r q : Record) (b : Bool) → Possible r ≡ pick b q → (b ≡ true) × (r ≡ q)
+was-possible r q true e = (refl, cc)
+was-possible r q false e = absurd (let z : _≡_ {A = ℕ} 0 1 = cc in omega arith)
+
+pub was-impossible : (q : Record) (b : Bool) → Impossible ≡ pick b q → b ≡ false
+was-impossible q true e = absurd (let z : _≡_ {A = ℕ} 0 1 = cc in omega arith)
+was-impossible q false e = refl
+
+-- What a possible word says is in its bounds.
+possible-within : (word at n : ℕ) → IsPossible word at n → Within n at (valueOf word)
+unfolding valueOf
+possible-within word at n h =
+    record {
+      in-text = h .in-text;
+      up-to-end = h .up-to-end;
+      in-examined = h .in-examined;
+      failure = h .failure;
+      nested = h .some-nesting;
+    }
+
+module _ (img text : List ℕ) (nodes : Evaluator) (left rule at : ℕ) (t : List ℕ) (c : ℕ) {word : ℕ}
+    (here : word ≡ getD t (at * rules img + rule) 0)
+  where
+    looks : {b : Bool} → isHeld word ≡ b → ruleM img text nodes left rule at t c ≡ looked b img text nodes left rule at t c
+    unfolding ruleM
+    looks e = ap (λ (k : Bool). looked k img text nodes left rule at t c) (sym (ap isHeld here) ∙ e)
+
+    meets :
+        {p a : Bool}
+        → isHeld word ≡ true
+        → possible word at (length text) ≡ p
+        → leb (nestingOf word) left ≡ a
+        → ruleM img text nodes left rule at t c ≡ met p a word t c
+    unfolding looked
+    meets {p} {a} e d k =
+        looks e
+        ∙ ap (λ (w : ℕ). met (possible w at (length text)) (leb (nestingOf w) left) w t c) (sym here)
+        ∙ ap (λ (b : Bool). met b (leb (nestingOf word) left) word t c) d
+        ∙ ap (λ (b : Bool). met p b word t c) k
+
+    pub rule-impossible :
+        isHeld word ≡ true
+        → possible word at (length text) ≡ false
+        → Gives (length text) at left (ruleM img text nodes left rule at t c) 12 t c
+    unfolding met
+    rule-impossible e d = gives-refusal (meets e d refl) (omega arith)
+
+    pub rule-too-deep :
+        isHeld word ≡ true
+        → possible word at (length text) ≡ true
+        → left < nestingOf word
+        → Gives (length text) at left (ruleM img text nodes left rule at t c) 14 t c
+    unfolding met
+    rule-too-deep e d l = gives-refusal (meets e d (lt-leb (nestingOf word) left l)) (omega arith)
+
+    pub rule-met :
+        {w : ℕ}
+        → isHeld word ≡ true
+        → possible word at (length text) ≡ true
+        → nestingOf word ≤ left
+        → w ≡ recordWord (recordOf word)
+        → Gives (length text) at left (ruleM img text nodes left rule at t c) w t c
+    unfolding met
+    rule-met e d l k =
+        let q = says-possible word at (length text) d in
+        gives-value (valueOf word)
+        (meets e d (le-leb (nestingOf word) left l))
+        (k ∙ word-again word (q .zero-bits))
+        (possible-within word at (length text) q)
+        (value-nesting l)
+      where
+        value-nesting : nestingOf word ≤ left → valueOf word .nesting ≤ left
+        value-nesting l = unfold valueOf in l
+
+    -- The body, where the pair is not held.
+    module _ (short : length text ≤ 65535) (most : left ≤ 4096) (e : isHeld word ≡ false) {r d : ℕ} {u : List ℕ}
+        (g : Gives (length text) at left (nodes (root img rule) at t c) r u d)
+      where
+        pub rule-refused : r < 2 ^ 63 → Gives (length text) at left (ruleM img text nodes left rule at t c) r u d
+        unfolding looked
+        rule-refused h =
+            let v = was-refused short most g h in
+            gives-refusal
+            (looks e ∙ ap (λ (o : Out). bind o (λ x u d. out (answered x) (set u (at * rules img + rule) (wordOf x)) ((d + 1) % 2 ^ 64))) (v .is))
+            (v .small)
+
+        pub rule-stored :
+            2 ^ 63 ≤ r
+            → Gives (length text) at left (ruleM img text nodes left rule at t c) r (set u (at * rules img + rule) r) ((d + 1) % 2 ^ 64)
+        unfolding looked
+        rule-stored h =
+            let v = found short most g h in
+            gives-value (v .value)
+            (looks e
+            ∙ ap (λ (o : Out). bind o (λ x u d. out (answered x) (set u (at * rules img + rule) (wordOf x)) ((d + 1) % 2 ^ 64))) (v .is)
+            ∙ ap (λ (w : ℕ). out (answered (v .value)) (set u (at * rules img + rule) w) ((d + 1) % 2 ^ 64)) (sym (v .word-is)))
+            (v .word-is)
+            (v .bounds .shape)
+            (v .bounds .allowed)
+
+-- The slot of a pair is far below a machine word.
+pub slot-fits : (at rules : ℕ) → at ≤ 65535 → rules < 256 → at * rules ≤ 16711425
+slot-fits at rules h k = let l : rules ≤ 255 = omega arith in mul-le-mul h l
+
+pub rules-small : (img : List ℕ) → rules img < 256
+unfolding rules
+rules-small img = omega arith
+
+pub field-small : (img : List ℕ) (n : ℕ) → fieldA img n < 4096
+unfolding fieldA
+field-small img n = omega arith
+
+-- A node: without an allowance, and with one.
+pub node-too-deep :
+    {n : ℕ} (img text : List ℕ) (left i at : ℕ) (t : List ℕ) (c : ℕ)
+    → left ≡ 0
+    → Gives n at left (nodeM img text left i at t c) 14 t c
+unfolding nodeM
+node-too-deep img text zero i at t c e = gives-refusal refl (omega arith)
+node-too-deep img text (suc left) i at t c e = absurd (omega arith)
+
+pub node-goes :
+    {n : ℕ} (img text : List ℕ) (left i at : ℕ) (t : List ℕ) (c : ℕ) {m : Node} {r d : ℕ} {u : List ℕ}
+    → (left ≡ 0 → ⊥)
+    → node img i ≡ m
+    → Gives n at (left - 1 + 1) (kindM text (nodeM img text (left - 1)) (ruleM img text (nodeM img text (left - 1)) (left - 1)) m at t c) r u d
+    → Gives n at left (nodeM img text left i at t c) r u d
+unfolding nodeM
+node-goes img text zero i at t c ne e g = absurd (ne refl)
+node-goes {n} img text (suc left) i at t c {m} {r} {d} {u} ne e g =
+    let l : suc left - 1 ≡ left = omega arith in
+    let k : suc left - 1 + 1 ≡ suc left = omega arith in
+    subst (λ (j : ℕ). Gives n at j (kindM text (nodeM img text left) (ruleM img text (nodeM img text left) left) (node img i) at t c) r u d) k
+    (subst (λ (x : Node). Gives n at (suc left - 1 + 1) (kindM text (nodeM img text left) (ruleM img text (nodeM img text left) left) x at t c) r u d) (sym e)
+    (subst (λ (j : ℕ). Gives n at (suc left - 1 + 1) (kindM text (nodeM img text j) (ruleM img text (nodeM img text j) j) m at t c) r u d) l g))
+
+-- A kind that is none of 0 to 7.
+pub past-7 :
+    (k : ℕ)
+    → (k ≡ 0 → ⊥)
+    → (k ≡ 1 → ⊥)
+    → (k ≡ 2 → ⊥)
+    → (k ≡ 3 → ⊥)
+    → (k ≡ 4 → ⊥)
+    → (k ≡ 5 → ⊥)
+    → (k ≡ 6 → ⊥)
+    → (k ≡ 7 → ⊥)
+    → 8 ≤ k
+past-7 zero a b c d e f g h = absurd (a refl)
+past-7 (suc zero) a b c d e f g h = absurd (b refl)
+past-7 (suc (suc zero)) a b c d e f g h = absurd (c refl)
+past-7 (suc (suc (suc zero))) a b c d e f g h = absurd (d refl)
+past-7 (suc (suc (suc (suc zero)))) a b c d e f g h = absurd (e refl)
+past-7 (suc (suc (suc (suc (suc zero))))) a b c d e f g h = absurd (f refl)
+past-7 (suc (suc (suc (suc (suc (suc zero)))))) a b c d e f g h = absurd (g refl)
+past-7 (suc (suc (suc (suc (suc (suc (suc zero))))))) a b c d e f g h = absurd (h refl)
+past-7 (suc (suc (suc (suc (suc (suc (suc (suc k)))))))) a b c d e f g h = omega arith
