@@ -4,3 +4,4 @@ pub mod Gives
 pub mod Runs
 pub mod Stars
 pub mod Rules
+pub mod Allowance
