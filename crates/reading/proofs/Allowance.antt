@@ -32,12 +32,12 @@ pub data Result (o : Out) (z : Evaluation) (left : ℕ) : Type 0 where
 
 -- The next step of a run, where the step before has the evaluation x.
 next :
-  {o : Out} {x z : Evaluation} {l m : ℕ}
-  → Result o x l
-  → (f : Evaluation → List ℕ → ℕ → Out)
-  → ((d : ℕ) → x .nesting ≤ l → Result (f x [] d) z m)
-  → (l < x .nesting → m < z .nesting)
-  → Result (bind o f) z m
+    {o : Out} {x z : Evaluation} {l m : ℕ}
+    → Result o x l
+    → (f : Evaluation → List ℕ → ℕ → Out)
+    → ((d : ℕ) → x .nesting ≤ l → Result (f x [] d) z m)
+    → (l < x .nesting → m < z .nesting)
+    → Result (bind o f) z m
 next {z = z} {m = m} (fine d h e) f more too-deep =
     subst (λ (o : Out). Result o z m) (sym (ap (λ (o : Out). bind o f) e)) (more d h)
 next (deep d h e) f more too-deep = deep d (too-deep h) (ap (λ (o : Out). bind o f) e)
@@ -62,21 +62,21 @@ module _ (img text : List ℕ) where
 
   -- A node by its number, from the node.
   numbered :
-    (i p : ℕ) {x : Evaluation}
-    → 1 ≤ x .nesting
-    → ((l c : ℕ) → Result (kindAt l (node img i) p c) x (suc l))
-    → (left c : ℕ) → Result (nodeM img text left i p [] c) x left
+      (i p : ℕ) {x : Evaluation}
+      → 1 ≤ x .nesting
+      → ((l c : ℕ) → Result (kindAt l (node img i) p c) x (suc l))
+      → (left c : ℕ) → Result (nodeM img text left i p [] c) x left
   unfolding nodeM
   numbered i p h k zero c = deep c (omega arith) refl
   numbered i p h k (suc l) c = k l c
 
   -- The rounds of a star: the round that fails, and a round that matches with the rounds after it.
   last-of :
-    (a p : ℕ) {x : Evaluation}
-    → p ≤ length text
-    → x .matched ≡ false
-    → ((left c : ℕ) → Result (nodeM img text left a p [] c) x left)
-    → (left c fuel : ℕ) → length text < fuel + p → Result (roundsM fuel (nodeM img text left) a p [] c) (lastRound x) left
+      (a p : ℕ) {x : Evaluation}
+      → p ≤ length text
+      → x .matched ≡ false
+      → ((left c : ℕ) → Result (nodeM img text left a p [] c) x left)
+      → (left c fuel : ℕ) → length text < fuel + p → Result (roundsM fuel (nodeM img text left) a p [] c) (lastRound x) left
   unfolding roundsM afterRound
   last-of a p h m k left c zero enough = absurd (omega arith)
   last-of a p {x} h m k left c (suc f) enough =
@@ -85,22 +85,22 @@ module _ (img text : List ℕ) where
       (λ j. j)
 
   more-of :
-    (a p : ℕ) {x y : Evaluation}
-    → p ≤ length text
-    → x .matched ≡ true
-    → (x .length ≡ 0 → ⊥)
-    → ((left c : ℕ) → Result (nodeM img text left a p [] c) x left)
-    → ((left c fuel : ℕ) → length text < fuel + (p + x .length) → Result (roundsM fuel (nodeM img text left) a (p + x .length) [] c) y left)
-    → (left c fuel : ℕ) → length text < fuel + p → Result (roundsM fuel (nodeM img text left) a p [] c) (roundThen x y) left
+      (a p : ℕ) {x y : Evaluation}
+      → p ≤ length text
+      → x .matched ≡ true
+      → (x .length ≡ 0 → ⊥)
+      → ((left c : ℕ) → Result (nodeM img text left a p [] c) x left)
+      → ((left c fuel : ℕ) → length text < fuel + (p + x .length) → Result (roundsM fuel (nodeM img text left) a (p + x .length) [] c) y left)
+      → (left c fuel : ℕ) → length text < fuel + p → Result (roundsM fuel (nodeM img text left) a p [] c) (roundThen x y) left
   unfolding roundsM afterRound
   more-of a p h m ne k rest left c zero enough = absurd (omega arith)
   more-of a p {x} {y} h m ne k rest left c (suc f) enough =
       next (k left c) (λ x u d. afterRound (x .matched) (eqb (x .length) 0) (roundsM f (nodeM img text left) a) p x u d)
       (λ d j.
-        same
-        (ap (λ (q : Bool). afterRound q (eqb (x .length) 0) (roundsM f (nodeM img text left) a) p x [] d) m
-        ∙ ap (λ (q : Bool). afterRound true q (roundsM f (nodeM img text left) a) p x [] d) (ne-eqb (x .length) 0 ne))
-        (next (rest left d f (omega (arith, ne))) _ (λ d i. fine d (omega arith) refl) (λ i. omega arith)))
+      same
+      (ap (λ (q : Bool). afterRound q (eqb (x .length) 0) (roundsM f (nodeM img text left) a) p x [] d) m
+      ∙ ap (λ (q : Bool). afterRound true q (roundsM f (nodeM img text left) a) p x [] d) (ne-eqb (x .length) 0 ne))
+      (next (rest left d f (omega (arith, ne))) _ (λ d i. fine d (omega arith) refl) (λ i. omega arith)))
       (λ j. omega arith)
 
   gives : {s : Subject} {p : ℕ} {z : Evaluation} → Fresh img text s p z → p ≤ length text → Goal s p z
@@ -117,10 +117,10 @@ module _ (img text : List ℕ) where
       of e
       (next (numbered a p (w .nested) (gives u h) l c) (λ x u d. afterFirst (x .matched) (nodeM img text l) b p x u d)
       (λ d k.
-        same (ap (λ (q : Bool). afterFirst q (nodeM img text l) b p x [] d) m)
-        (next (numbered b (p + x .length) (fresh-within v (w .in-text) .nested) (gives v (w .in-text)) l d) _
-        (λ d j. fine d (omega arith) refl)
-        (λ j. omega arith)))
+      same (ap (λ (q : Bool). afterFirst q (nodeM img text l) b p x [] d) m)
+      (next (numbered b (p + x .length) (fresh-within v (w .in-text) .nested) (gives v (w .in-text)) l d) _
+      (λ d j. fine d (omega arith) refl)
+      (λ j. omega arith)))
       (λ k. omega arith))
   gives {p = p} (ev-else-first {a} {b} {x = x} u m e) h = λ l c.
       of e
@@ -131,8 +131,8 @@ module _ (img text : List ℕ) where
       of e
       (next (numbered a p (fresh-within u h .nested) (gives u h) l c) (λ x u d. afterChoice (x .matched) (nodeM img text l) b p x u d)
       (λ d k.
-        same (ap (λ (q : Bool). afterChoice q (nodeM img text l) b p x [] d) m)
-        (next (numbered b p (fresh-within v h .nested) (gives v h) l d) _ (λ d j. fine d (omega arith) refl) (λ j. omega arith)))
+      same (ap (λ (q : Bool). afterChoice q (nodeM img text l) b p x [] d) m)
+      (next (numbered b p (fresh-within v h .nested) (gives v h) l d) _ (λ d j. fine d (omega arith) refl) (λ j. omega arith)))
       (λ k. omega arith))
   gives {p = p} (ev-star {a} u e) h = λ l c.
       of e (next (gives u h l c (suc (length text)) (omega arith)) _ (λ d k. fine d (omega arith) refl) (λ k. omega arith))
@@ -157,15 +157,15 @@ module _ (img text : List ℕ) where
   gives (ev-record q) h = absurd (no-record q)
 
   pub node-allowance :
-    (i p : ℕ) {z : Evaluation}
-    → Fresh img text (a-node (node img i)) p z
-    → p ≤ length text
-    → (left c : ℕ) → Result (nodeM img text left i p [] c) z left
+      (i p : ℕ) {z : Evaluation}
+      → Fresh img text (a-node (node img i)) p z
+      → p ≤ length text
+      → (left c : ℕ) → Result (nodeM img text left i p [] c) z left
   node-allowance i p u h = numbered i p (fresh-within u h .nested) (gives u h)
 
   pub pair-allowance :
-    (r p : ℕ) {z : Evaluation}
-    → Fresh img text (a-pair r) p z
-    → p ≤ length text
-    → (left c : ℕ) → Result (ruleM img text (nodeM img text left) left r p [] c) z left
+      (r p : ℕ) {z : Evaluation}
+      → Fresh img text (a-pair r) p z
+      → p ≤ length text
+      → (left c : ℕ) → Result (ruleM img text (nodeM img text left) left r p [] c) z left
   pair-allowance r p u h = gives u h

@@ -5,3 +5,4 @@ pub mod Runs
 pub mod Stars
 pub mod Rules
 pub mod Allowance
+pub mod PlainReading

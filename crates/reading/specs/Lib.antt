@@ -1,3 +1,4 @@
--- What the evaluator computes (the model), and what its functions promise each other.
+-- The plain reading's promise (Plain), what the evaluator computes (Model), and what its functions promise each other (Gives).
+pub mod Plain
 pub mod Model
 pub mod Gives

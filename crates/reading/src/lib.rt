@@ -1,6 +1,7 @@
-// Reading: evaluating nodes and rules of an accepted grammar at positions of a text.
+// Reading: evaluating nodes and rules of an accepted grammar at positions of a text, and the plain reading.
 
 mod answers;
 mod evaluate;
 mod memo;
+pub mod plain;
 mod terminals;

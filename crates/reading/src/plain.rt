@@ -1,0 +1,98 @@
+// The plain reading: a reading without records. Its answer depends on the image and the text alone.
+use crate::evaluate;
+use records::Record;
+ghost use Prim.Native.Nat.{_≤_};
+ghost use mathlib.Core.Path.{_≡_};
+ghost use lib.ListN.{length};
+ghost use Rattle.grammar.specs.Questions.{Accepted};
+ghost use Rattle.records.specs.Words.{valueOf};
+ghost use Rattle.reading.specs.Plain.{PlainRead, StartWord, readingOf};
+
+// "A reading is whole (matched, length n), part (matched, shorter) or none"
+pub enum Outcome {
+    Whole,
+    Part,
+    Nothing,
+}
+
+pub struct Reading {
+    pub outcome: Outcome,
+    pub length: usize,
+    pub examined: usize,
+    pub nesting: usize,
+}
+
+// A reading, or the number of the question that failed.
+pub enum PlainAnswer {
+    Read(Reading),
+    Refused(u8),
+}
+
+// What a held word says of a text of n bytes.
+fn reading_of(word: u64, n: usize) -> Reading
+    ensures { λ r. ⌜ r ≡ readingOf n (valueOf word) ⌝ }
+{
+    let length = records::length_of(word);
+    let examined = records::examined_of(word);
+    let nesting = records::nesting_of(word);
+    if !records::matched_of(word) {
+        return Reading {
+            outcome: Outcome::Nothing,
+            length,
+            examined,
+            nesting,
+        };
+    }
+    if length == n {
+        return Reading {
+            outcome: Outcome::Whole,
+            length,
+            examined,
+            nesting,
+        };
+    }
+    Reading {
+        outcome: Outcome::Part,
+        length,
+        examined,
+        nesting,
+    }
+}
+
+// The start pair's word over no records.
+fn start_word(image: &[u8], text: &[u8]) -> u64
+    requires { ⌜ Accepted (now image) × (length (now text) ≤ 65535) ⌝ }
+    ensures { λ r. ⌜ StartWord (now (image .entry)) (now (text .entry)) r ⌝ }
+{
+    let header = image::header_of(image);
+    let mut table = [0u64; 0];
+    let mut count = 0u64;
+    evaluate::eval_rule(
+        image,
+        text,
+        &mut table,
+        &mut count,
+        header.start,
+        0,
+        Record::MAX_NESTING,
+    )
+}
+
+// The reading of a text by a grammar. Refuses an image with its number 1 to 7, a text above 65,535 bytes with 8, and a start pair
+// whose nesting is above 4,096 with 14.
+pub fn plain_reading(image: &[u8], text: &[u8]) -> PlainAnswer
+    ensures { λ r. ⌜ PlainRead (now (image .entry)) (now (text .entry)) r ⌝ }
+{
+    let number = checker::check(image);
+    if number != 0 {
+        return PlainAnswer::Refused(number);
+    }
+    if 65535 < text.len() {
+        return PlainAnswer::Refused(8);
+    }
+    let word = start_word(image, text);
+    if word < 0x8000_0000_0000_0000 {
+        return PlainAnswer::Refused(14);
+    }
+    PlainAnswer::Read(reading_of(word, text.len()))
+}
