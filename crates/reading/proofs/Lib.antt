@@ -6,3 +6,5 @@ pub mod Stars
 pub mod Rules
 pub mod Allowance
 pub mod PlainReading
+pub mod Coding
+pub mod Consuming

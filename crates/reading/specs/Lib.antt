@@ -2,3 +2,4 @@
 pub mod Plain
 pub mod Model
 pub mod Gives
+pub mod Code

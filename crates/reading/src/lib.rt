@@ -1,6 +1,7 @@
 // Reading: evaluating nodes and rules of an accepted grammar at positions of a text, and the plain reading.
 
 mod answers;
+pub mod code;
 mod evaluate;
 mod memo;
 pub mod plain;
