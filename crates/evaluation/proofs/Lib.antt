@@ -4,3 +4,4 @@ pub mod Described
 pub mod Plain
 pub mod Totality
 pub mod Locality
+pub mod CallLocality

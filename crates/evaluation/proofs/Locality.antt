@@ -6,8 +6,7 @@
 -- Proved from the terminal's laws. Assumes nothing.
 use Prim.Native.Nat.{ℕ, _+_, _≤_}
 use native.Mathlib.Omega.{arith}
-use native.Mathlib.Nat.{add-assoc}
-use mathlib.Core.Path.{_≡_, refl, sym, ap, _∙_, subst}
+use mathlib.Core.Path.{_≡_, refl, sym, ap, _∙_}
 use mathlib.Core.List.{List, _++_}
 use lib.ListN.{length, take}
 use Rattle.grammar.specs.declared.Evaluation.{Evaluation}
@@ -20,13 +19,13 @@ use Rattle.grammar.proofs.Terminals.{prefix, suffix}
 use Rattle.evaluation.proofs.Plain.{no-record}
 
 -- The examined length of an evaluation, from an equation with it.
-seen : {x z : Evaluation} → z ≡ x → x .examined ≡ z .examined
+pub seen : {x z : Evaluation} → z ≡ x → x .examined ≡ z .examined
 seen e = ap (λ (v : Evaluation). v .examined) (sym e)
 
 module _ (img text other : List ℕ) (answers : ℕ → ℕ → CallAnswer) (m : ℕ)
     (in-text : m ≤ length text) (in-other : m ≤ length other) (agree : take m text ≡ take m other)
   where
-    pub prefix-decides :
+    unfoldable pub prefix-decides :
         {s : Subject} {p : ℕ} {z : Evaluation}
         → Evaluates img text answers s p z
         → p + z .examined ≤ m
@@ -49,26 +48,27 @@ module _ (img text other : List ℕ) (answers : ℕ → ℕ → CallAnswer) (m :
     prefix-decides (ev-body q u) h = ev-body q (prefix-decides u h)
     prefix-decides (ev-record q) h = ev-record q
 
--- An evaluation at a position that is written another way.
-at-place : {img text : List ℕ} {s : Subject} {p q : ℕ} {z : Evaluation} → Fresh img text s p z → p ≡ q → Fresh img text s q z
-at-place {img} {text} {s} {z = z} u e = subst (λ (k : ℕ). Fresh img text s k z) e u
-
 module _ (img before text : List ℕ) where
-  pub moved :
-      {s : Subject} {p : ℕ} {z : Evaluation} → Fresh img text s p z → Fresh img (before ++ text) s (length before + p) z
-  moved (ev-empty e) = ev-empty e
-  moved {p = p} (ev-terminal {t} e) = ev-terminal (e ∙ sym (suffix t before text p))
-  moved (ev-then-first-fails u a e) = ev-then-first-fails (moved u) a e
-  moved {p = p} (ev-then {x = x} u a v e) = ev-then (moved u) a (at-place (moved v) (sym (add-assoc (length before) p (x .length)))) e
-  moved (ev-else-first u a e) = ev-else-first (moved u) a e
-  moved (ev-else-second u a v e) = ev-else-second (moved u) a (moved v) e
-  moved (ev-star u e) = ev-star (moved u) e
-  moved (ev-last-round u a e) = ev-last-round (moved u) a e
-  moved {p = p} (ev-round {x = x} u a v e) = ev-round (moved u) a (at-place (moved v) (sym (add-assoc (length before) p (x .length)))) e
-  moved (ev-not u e) = ev-not (moved u) e
-  moved (ev-call u e) = ev-call (moved u) e
-  moved (ev-body q u) = ev-body q (moved u)
-  moved (ev-record q) = absurd (no-record q)
+  unfoldable pub moved :
+      {s : Subject} {p : ℕ} {z : Evaluation}
+      → Fresh img text s p z
+      → (q : ℕ)
+      → q ≡ length before + p
+      → Fresh img (before ++ text) s q z
+  moved (ev-empty e) q h = ev-empty e
+  moved {p = p} (ev-terminal {t} e) q h =
+      ev-terminal (e ∙ sym (ap (λ (k : ℕ). terminalAt t (before ++ text) k) h ∙ suffix t before text p))
+  moved (ev-then-first-fails u a e) q h = ev-then-first-fails (moved u q h) a e
+  moved (ev-then {x = x} u a v e) q h = ev-then (moved u q h) a (moved v (q + x .length) (omega arith)) e
+  moved (ev-else-first u a e) q h = ev-else-first (moved u q h) a e
+  moved (ev-else-second u a v e) q h = ev-else-second (moved u q h) a (moved v q h) e
+  moved (ev-star u e) q h = ev-star (moved u q h) e
+  moved (ev-last-round u a e) q h = ev-last-round (moved u q h) a e
+  moved (ev-round {x = x} u a v e) q h = ev-round (moved u q h) a (moved v (q + x .length) (omega arith)) e
+  moved (ev-not u e) q h = ev-not (moved u q h) e
+  moved (ev-call u e) q h = ev-call (moved u q h) e
+  moved (ev-body b u) q h = ev-body b (moved u q h)
+  moved (ev-record b) q h = absurd (no-record b)
 
   pub unmoved :
       {s : Subject} {q : ℕ} {z : Evaluation}
@@ -94,4 +94,4 @@ pub relocated :
     (img x y z : List ℕ) {s : Subject} {v : Evaluation} (j : ℕ)
     → Fresh img (x ++ z) s (length x + j) v
     → Fresh img (y ++ z) s (length y + j) v
-relocated img x y z j u = moved img y z (unmoved img x z u j refl)
+relocated img x y z j u = moved img y z (unmoved img x z u j refl) (length y + j) refl
