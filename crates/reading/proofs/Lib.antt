@@ -8,3 +8,6 @@ pub mod Allowance
 pub mod PlainReading
 pub mod Coding
 pub mod Consuming
+pub mod Slots
+pub mod Grown
+pub mod OverTables

@@ -32,7 +32,7 @@ was-impossible q true e = absurd (let z : _≡_ {A = ℕ} 0 1 = cc in omega arit
 was-impossible q false e = refl
 
 -- What a possible word says is in its bounds.
-possible-within : (word at n : ℕ) → IsPossible word at n → Within n at (valueOf word)
+pub possible-within : (word at n : ℕ) → IsPossible word at n → Within n at (valueOf word)
 unfolding valueOf
 possible-within word at n h =
     record {

@@ -3,3 +3,4 @@ pub mod Plain
 pub mod Model
 pub mod Gives
 pub mod Code
+pub mod Over
