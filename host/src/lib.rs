@@ -1,7 +1,8 @@
 //! The Rust side of Bannelgo's gap-sheet reader.
 //!
-//! `image_check` calls the proved library. `reference` answers the same question with code written
-//! apart from it, and the tests compare the two. The other modules make grammar images.
+//! `image_check` and `plain_reading` call the proved library. `reference` answers the same questions
+//! with code written apart from it, and the tests compare the two. The other modules make grammar
+//! images and texts.
 
 pub mod big_images;
 pub mod expr;
@@ -9,8 +10,12 @@ pub mod generate;
 pub mod image_check;
 pub mod image_words;
 pub mod numbering;
+pub mod plain_reading;
+pub mod questions;
 pub mod raw;
 pub mod reference;
 pub mod rng;
 pub mod samples;
 pub mod sheet;
+pub mod sheet_text;
+pub mod small_stack;

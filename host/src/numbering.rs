@@ -17,6 +17,18 @@ pub enum Numbering {
     Shuffled(u64),
 }
 
+impl Numbering {
+    /// One of the orders, drawn.
+    pub fn any(rng: &mut Rng) -> Numbering {
+        match rng.below(4) {
+            0 => Numbering::Preorder,
+            1 => Numbering::LastRuleFirst,
+            2 => Numbering::Interleaved,
+            _ => Numbering::Shuffled(rng.draw()),
+        }
+    }
+}
+
 /// The image of a grammar as bytes.
 pub fn image_of(grammar: &Grammar, numbering: Numbering) -> Vec<u8> {
     words_of(grammar, numbering).to_bytes()

@@ -45,7 +45,18 @@ pub const M9: [u8; 18] = [
     0x10, 0x00, 0x00, 0x00, // 2: any byte
 ];
 
-pub const SAMPLES: [Sample; 4] = [
+/// S = ("(" then S) else empty. A text of k brackets has nesting 3 × k + 3.
+pub const M10: [u8; 26] = [
+    0x10, 0x10, 0x05, 0x00, // edition 1, 1 rule, 5 nodes, start 0
+    0x00, 0x00, // root 0
+    0x40, 0x00, 0x10, 0x04, // 0: node 1, else node 4
+    0x30, 0x00, 0x20, 0x03, // 1: node 2 then node 3
+    0x20, 0x02, 0x80, 0x28, // 2: 0x28
+    0x70, 0x00, 0x00, 0x00, // 3: rule 0
+    0x00, 0x00, 0x00, 0x00, // 4: empty
+];
+
+pub const SAMPLES: [Sample; 5] = [
     Sample {
         name: "D2",
         about: "digits",
@@ -69,5 +80,11 @@ pub const SAMPLES: [Sample; 4] = [
         about: "star over not a byte",
         image: &M9,
         number: 6,
+    },
+    Sample {
+        name: "M10",
+        about: "S = (\"(\" then S) else empty",
+        image: &M10,
+        number: 0,
     },
 ];

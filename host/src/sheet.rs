@@ -1,7 +1,7 @@
 //! A grammar of the usual size: a sheet of gaps in meter data.
 //!
-//! A sheet has a title line, then comments, blank lines and entries. An entry has a meter's name, two
-//! times and values; a question mark stands for a value that is missing.
+//! A sheet has a title line, then comments, blank lines and entries. An entry has a name, which is a
+//! meter's or a colour's, two times and values; a question mark stands for a value that is missing.
 
 use crate::expr::{byte, choice, not, or_else, sequence, star, then, Expr, Grammar};
 use Expr::{AnyByte, Bytes, Call, Empty};

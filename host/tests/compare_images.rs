@@ -2,12 +2,12 @@
 
 mod support;
 
-use bannelgo_host::generate::{change_one_node, guarded, wild, TASTES};
+use bannelgo_host::generate::{change_one_node, each_grammar, guarded, wild, TASTES};
 use bannelgo_host::numbering::{image_of, Numbering};
 use bannelgo_host::reference;
 use bannelgo_host::rng::Rng;
 use std::io::Write;
-use support::random::{any_numbering, size};
+use support::random::size;
 use support::{chains, damage, exhaustive, headers, least_sets, random, tally};
 
 #[test]
@@ -45,7 +45,7 @@ fn rings_decide_the_well_formed_set() {
         assert_eq!(number, least_sets::check(image), "image {image:02x?}");
         counts[number as usize] += 1;
     };
-    exhaustive::each_grammar(2, 6, &mut |grammar| {
+    each_grammar(2, 6, &exhaustive::LEAVES, &mut |grammar| {
         ask(&image_of(grammar, Numbering::Preorder))
     });
     let rng = &mut Rng::new(seed);
@@ -60,7 +60,7 @@ fn rings_decide_the_well_formed_set() {
                 grammar
             }
         };
-        ask(&image_of(&grammar, any_numbering(rng)));
+        ask(&image_of(&grammar, Numbering::any(rng)));
     }
     writeln!(
         std::io::stdout(),

@@ -1,8 +1,9 @@
 //! Images whose numbers are worked out by hand, checked by both checkers.
 
 use bannelgo_host::expr::{byte, not, or_else, star, then, Expr, Grammar};
-use bannelgo_host::image_check::{check_image, question_in_words};
+use bannelgo_host::image_check::check_image;
 use bannelgo_host::numbering::{image_of, Numbering};
+use bannelgo_host::questions::question_in_words;
 use bannelgo_host::reference;
 use bannelgo_host::samples::{D2, SAMPLES};
 
@@ -132,8 +133,9 @@ fn threads_get_the_same_answers() {
 
 #[test]
 fn every_number_has_its_own_words() {
-    let mut words: Vec<&str> = (0..=8).map(question_in_words).collect();
+    // 9 stands for the numbers that no call gives.
+    let mut words: Vec<&str> = (0..=9).chain([13, 14]).map(question_in_words).collect();
     words.sort_unstable();
     words.dedup();
-    assert_eq!(words.len(), 9);
+    assert_eq!(words.len(), 12);
 }

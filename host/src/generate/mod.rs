@@ -1,11 +1,19 @@
-//! Random grammars of a stated number of rules and nodes.
+//! Grammars of a stated number of rules and nodes, texts for them, and changes in both.
 
 mod change;
+mod every;
+mod fields;
 mod guarded;
+mod letters;
+mod texts;
 mod wild;
 
 pub use change::change_one_node;
+pub use every::each_grammar;
+pub use fields::{change_field, set_bits, set_root};
 pub use guarded::guarded;
+pub use letters::{fold_to_letters, letter, some_letters};
+pub use texts::{damage, text_of};
 pub use wild::{wild, Taste, TASTES};
 
 use crate::expr::{byte, Expr};

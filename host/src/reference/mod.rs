@@ -1,26 +1,45 @@
-//! An image checker written apart from the proved one, for comparison.
+//! An image checker and a recogniser written apart from the proved ones, for comparison.
 //!
-//! It reads each rule into a tree, keeps one outcome set per rule, and answers question 7 by a
-//! search for a ring of rules. The proved checker works on node numbers and two loops of rounds.
+//! The checker reads each rule into a tree, keeps one outcome set per rule, and answers question 7
+//! by a search for a ring of rules. The proved checker works on node numbers and two loops of
+//! rounds.
+//!
+//! The recogniser works on the trees with a stack of its own and keeps what each rule gave at each
+//! position; it reads at any depth. `recursive` is a second one, which follows the paper's sentences
+//! without keeping anything.
 
 mod header;
+pub mod machine;
 mod occurrences;
 mod outcomes;
+mod reading;
+pub mod recursive;
 mod rings;
 mod top_bits;
 mod trees;
 mod words;
 
+pub use reading::read;
+
 use crate::expr::Grammar;
 
-/// The number of the first question that an image fails.
+/// The number of the first question that an image or a text fails.
 pub type Refusal = u64;
 
 /// The number of the first of the questions 1 to 7 that the image fails, 0 where it passes all.
 pub fn check(image: &[u8]) -> u64 {
-    match read_grammar(image) {
+    match accepted_grammar(image) {
         Err(number) => number,
-        Ok(grammar) => check_grammar(&grammar),
+        Ok(_) => 0,
+    }
+}
+
+/// Asks the questions 1 to 7.
+pub fn accepted_grammar(image: &[u8]) -> Result<Grammar, Refusal> {
+    let grammar = read_grammar(image)?;
+    match check_grammar(&grammar) {
+        0 => Ok(grammar),
+        number => Err(number),
     }
 }
 

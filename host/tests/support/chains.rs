@@ -1,6 +1,5 @@
 //! Rules that call one another in rings and chains, and trees as deep as an image allows.
 
-use super::random::any_numbering;
 use super::tally::Tally;
 use bannelgo_host::big_images::{blocks, relay};
 use bannelgo_host::expr::{byte, not, or_else, star, then, Expr, Grammar};
@@ -14,7 +13,7 @@ pub fn rings(seed: u64) -> Tally {
     let rng = &mut Rng::new(seed);
     for _ in 0..20_000 {
         let grammar = ring(rng);
-        tally.compare(&image_of(&grammar, any_numbering(rng)));
+        tally.compare(&image_of(&grammar, Numbering::any(rng)));
     }
     tally
 }

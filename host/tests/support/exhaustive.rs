@@ -1,7 +1,8 @@
 //! Every image of a small kind: words with all small fields, and trees of all shapes.
 
 use super::tally::Tally;
-use bannelgo_host::expr::{not, or_else, star, then, Expr, Grammar};
+use bannelgo_host::expr::Expr;
+use bannelgo_host::generate::each_grammar;
 use bannelgo_host::image_words::{node_word, ImageWords};
 use bannelgo_host::numbering::{image_of, Numbering};
 
@@ -61,67 +62,18 @@ pub fn lawful_words() -> Tally {
     tally
 }
 
+/// The leaves of small grammars, besides calls.
+pub const LEAVES: [Expr; 2] = [Expr::Empty, Expr::AnyByte];
+
 /// Every grammar of 1, 2 or 3 rules with few nodes in all.
 pub fn small_grammars() -> Tally {
     let mut tally = Tally::listed("all grammars of 1 to 3 rules");
     for (rules, nodes) in [(1, 7), (2, 6), (3, 6)] {
-        each_grammar(rules, nodes, &mut |grammar| {
+        each_grammar(rules, nodes, &LEAVES, &mut |grammar| {
             tally.compare(&image_of(grammar, Numbering::Preorder));
         });
     }
     tally
-}
-
-/// Gives `visit` every grammar with so many rules and at most so many nodes.
-pub fn each_grammar(rules: usize, most_nodes: usize, visit: &mut impl FnMut(&Grammar)) {
-    let trees = trees_by_size(most_nodes, rules);
-    let mut grammar = Grammar {
-        start: 0,
-        rules: vec![],
-    };
-    extend(&trees, rules, most_nodes, &mut grammar, visit);
-}
-
-fn extend(
-    trees: &[Vec<Expr>],
-    missing: usize,
-    nodes_left: usize,
-    grammar: &mut Grammar,
-    visit: &mut impl FnMut(&Grammar),
-) {
-    if missing == 0 {
-        return visit(grammar);
-    }
-    for size in 1..=nodes_left + 1 - missing {
-        for tree in &trees[size] {
-            grammar.rules.push(tree.clone());
-            extend(trees, missing - 1, nodes_left - size, grammar, visit);
-            grammar.rules.pop();
-        }
-    }
-}
-
-/// All trees over empty, any byte and the calls; the place in the list is the number of nodes.
-fn trees_by_size(most_nodes: usize, rules: usize) -> Vec<Vec<Expr>> {
-    let mut leaves = vec![Expr::Empty, Expr::AnyByte];
-    leaves.extend((0..rules).map(|rule| Expr::Call(rule as u8)));
-    let mut trees = vec![vec![], leaves];
-    for size in 2..=most_nodes {
-        let mut found = vec![];
-        for a in &trees[size - 1] {
-            found.extend([star(a.clone()), not(a.clone())]);
-        }
-        for left in 1..size - 1 {
-            for a in &trees[left] {
-                for b in &trees[size - 1 - left] {
-                    found.push(then(a.clone(), b.clone()));
-                    found.push(or_else(a.clone(), b.clone()));
-                }
-            }
-        }
-        trees.push(found);
-    }
-    trees
 }
 
 /// Gives `visit` every list of lawful node words; ranges of bytes are left out.

@@ -13,15 +13,6 @@ pub fn size(rng: &mut Rng, most_nodes: usize) -> (usize, usize) {
     (rules, (rules + more).min(most_nodes.max(rules)))
 }
 
-pub fn any_numbering(rng: &mut Rng) -> Numbering {
-    match rng.below(4) {
-        0 => Numbering::Preorder,
-        1 => Numbering::LastRuleFirst,
-        2 => Numbering::Interleaved,
-        _ => Numbering::Shuffled(rng.draw()),
-    }
-}
-
 /// Grammars that pass by the way they are made.
 pub fn accepted(seed: u64) -> Tally {
     let mut tally = Tally::drawn("guarded grammars", seed);
@@ -29,7 +20,7 @@ pub fn accepted(seed: u64) -> Tally {
     for _ in 0..15_000 {
         let (rules, nodes) = size(rng, 1024);
         let grammar = guarded(rng, rules, nodes);
-        let image = image_of(&grammar, any_numbering(rng));
+        let image = image_of(&grammar, Numbering::any(rng));
         assert_eq!(tally.compare(&image), 0, "guarded grammars are accepted");
     }
     tally
@@ -44,7 +35,7 @@ pub fn nearly_accepted(seed: u64) -> Tally {
         let mut grammar = guarded(rng, rules, nodes);
         for _ in 0..3 {
             change_one_node(rng, &mut grammar);
-            tally.compare(&image_of(&grammar, any_numbering(rng)));
+            tally.compare(&image_of(&grammar, Numbering::any(rng)));
         }
     }
     tally
@@ -57,7 +48,7 @@ pub fn careless(seed: u64) -> Tally {
     for _ in 0..20_000 {
         let (rules, nodes) = size(rng, 200);
         let grammar = careless_grammar(rng, rules, nodes);
-        tally.compare(&image_of(&grammar, any_numbering(rng)));
+        tally.compare(&image_of(&grammar, Numbering::any(rng)));
     }
     tally
 }

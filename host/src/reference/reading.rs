@@ -1,0 +1,37 @@
+//! A plain reading from what the machine found: questions 8 and 14, and whole, part or nothing.
+
+use super::machine::evaluate_start;
+use super::Refusal;
+use crate::expr::Grammar;
+use crate::plain_reading::{Outcome, Reading};
+
+/// The longest text that is read. Question 8 of a plain reading.
+pub const LONGEST_TEXT: usize = 65_535;
+
+/// The greatest nesting that is answered. Question 14.
+pub const MOST_NESTING: usize = 4_096;
+
+/// Reads `text` by an accepted grammar: a reading, or 8 or 14.
+///
+/// Nothing where a reading without records makes more than `most_work` evaluations.
+pub fn read(grammar: &Grammar, text: &[u8], most_work: u64) -> Option<Result<Reading, Refusal>> {
+    if text.len() > LONGEST_TEXT {
+        return Some(Err(8));
+    }
+    let found = evaluate_start(grammar, text, most_work)?;
+    if found.nesting > MOST_NESTING {
+        return Some(Err(14));
+    }
+    let outcome = match found.end {
+        None => Outcome::Nothing,
+        Some(end) if end < text.len() => Outcome::Part,
+        Some(_) => Outcome::Whole,
+    };
+    // The start pair begins at position 0, so that positions are lengths.
+    Some(Ok(Reading {
+        outcome,
+        length: found.end.unwrap_or(0),
+        examined: found.reach,
+        nesting: found.nesting,
+    }))
+}

@@ -1,0 +1,51 @@
+//! Texts that the grammar in `sheet` matches whole.
+
+/// What a planner types: a title, comments, and gaps with a colour, two times and values.
+pub const PLANNERS_SHEET: &str = "\
+GAPS North_3
+# Week 11. Red is estimated, amber is copied from the week before, grey is open.
+amber;  06:15:00 / 07:00:00;  12.4, 12.9, 13.1
+red;    09:30:00 / 10:00:00;  8.75, ?
+grey;   13:45:00 / 14:00:00;  ?
+
+# The meter was changed at 16:20.
+red;    16:15:00 / 17:00:00;  0, -0.25, +4
+";
+
+const TITLE: &str = "GAPS North_3\n";
+
+const COLOURS: [&str; 5] = ["amber", "red", "grey", "green", "light_blue"];
+
+/// A sheet of exactly so many bytes, at least 15 of them. The last line is a comment that fills up.
+pub fn long_sheet(bytes: usize) -> Vec<u8> {
+    let mut text = TITLE.to_string();
+    for number in 0.. {
+        let line = line(number);
+        if text.len() + line.len() + "#\n".len() > bytes {
+            break;
+        }
+        text += &line;
+    }
+    let filling = bytes - text.len() - "#\n".len();
+    text += &format!("#{}\n", "-".repeat(filling));
+    text.into_bytes()
+}
+
+/// Of every eight lines one is a comment, one is blank, and the others are entries.
+fn line(number: usize) -> String {
+    match number % 8 {
+        0 => format!("# Day {}: values from the field unit.\n", number / 8 + 1),
+        5 => "\n".to_string(),
+        _ => entry(number),
+    }
+}
+
+fn entry(number: usize) -> String {
+    let colour = COLOURS[number % COLOURS.len()];
+    let (hour, minute) = (number % 23, number % 4 * 15);
+    let (whole, hundredths) = (number % 97, number * 7 % 100);
+    format!(
+        "{colour}; {hour:02}:{minute:02}:00 / {:02}:{minute:02}:00; {whole}.{hundredths:02}, ?, -{whole}\n",
+        hour + 1
+    )
+}
