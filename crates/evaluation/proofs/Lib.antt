@@ -5,3 +5,4 @@ pub mod Plain
 pub mod Totality
 pub mod Locality
 pub mod CallLocality
+pub mod Bodies

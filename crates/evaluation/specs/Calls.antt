@@ -47,3 +47,23 @@ pub data Reached (img text : List ℕ) : Pair → Type 0 where
       → (u : Fresh img text (a-node (body img (x .rule))) (x .position) z)
       → In y (callsOf u)
       → Reached img text y
+
+-- The pairs whose body is evaluated in an evaluation, in order and as often as it is: called pairs that are answered by their body,
+-- those called in turn included, and not those that a record answers.
+unfoldable pub bodiesOf :
+    {img text : List ℕ} {answers : ℕ → ℕ → CallAnswer} {s : Subject} {p : ℕ} {z : Evaluation}
+    → Evaluates img text answers s p z
+    → List Pair
+bodiesOf (ev-empty e) = []
+bodiesOf (ev-terminal e) = []
+bodiesOf (ev-then-first-fails u m e) = bodiesOf u
+bodiesOf (ev-then u m v e) = bodiesOf u ++ bodiesOf v
+bodiesOf (ev-else-first u m e) = bodiesOf u
+bodiesOf (ev-else-second u m v e) = bodiesOf u ++ bodiesOf v
+bodiesOf (ev-star u e) = bodiesOf u
+bodiesOf (ev-last-round u m e) = bodiesOf u
+bodiesOf (ev-round u m v e) = bodiesOf u ++ bodiesOf v
+bodiesOf (ev-not u e) = bodiesOf u
+bodiesOf (ev-call u e) = bodiesOf u
+bodiesOf {p = p} (ev-body {r} q u) = record { rule = r; position = p } ∷ bodiesOf u
+bodiesOf (ev-record q) = []
