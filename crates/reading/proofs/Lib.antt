@@ -4,7 +4,6 @@ pub mod Gives
 pub mod Runs
 pub mod Stars
 pub mod Rules
-pub mod Allowance
 pub mod PlainReading
 pub mod Coding
 pub mod Consuming

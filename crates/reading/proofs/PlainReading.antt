@@ -1,4 +1,4 @@
--- The plain reading: from the start pair's word to what is promised. Totality gives the evaluation, allowance says which case it is.
+-- The plain reading: from the start pair's word to what is promised. Totality gives the evaluation, its nesting says which case it is.
 -- Assumes nothing.
 use Prim.Native.Nat.{ℕ, _≤_, _<_, _^_}
 use native.Mathlib.Omega.{arith}
@@ -28,7 +28,9 @@ use Rattle.reading.specs.Model.{Answer, answered, refused, Out, out, nod
 use Rattle.reading.specs.Gives.{Gives}
 use Rattle.reading.specs.Plain.{Says, Reports, ShortText, DepthAllowed, TooDeep, ofPlain, PlainRead, outcomeOf, readingOf, StartWord, Reported}
 use Rattle.reading.proofs.Gives.{found, was-refused, says}
-use Rattle.reading.proofs.Allowance.{Result, fine, deep, pair-allowance}
+use Rattle.reading.specs.Over.{over, Over}
+use Rattle.reading.proofs.Grown.{grown-none}
+use Rattle.reading.proofs.OverTables.{Result, fine, deep, pair-over}
 
 -- What a reading reports.
 reported : (n : ℕ) (z : Evaluation) → z .length ≤ n → Reports n z (readingOf n z)
@@ -77,18 +79,28 @@ module _ (img text : List ℕ) where
       start-exists : Exists img text (a-pair (start img)) 0
       start-exists = let a = accepted c in total-pair img text a (start img) (a .lawful .counts .start-rule) 0 (omega arith)
 
-      -- The evaluation of the start pair and what the evaluator gave of it.
-      result : Result (ruleM img text (nodeM img text 4096) 4096 (start img) 0 [] 0) (start-exists .value) 4096
-      result = pair-allowance img text (start img) 0 (start-exists .evaluated) (omega arith) 4096 0
+      -- Over no records every pair is answered by its body.
+      start-over : Over img text [] (a-pair (start img)) 0 (start-exists .value)
+      unfolding over
+      start-over = start-exists .evaluated
+
+      -- What the evaluator gave of the start pair's evaluation.
+      abbrev Given : Type 0
+      Given = Result img text [] (accepted c .lawful .words) short (ruleM img text (nodeM img text 4096) 4096 (start img) 0 [] 0) (start-exists .value) 4096
+
+      given : Given
+      given =
+          let l = accepted c .lawful in
+          pair-over img text [] (l .words) short (start img) 0 start-over (l .counts .start-rule) (omega arith) 4096 (omega arith) [] (grown-none img text []) 0
 
       pub depth-refused : word < 2 ^ 63 → PlainRead img text (Refused 14)
-      depth-refused h = go result
+      depth-refused h = go given
         where
-          go : Result (ruleM img text (nodeM img text 4096) 4096 (start img) 0 [] 0) (start-exists .value) 4096 → PlainRead img text (Refused 14)
-          go (fine d k e) =
+          go : Given → PlainRead img text (Refused 14)
+          go (fine t d k g e) =
               let f = was-refused short (omega arith) (s .gives) h in
               absurd (let z : _≡_ {A = ℕ} 0 1 = cc (f .is, e) in omega arith)
-          go (deep d k e) =
+          go (deep t d k e) =
               record {
                 first =
                     then-asked (ofImage img) last-two 14 (numbers img) (c .first)
@@ -106,13 +118,13 @@ module _ (img text : List ℕ) where
               }
 
       pub answered-reading : 2 ^ 63 ≤ word → (x : Reading) → x ≡ readingOf (length text) (valueOf word) → PlainRead img text (Read x)
-      answered-reading h x ex = go result
+      answered-reading h x ex = go given
         where
-          go : Result (ruleM img text (nodeM img text 4096) 4096 (start img) 0 [] 0) (start-exists .value) 4096 → PlainRead img text (Read x)
-          go (deep d k e) =
+          go : Given → PlainRead img text (Read x)
+          go (deep t d k e) =
               let f = found short (omega arith) (s .gives) h in
               absurd (let z : _≡_ {A = ℕ} 0 1 = cc (f .is, e) in omega arith)
-          go (fine d k e) =
+          go (fine t d k g e) =
               let f = found short (omega arith) (s .gives) h in
               let same : f .value ≡ start-exists .value = cc (f .is, e) in
               let word-says : valueOf word ≡ start-exists .value = says short (omega arith) f ∙ same in
