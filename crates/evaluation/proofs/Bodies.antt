@@ -11,7 +11,7 @@ use Rattle.grammar.specs.Evaluates.{ev-empty, ev-terminal, ev-then-first-fails,
 use Rattle.grammar.specs.Evaluates.{ev-star, ev-last-round, ev-round, ev-not, ev-call, ev-body, ev-record}
 use Rattle.evaluation.specs.Calls.{Pair, In, here, later, bodiesOf}
 
-none-in : {x : Pair} → In x [] → ⊥
+pub none-in : {x : Pair} → In x [] → ⊥
 none-in = elim [ ]
 
 pub in-either : {x : Pair} (xs ys : List Pair) → In x (xs ++ ys) → In x xs ⊎ In x ys

@@ -8,5 +8,6 @@ pub mod PlainReading
 pub mod Coding
 pub mod Consuming
 pub mod Slots
+pub mod Gain
 pub mod Grown
 pub mod OverTables

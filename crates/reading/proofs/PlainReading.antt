@@ -28,6 +28,7 @@ use Rattle.reading.specs.Model.{Answer, answered, refused, Out, out, nod
 use Rattle.reading.specs.Gives.{Gives}
 use Rattle.reading.specs.Plain.{Says, Reports, ShortText, DepthAllowed, TooDeep, ofPlain, PlainRead, outcomeOf, readingOf, StartWord, Reported}
 use Rattle.reading.proofs.Gives.{found, was-refused, says}
+use Rattle.evaluation.specs.Calls.{bodiesOf}
 use Rattle.reading.specs.Over.{over, Over}
 use Rattle.reading.proofs.Grown.{grown-none}
 use Rattle.reading.proofs.OverTables.{Result, fine, deep, pair-over}
@@ -86,7 +87,7 @@ module _ (img text : List ℕ) where
 
       -- What the evaluator gave of the start pair's evaluation.
       abbrev Given : Type 0
-      Given = Result img text [] (accepted c .lawful .words) short (ruleM img text (nodeM img text 4096) 4096 (start img) 0 [] 0) (start-exists .value) 4096
+      Given = Result img text [] (accepted c .lawful .words) short (ruleM img text (nodeM img text 4096) 4096 (start img) 0 [] 0) (start-exists .value) 4096 [] 0 (bodiesOf start-over)
 
       given : Given
       given =
@@ -97,7 +98,7 @@ module _ (img text : List ℕ) where
       depth-refused h = go given
         where
           go : Given → PlainRead img text (Refused 14)
-          go (fine t d k g e) =
+          go (fine t d k g i e) =
               let f = was-refused short (omega arith) (s .gives) h in
               absurd (let z : _≡_ {A = ℕ} 0 1 = cc (f .is, e) in omega arith)
           go (deep t d k e) =
@@ -124,7 +125,7 @@ module _ (img text : List ℕ) where
           go (deep t d k e) =
               let f = found short (omega arith) (s .gives) h in
               absurd (let z : _≡_ {A = ℕ} 0 1 = cc (f .is, e) in omega arith)
-          go (fine t d k g e) =
+          go (fine t d k g i e) =
               let f = found short (omega arith) (s .gives) h in
               let same : f .value ≡ start-exists .value = cc (f .is, e) in
               let word-says : valueOf word ≡ start-exists .value = says short (omega arith) f ∙ same in
