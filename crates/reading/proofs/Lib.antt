@@ -11,3 +11,4 @@ pub mod Slots
 pub mod Gain
 pub mod Grown
 pub mod OverTables
+pub mod TrueTables

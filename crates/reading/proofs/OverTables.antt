@@ -47,7 +47,7 @@ record-held true true w e = (refl, refl, cc)
 record-held true false w e = absurd (let z : _≡_ {A = ℕ} 0 1 = cc in omega arith)
 
 -- An evaluation in its bounds has a possible word.
-word-possible : (x : Evaluation) (p n : ℕ) → n ≤ 65535 → Within n p x → x .nesting ≤ 4096 → InRange x × IsPossible (wordOf x) p n
+pub word-possible : (x : Evaluation) (p n : ℕ) → n ≤ 65535 → Within n p x → x .nesting ≤ 4096 → InRange x × IsPossible (wordOf x) p n
 word-possible x p n short w k =
     let r : InRange x =
     record { nesting-fits = omega arith; examined-fits = omega (arith, w .up-to-end); length-fits = omega (arith, w .in-text) } in

@@ -4,3 +4,4 @@ pub mod Model
 pub mod Gives
 pub mod Code
 pub mod Over
+pub mod True
