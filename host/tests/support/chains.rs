@@ -138,14 +138,7 @@ pub fn relays(seed: u64) -> Tally {
     for rules in 3..=63 {
         for ending in 0..6 {
             let grammar = relay_with_ending(rules, ending);
-            for numbering in [
-                Numbering::Preorder,
-                Numbering::LastRuleFirst,
-                Numbering::Interleaved,
-                Numbering::Shuffled(rng.draw()),
-            ] {
-                tally.compare(&image_of(&grammar, numbering));
-            }
+            tally.compare_orders(&grammar, rng);
         }
     }
     for grammar in [relay(64), blocks(), sheet()] {

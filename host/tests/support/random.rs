@@ -73,14 +73,7 @@ pub fn full_size(seed: u64) -> Tally {
             }
             _ => careless_grammar(rng, rules, 1024),
         };
-        for numbering in [
-            Numbering::Preorder,
-            Numbering::LastRuleFirst,
-            Numbering::Interleaved,
-            Numbering::Shuffled(rng.draw()),
-        ] {
-            tally.compare(&image_of(&grammar, numbering));
-        }
+        tally.compare_orders(&grammar, rng);
     }
     tally
 }

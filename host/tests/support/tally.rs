@@ -1,7 +1,10 @@
 //! Compares the two checkers image by image and counts the numbers.
 
+use bannelgo_host::expr::Grammar;
 use bannelgo_host::image_check::check_image;
+use bannelgo_host::numbering::{image_of, Numbering};
 use bannelgo_host::reference;
+use bannelgo_host::rng::Rng;
 use std::io::Write;
 
 /// The counts of one family of images.
@@ -44,6 +47,18 @@ impl Tally {
                 .get_or_insert_with(|| mismatch(image, ours, reference));
         }
         reference
+    }
+
+    /// Compares a grammar's image in each order of its nodes, the last one drawn.
+    pub fn compare_orders(&mut self, grammar: &Grammar, rng: &mut Rng) {
+        for numbering in [
+            Numbering::Preorder,
+            Numbering::LastRuleFirst,
+            Numbering::Interleaved,
+            Numbering::Shuffled(rng.draw()),
+        ] {
+            self.compare(&image_of(grammar, numbering));
+        }
     }
 }
 
