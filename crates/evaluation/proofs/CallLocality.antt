@@ -9,10 +9,8 @@ use Rattle.grammar.specs.Evaluates.{ev-empty, ev-terminal, ev-then-first-fails,
 use Rattle.grammar.specs.Evaluates.{ev-star, ev-last-round, ev-round, ev-not, ev-call, ev-body, ev-record}
 use Rattle.evaluation.specs.Calls.{Pair, callsOf}
 use Rattle.evaluation.proofs.Locality.{prefix-decides, moved}
+use Rattle.evaluation.proofs.Pairs.{one-by-one}
 use Rattle.evaluation.proofs.Plain.{no-record}
-
-one-by-one : {us vs xs ys : List Pair} → us ≡ xs → vs ≡ ys → us ++ vs ≡ xs ++ ys
-one-by-one {vs = vs} {xs = xs} a b = ap (λ (l : List Pair). l ++ vs) a ∙ ap (λ (l : List Pair). xs ++ l) b
 
 module _ (img text other : List ℕ) (answers : ℕ → ℕ → CallAnswer) (m : ℕ)
     (in-text : m ≤ length text) (in-other : m ≤ length other) (agree : take m text ≡ take m other)

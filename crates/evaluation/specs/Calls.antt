@@ -1,7 +1,9 @@
 -- The pairs that an evaluation calls, and the pairs that a reading reaches.
 use Prim.Native.Nat.{ℕ, _+_}
 use mathlib.Core.Path.{_≡_}
+use mathlib.Core.Bool.{Bool, true, false, _&&_, _||_}
 use mathlib.Core.List.{List, [], _∷_, _++_}
+use lib.Dec.{eqb}
 use Rattle.grammar.specs.declared.Evaluation.{Evaluation}
 use Rattle.grammar.specs.Image.{start, body}
 use Rattle.grammar.specs.Evaluates.{Evaluates, Fresh, Subject, CallAnswer, a-node}
@@ -37,6 +39,11 @@ callsOf (ev-record q) = []
 pub data In (x : Pair) : List Pair → Type 0 where
   here : {xs : List Pair} → In x (x ∷ xs)
   later : {y : Pair} {xs : List Pair} → In x xs → In x (y ∷ xs)
+
+-- Whether it is.
+unfoldable pub isIn : (rule position : ℕ) → List Pair → Bool
+isIn r q [] = false
+isIn r q (x ∷ xs) = eqb (x .rule) r && eqb (x .position) q || isIn r q xs
 
 -- "(start, 0) is reached; so is each pair called while a reached pair's body is evaluated."
 pub data Reached (img text : List ℕ) : Pair → Type 0 where

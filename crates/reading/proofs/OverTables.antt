@@ -30,8 +30,10 @@ use Rattle.reading.specs.Model.{Answer, answered, refused, Out, out, Eva
 use Rattle.reading.specs.Model.{met, looked, ruleM, kindM, nodeM}
 use Rattle.reading.specs.Over.{wordAt, taken, over, Over}
 use Rattle.evaluation.specs.Calls.{Pair, In, here, later, bodiesOf}
-use Rattle.evaluation.proofs.Bodies.{shallower, in-either, none-in}
-use Rattle.reading.proofs.Gain.{Gain, gain-none, gain-then, gain-among, gain-store}
+use Rattle.evaluation.proofs.Pairs.{in-either, in-left, in-right, none-in}
+use Rattle.evaluation.proofs.Bodies.{shallower}
+use Rattle.reading.specs.Stores.{Room}
+use Rattle.reading.proofs.Gain.{Gain, AllHeld, gain-none, gain-then, gain-among, gain-store, only-pair}
 use Rattle.reading.proofs.Grown.{Slot, kept, stored, Grown, grown-store}
 use Rattle.reading.proofs.Rules.{possible-within}
 
@@ -127,14 +129,15 @@ module _ (img text table : List ℕ) (words : Question4 img) (short : length tex
   meets :
       (w : ℕ) (p left : ℕ) (t : List ℕ) (c : ℕ) (ps : List Pair)
       → Grown img text table t
+      → (Room img text t → AllHeld img t ps)
       → possible w p (length text) ≡ true
       → Result (met (possible w p (length text)) (leb (nestingOf w) left) w t c) (valueOf w) left t c ps
   unfolding met valueOf
-  meets w p left t c ps g e = go (decLe (nestingOf w) left)
+  meets w p left t c ps g a e = go (decLe (nestingOf w) left)
     where
       go : Dec (nestingOf w ≤ left) → Result (met (possible w p (length text)) (leb (nestingOf w) left) w t c) (valueOf w) left t c ps
       go (yes k) =
-          fine t c k g (gain-none img text t c ps)
+          fine t c k g (gain-none img text t c ps a)
           (ap (λ (b : Bool). met b (leb (nestingOf w) left) w t c) e ∙ ap (λ (b : Bool). met true b w t c) (le-leb (nestingOf w) left k))
       go (no k) =
           let l : left < nestingOf w = omega (arith, k) in
@@ -144,12 +147,13 @@ module _ (img text table : List ℕ) (words : Question4 img) (short : length tex
   pair-met :
       (r p left : ℕ) (t : List ℕ) (c : ℕ) (ps : List Pair)
       → Grown img text table t
+      → (Room img text t → AllHeld img t ps)
       → isHeld (wordAt img t r p) ≡ true
       → possible (wordAt img t r p) p (length text) ≡ true
       → Result (ruleM img text (nodeM img text left) left r p t c) (valueOf (wordAt img t r p)) left t c ps
   unfolding ruleM looked
-  pair-met r p left t c ps g h e =
-      same (ap (λ (b : Bool). looked b img text (nodeM img text left) left r p t c) h) (meets (wordAt img t r p) p left t c ps g e)
+  pair-met r p left t c ps g a h e =
+      same (ap (λ (b : Bool). looked b img text (nodeM img text left) left r p t c) h) (meets (wordAt img t r p) p left t c ps g a e)
 
   -- What is shown of each subject: for every allowance of at most 4,096, every table grown from the first and every count.
   abbrev Runs : (ℕ → List ℕ → ℕ → Out) → Evaluation → List Pair → Type 0
@@ -211,12 +215,13 @@ module _ (img text table : List ℕ) (words : Question4 img) (short : length tex
       → r < rules img
       → p ≤ length text
       → isHeld (wordAt img table r p) ≡ false
-      → Over img text table (a-pair r) p z
+      → (v : Over img text table (a-pair r) p z)
+      → bodiesOf v ≡ record { rule = r; position = p } ∷ ps
       → (In (record { rule = r; position = p }) ps → ⊥)
       → Numbered (root img r) p z ps
       → Runs (λ left t c. ruleM img text (nodeM img text left) left r p t c) z (record { rule = r; position = p } ∷ ps)
   unfolding ruleM looked
-  body-of r p {z} {ps} l h e v not-inside k left most t g c = go (g .slots r p l h)
+  body-of r p {z} {ps} l h e v bodies not-inside k left most t g c = go (g .slots r p l h)
     where
       pair : Pair
       pair = record { rule = r; position = p }
@@ -225,18 +230,28 @@ module _ (img text table : List ℕ) (words : Question4 img) (short : length tex
       first-of here = here
       first-of (later y) = later (absurd (none-in y))
 
+      last-of-all : {x : Pair} → In x (pair ∷ ps) → In x (ps ++ pair ∷ [])
+      last-of-all here = in-right ps here
+      last-of-all (later y) = in-left (pair ∷ []) y
+
+      all-of : (t : List ℕ) → AllHeld img t (pair ∷ ps) → AllHeld img t (bodiesOf v)
+      all-of t a = subst (AllHeld img t) (sym bodies) a
+
       after : isHeld (wordAt img t r p) ≡ false → Result (nodeM img text left (root img r) p t c) z left t c ps → Result (looked false img text (nodeM img text left) left r p t c) z left t c (pair ∷ ps)
       after unheld (deep u d j q) = deep u d j (ap (λ (o : Out). bind o (λ x u d. out (answered x) (set u (p * rules img + r) (wordOf x)) ((d + 1) % 2 ^ 64))) q)
       after unheld (fine u d j b i q) =
           let word = word-possible z p (length text) short (over-within v h) (omega arith) in
           let free : isHeld (wordAt img u r p) ≡ false =
-          ⊎-elim (λ x. ap isHeld x ∙ unheld) (λ x. absurd (not-inside x)) (i .only r p l h) in
-          let store = gain-store img text u d r p (wordOf z) l h free (le-leb (2 ^ 63) (wordOf z) (word-held z (word .0))) in
-          fine (set u (p * rules img + r) (wordOf z)) ((d + 1) % 2 ^ 64) j
-          (grown-store b l h e v (omega arith))
-          (gain-among img text (pair ∷ ps)
+          ⊎-elim (λ x. ap isHeld x ∙ unheld) (λ x. absurd (not-inside x)) (only-pair img text i r p l) in
+          let held = le-leb (2 ^ 63) (wordOf z) (word-held z (word .0)) in
+          let gained =
+          gain-among img text (pair ∷ ps)
           (λ x a. ⊎-elim (λ y. later y) (λ y. first-of y) (in-either ps (pair ∷ []) a))
-          (gain-then img text i store))
+          (λ x a. last-of-all a)
+          (gain-then img text i (gain-store img text u d r p (wordOf z) l h free held)) in
+          fine (set u (p * rules img + r) (wordOf z)) ((d + 1) % 2 ^ 64) j
+          (grown-store b l h e v (omega arith) held (λ m. all-of (set u (p * rules img + r) (wordOf z)) (gained .all (rw (g .as-long) m))))
+          gained
           (ap (λ (o : Out). bind o (λ x u d. out (answered x) (set u (p * rules img + r) (wordOf x)) ((d + 1) % 2 ^ 64))) q)
 
       go : Slot img text table t r p → Result (ruleM img text (nodeM img text left) left r p t c) z left t c (pair ∷ ps)
@@ -245,25 +260,27 @@ module _ (img text table : List ℕ) (words : Question4 img) (short : length tex
       go (stored x f u n w) =
           let q = word-possible x p (length text) short (over-within u h) n in
           let says : valueOf (wordAt img t r p) ≡ z = ap valueOf w ∙ value-back x (q .0) ∙ one img text (over img text table) u v in
+          let held = ap isHeld w ∙ le-leb (2 ^ 63) (wordOf x) (word-held x (q .0)) in
           of (sym says)
           (pair-met r p left t c (pair ∷ ps) g
-          (ap isHeld w ∙ le-leb (2 ^ 63) (wordOf x) (word-held x (q .0)))
+          (λ m. subst (AllHeld img t) bodies (g .inside (rw (sym (g .as-long)) m) r p l h e held z v))
+          held
           (ap (λ (k : ℕ). possible k p (length text)) w ∙ passes-test (wordOf x) p (length text) (q .1)))
 
   record-of :
-      (r p : ℕ) {z : Evaluation} (ps : List Pair)
+      (r p : ℕ) {z : Evaluation}
       → r < rules img
       → p ≤ length text
       → isHeld (wordAt img table r p) ≡ true
       → possible (wordAt img table r p) p (length text) ≡ true
       → z ≡ valueOf (wordAt img table r p)
-      → Runs (λ left t c. ruleM img text (nodeM img text left) left r p t c) z ps
-  record-of r p {z} ps l h e d s left most t g c = go (g .slots r p l h)
+      → Runs (λ left t c. ruleM img text (nodeM img text left) left r p t c) z []
+  record-of r p {z} l h e d s left most t g c = go (g .slots r p l h)
     where
-      go : Slot img text table t r p → Result (ruleM img text (nodeM img text left) left r p t c) z left t c ps
+      go : Slot img text table t r p → Result (ruleM img text (nodeM img text left) left r p t c) z left t c []
       go (kept w) =
           of (s ∙ ap valueOf (sym w))
-          (pair-met r p left t c ps g (ap isHeld w ∙ e) (ap (λ (k : ℕ). possible k p (length text)) w ∙ d))
+          (pair-met r p left t c [] g (λ m x i. absurd (none-in i)) (ap isHeld w ∙ e) (ap (λ (k : ℕ). possible k p (length text)) w ∙ d))
       go (stored x f u n w) = absurd (true≢false (sym e ∙ f))
 
   -- A pair is not evaluated inside its own body.
@@ -273,14 +290,14 @@ module _ (img text table : List ℕ) (words : Question4 img) (short : length tex
       → ⊥
   not-in-body q u i =
       let s = shallower u i in
-      let n = ap (λ (v : Evaluation). v .nesting) (one img text (over img text table) (s .evaluated) (ev-body q u)) in
+      let n = ap (λ (v : Evaluation). v .nesting) (one img text (over img text table) (ev-body (s .by) (s .inner)) (ev-body q u)) in
       omega (arith, s .below)
 
   gives : {s : Subject} {p : ℕ} {z : Evaluation} (u : Over img text table s p z) → p ≤ length text → Goal s p z (bodiesOf u)
   unfolding kindM afterFirst afterChoice body over bodiesOf
-  gives (ev-empty e) h = λ r l most t g c. of e (fine t c (omega arith) g (gain-none img text t c []) refl)
+  gives (ev-empty e) h = λ r l most t g c. of e (fine t c (omega arith) g (gain-none img text t c [] (λ m x i. absurd (none-in i))) refl)
   gives {p = p} (ev-terminal {t = m} e) h = λ r l most t g c.
-      of e (fine t c (omega (arith, shape m text p h .flat)) g (gain-none img text t c []) refl)
+      of e (fine t c (omega (arith, shape m text p h .flat)) g (gain-none img text t c [] (λ m x i. absurd (none-in i))) refl)
   gives {p = p} (ev-then-first-fails {a} {b} {x = x} u m e) h = λ r l most t g c.
       of e
       (next (numbered a p (r .0) (over-within u h .nested) (gives u h) l (omega arith) t g c) (λ x u d. afterFirst (x .matched) (nodeM img text l) b p x u d)
@@ -337,11 +354,12 @@ module _ (img text table : List ℕ) (words : Question4 img) (short : length tex
       body-of r p l h
       (body-unheld (isHeld (wordAt img table r p)) (possible (wordAt img table r p) p (length text)) (wordAt img table r p) q)
       (ev-body q u)
+      refl
       (not-in-body q u)
       (numbered (root img r) p (root-in-range img words r l) (over-within u h .nested) (gives u h))
   gives {p = p} (ev-record {r} q) h = λ l.
       let d = record-held (isHeld (wordAt img table r p)) (possible (wordAt img table r p) p (length text)) (wordAt img table r p) q in
-      record-of r p [] l h (d .0) (d .1) (d .2)
+      record-of r p l h (d .0) (d .1) (d .2)
 
   -- A pair over the table, for every allowance of at most 4,096.
   pub pair-over :

@@ -5,3 +5,5 @@ pub mod Gives
 pub mod Code
 pub mod Over
 pub mod True
+pub mod Stores
+pub mod Closed
