@@ -11,4 +11,5 @@ pub mod Slots
 pub mod Gain
 pub mod Grown
 pub mod OverTables
+pub mod Stores
 pub mod TrueTables

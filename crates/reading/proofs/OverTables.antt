@@ -38,7 +38,7 @@ use Rattle.reading.proofs.Grown.{Slot, kept, stored, Grown, grown-store
 use Rattle.reading.proofs.Rules.{possible-within}
 
 -- How a pair that is answered by its body, or by a record, stands in the table.
-body-unheld : (h q : Bool) (w : ℕ) → taken h q w ≡ by-body → h ≡ false
+pub body-unheld : (h q : Bool) (w : ℕ) → taken h q w ≡ by-body → h ≡ false
 body-unheld false q w e = refl
 body-unheld true true w e = absurd (let z : _≡_ {A = ℕ} 0 1 = cc in omega arith)
 body-unheld true false w e = absurd (let z : _≡_ {A = ℕ} 0 1 = cc in omega arith)
@@ -115,15 +115,14 @@ module _ (img text table : List ℕ) (words : Question4 img) (short : length tex
   of {o} {l = l} {t = t} {c = c} {ps = ps} e r = subst (λ (v : Evaluation). Result o v l t c ps) (sym e) r
 
   -- The evaluation over the table has its shape: a record that answers is possible.
-  pub over-within : {s : Subject} {p : ℕ} {z : Evaluation} → Over img text table s p z → p ≤ length text → Within (length text) p z
+  pub records-within : (r p : ℕ) (x : Evaluation) → p ≤ length text → over img text table r p ≡ by-record x → Within (length text) p x
   unfolding over
-  over-within u h =
-      within img text (over img text table)
-      (λ r p x h e.
+  records-within r p x h e =
       let d = record-held (isHeld (wordAt img table r p)) (possible (wordAt img table r p) p (length text)) (wordAt img table r p) e in
-      subst (Within (length text) p) (sym (d .2)) (possible-within (wordAt img table r p) p (length text) (says-possible (wordAt img table r p) p (length text) (d .1))))
-      u
-      h
+      subst (Within (length text) p) (sym (d .2)) (possible-within (wordAt img table r p) p (length text) (says-possible (wordAt img table r p) p (length text) (d .1)))
+
+  pub over-within : {s : Subject} {p : ℕ} {z : Evaluation} → Over img text table s p z → p ≤ length text → Within (length text) p z
+  over-within u h = within img text (over img text table) records-within u h
 
   -- A word that is met: its evaluation where the allowance covers it, else 14.
   meets :

@@ -1,6 +1,6 @@
 -- Tables that are true and closed under calls, which are those without foreign records: "words that aren't true, whose nesting is above
 -- 4,096 or whose called pairs are missing". And what a reading leaves over one.
-use Prim.Native.Nat.{ℕ, _+_, _*_, _≤_, _<_}
+use Prim.Native.Nat.{ℕ, _+_, _*_, _≤_, _<_, _^_}
 use mathlib.Core.Path.{_≡_}
 use mathlib.Core.Bool.{true, false, not, _&&_, _||_}
 use mathlib.Core.List.{List}
@@ -11,6 +11,7 @@ use Rattle.grammar.specs.Evaluates.{Fresh, a-node}
 use Rattle.evaluation.specs.Calls.{Pair, In, isIn, callsOf}
 use Rattle.evaluation.specs.Counts.{countPairs}
 use Rattle.records.specs.Words.{isHeld}
+use Rattle.reading.specs.Model.{answered, Out, out}
 use Rattle.reading.specs.Over.{wordAt}
 use Rattle.reading.specs.True.{TrueTable}
 
@@ -43,3 +44,11 @@ pub record Gains (img text before : List ℕ) (ps : List Pair) (after : List ℕ
 -- "Evaluations counts reached pairs not held before."
 abbrev pub newPairs : (img text before : List ℕ) → List Pair → ℕ
 newPairs img text before ps = countPairs (rules img) (length text + 1) (λ r q. isIn r q ps && not (isHeld (wordAt img before r q)))
+
+-- A run over such a table from a count, of a pair whose evaluation is z and evaluates the bodies of the pairs ps without records.
+pub record Reads (img text before : List ℕ) (count : ℕ) (z : Evaluation) (ps : List Pair) (o : Out) : Type 0 where
+  pub after : List ℕ
+  pub counted : ℕ
+  pub is : o ≡ out (answered z) after counted
+  pub gains : Gains img text before ps after
+  pub counts : count < 2 ^ 63 → counted ≡ count + newPairs img text before ps

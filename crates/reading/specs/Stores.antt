@@ -10,7 +10,7 @@ use Rattle.grammar.specs.Evaluates.{a-pair}
 use Rattle.evaluation.specs.Calls.{Pair, In, isIn}
 use Rattle.evaluation.specs.Counts.{countPairs}
 use Rattle.records.specs.Words.{wordOf}
-use Rattle.reading.specs.Model.{answered, Out, out}
+use Rattle.reading.specs.Model.{answered, refused, Out, out}
 use Rattle.reading.specs.Over.{wordAt, Over}
 
 -- The table has a slot for each rule at each position of the text.
@@ -45,3 +45,9 @@ pub record Determined (img text before : List ℕ) (count : ℕ) (z : Evaluation
   pub is : o ≡ out (answered z) after counted
   pub stores : Stores img text before ps after
   pub counts : count < 2 ^ 64 → counted ≡ (count + evaluations img text ps) % 2 ^ 64
+
+-- A run that is refused with a number.
+pub record RefusedWith (number : ℕ) (o : Out) : Type 0 where
+  pub after : List ℕ
+  pub counted : ℕ
+  pub is : o ≡ out (refused number) after counted
