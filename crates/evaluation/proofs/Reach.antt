@@ -2,8 +2,10 @@
 -- Assumes nothing.
 --     reached-in    a reached pair is among them
 --     in-reached    each of them is reached
+--     reached-is, is-reached    the same by the test
 use Prim.Native.Nat.{ℕ, _+_}
 use mathlib.Core.Path.{_≡_, refl, sym, subst}
+use mathlib.Core.Bool.{true}
 use mathlib.Core.List.{List, [], _∷_, _++_}
 use mathlib.Core.Logic.{⊎-elim}
 use Rattle.grammar.specs.declared.Evaluation.{Evaluation}
@@ -11,8 +13,8 @@ use Rattle.grammar.specs.Image.{start, body}
 use Rattle.grammar.specs.Evaluates.{Evaluates, Fresh, Subject, bodiesOnly, a-node, a-pair}
 use Rattle.grammar.specs.Evaluates.{ev-empty, ev-terminal, ev-then-first-fails, ev-then, ev-else-first, ev-else-second}
 use Rattle.grammar.specs.Evaluates.{ev-star, ev-last-round, ev-round, ev-not, ev-call, ev-body, ev-record}
-use Rattle.evaluation.specs.Calls.{Pair, In, here, later, Reached, start-reached, called, callsOf, bodiesOf}
-use Rattle.evaluation.proofs.Pairs.{none-in, in-either, in-left, in-right}
+use Rattle.evaluation.specs.Calls.{Pair, In, here, later, isIn, Reached, start-reached, called, callsOf, bodiesOf}
+use Rattle.evaluation.proofs.Pairs.{none-in, in-either, in-left, in-right, in-is, is-in}
 use Rattle.evaluation.proofs.Plain.{no-record}
 use Rattle.evaluation.proofs.Bodies.{shallower}
 use Rattle.evaluation.proofs.BodiesOnce.{bodies-once}
@@ -63,3 +65,12 @@ module _ {img text : List ℕ} where
 
   pub in-reached : {z : Evaluation} {x : Pair} (d : Fresh img text (a-pair (start img)) 0 z) → In x (bodiesOf d) → Reached img text x
   in-reached {x = x} d i = all-inside (Reached img text) (λ x z u k y j. called k u j) d start-reached x i
+
+  pub reached-is : {z : Evaluation} {x : Pair} (d : Fresh img text (a-pair (start img)) 0 z) → Reached img text x → isIn (x .rule) (x .position) (bodiesOf d) ≡ true
+  reached-is d k = in-is (reached-in d k)
+
+  pub is-reached :
+      {z : Evaluation} (d : Fresh img text (a-pair (start img)) 0 z) (r q : ℕ)
+      → isIn r q (bodiesOf d) ≡ true
+      → Reached img text (record { rule = r; position = q })
+  is-reached d r q e = in-reached d (is-in r q (bodiesOf d) e)

@@ -13,3 +13,4 @@ pub mod Grown
 pub mod OverTables
 pub mod Stores
 pub mod TrueTables
+pub mod TrueReads
