@@ -1,9 +1,9 @@
 -- The pairs whose body is evaluated inside an evaluation: each has an evaluation of smaller nesting, answered by its body, and what is
 -- evaluated in that is evaluated here; so a pair is never evaluated inside its own body. Assumes nothing.
-use Prim.Native.Nat.{ℕ, _+_, _≤_, _<_, max}
+use Prim.Native.Nat.{ℕ, _+_, _≤_, _<_}
 use native.Mathlib.Omega.{arith}
-use mathlib.Core.Path.{_≡_, refl, sym, ap, _∙_}
-use mathlib.Core.List.{List, [], _∷_, _++_}
+use mathlib.Core.Path.{_≡_, ap}
+use mathlib.Core.List.{List, _∷_, _++_}
 use mathlib.Core.Logic.{⊎-elim}
 use Rattle.grammar.specs.declared.Evaluation.{Evaluation}
 use Rattle.grammar.specs.Image.{body}

@@ -4,7 +4,7 @@ use Prim.Native.Nat.{ℕ, _+_}
 use native.Mathlib.Omega.{arith}
 use mathlib.Core.Path.{_≡_, refl, sym, ap, _∙_, subst}
 use mathlib.Core.Bool.{true, false, true≢false}
-use mathlib.Core.List.{List, [], _∷_, _++_}
+use mathlib.Core.List.{List, _∷_}
 use Rattle.grammar.specs.declared.Evaluation.{Evaluation}
 use Rattle.grammar.specs.Evaluates.{Evaluates, Subject, CallAnswer, by-body, by-record}
 use Rattle.grammar.specs.Evaluates.{ev-empty, ev-terminal, ev-then-first-fails, ev-then, ev-else-first, ev-else-second}
@@ -16,7 +16,9 @@ use Rattle.evaluation.proofs.Plain.{no-record}
 
 module _ (img text : List ℕ) (answers : ℕ → ℕ → CallAnswer) where
   -- Two evaluations at one position, however it is written.
-  same : {s : Subject} {p q : ℕ} {y z : Evaluation} → p ≡ q → Evaluates img text answers s p y → Evaluates img text answers s q z → y ≡ z
+  same :
+      {s : Subject} {p q : ℕ} {y z : Evaluation} → p ≡ q → Evaluates img text answers s p y
+      → Evaluates img text answers s q z → y ≡ z
   same {s} {z = z} e u v = one img text answers u (subst (λ (k : ℕ). Evaluates img text answers s k z) (sym e) v)
 
   after :
@@ -55,7 +57,8 @@ module _ (img text : List ℕ) (answers : ℕ → ℕ → CallAnswer) where
   bodies-at h (ev-not a e) (ev-not a′ f) = bodies-at h a a′
   bodies-at h (ev-call a e) (ev-call a′ f) = bodies-at h a a′
   bodies-at {p = p} {q = q} h (ev-body {r} k a) (ev-body k′ a′) =
-      ap (λ (j : ℕ). record { rule = r; position = j } ∷ bodiesOf a) h ∙ ap (λ (l : List Pair). record { rule = r; position = q } ∷ l) (bodies-at h a a′)
+      ap (λ (j : ℕ). record { rule = r; position = j } ∷ bodiesOf a) h
+      ∙ ap (λ (l : List Pair). record { rule = r; position = q } ∷ l) (bodies-at h a a′)
   bodies-at h (ev-body k a) (ev-record k′) = absurd (mixed h k k′)
   bodies-at h (ev-record k) (ev-body k′ a′) = absurd (mixed (sym h) k′ k)
   bodies-at h (ev-record k) (ev-record k′) = refl

@@ -43,7 +43,10 @@ right-on false b e = e
 -- The test says what the type says.
 pub in-is : {x : Pair} {ps : List Pair} → In x ps → isIn (x .rule) (x .position) ps ≡ true
 unfolding isIn
-in-is {x} (here {xs}) = both-on (eqb (x .rule) (x .rule)) (eqb (x .position) (x .position)) (isIn (x .rule) (x .position) xs) (eq-eqb (x .rule) (x .rule) refl) (eq-eqb (x .position) (x .position) refl)
+in-is {x} (here {xs}) =
+    both-on (eqb (x .rule) (x .rule)) (eqb (x .position) (x .position)) (isIn (x .rule) (x .position) xs)
+    (eq-eqb (x .rule) (x .rule) refl)
+    (eq-eqb (x .position) (x .position) refl)
 in-is {x} (later {y} i) = right-on (eqb (y .rule) (x .rule) && eqb (y .position) (x .position)) _ (in-is i)
 
 pub is-in : (r q : ℕ) (ps : List Pair) → isIn r q ps ≡ true → In (record { rule = r; position = q }) ps

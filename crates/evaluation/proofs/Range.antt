@@ -2,13 +2,13 @@
 -- evaluated in it, have a rule of the image and a position of the text; where the records that answer calls have the shape of
 -- evaluations. And what holds of the pairs called and passes on to the pairs called in a body holds of all whose body is evaluated.
 -- Assumes nothing.
-use Prim.Native.Nat.{ℕ, _+_, _≤_, _<_}
+use Prim.Native.Nat.{ℕ, _≤_, _<_}
 use mathlib.Core.Path.{_≡_}
-use mathlib.Core.List.{List, [], _∷_, _++_}
+use mathlib.Core.List.{List}
 use mathlib.Core.Logic.{⊎-elim}
 use lib.ListN.{length}
 use Rattle.grammar.specs.declared.Evaluation.{Evaluation}
-use Rattle.grammar.specs.Image.{node, nodes, rules, root, body}
+use Rattle.grammar.specs.Image.{nodes, rules, root, body}
 use Rattle.grammar.specs.Questions.{Question4}
 use Rattle.grammar.specs.Evaluates.{Evaluates, Subject, CallAnswer, by-record, a-node, a-pair, rounds-of}
 use Rattle.grammar.specs.Evaluates.{ev-empty, ev-terminal, ev-then-first-fails, ev-then, ev-else-first, ev-else-second}
@@ -42,7 +42,8 @@ module _ {img text : List ℕ} {answers : ℕ → ℕ → CallAnswer} (P : Pair 
     Starts (rounds-of a) p calls = (y : Pair) → In y calls → P y
 
     pub all-inside :
-        {s : Subject} {p : ℕ} {z : Evaluation} (u : Evaluates img text answers s p z) → Starts s p (callsOf u) → (y : Pair) → In y (bodiesOf u) → P y
+        {s : Subject} {p : ℕ} {z : Evaluation} (u : Evaluates img text answers s p z) → Starts s p (callsOf u)
+        → (y : Pair) → In y (bodiesOf u) → P y
     unfolding callsOf bodiesOf
     all-inside (ev-empty e) s y i = absurd (none-in i)
     all-inside (ev-terminal e) s y i = absurd (none-in i)

@@ -3,14 +3,14 @@
 --     reached-in    a reached pair is among them
 --     in-reached    each of them is reached
 --     reached-is, is-reached    the same by the test
-use Prim.Native.Nat.{ℕ, _+_}
-use mathlib.Core.Path.{_≡_, refl, sym, subst}
+use Prim.Native.Nat.{ℕ}
+use mathlib.Core.Path.{_≡_, subst}
 use mathlib.Core.Bool.{true}
-use mathlib.Core.List.{List, [], _∷_, _++_}
+use mathlib.Core.List.{List}
 use mathlib.Core.Logic.{⊎-elim}
 use Rattle.grammar.specs.declared.Evaluation.{Evaluation}
 use Rattle.grammar.specs.Image.{start, body}
-use Rattle.grammar.specs.Evaluates.{Evaluates, Fresh, Subject, bodiesOnly, a-node, a-pair}
+use Rattle.grammar.specs.Evaluates.{Fresh, Subject, bodiesOnly, a-node, a-pair}
 use Rattle.grammar.specs.Evaluates.{ev-empty, ev-terminal, ev-then-first-fails, ev-then, ev-else-first, ev-else-second}
 use Rattle.grammar.specs.Evaluates.{ev-star, ev-last-round, ev-round, ev-not, ev-call, ev-body, ev-record}
 use Rattle.evaluation.specs.Calls.{Pair, In, here, later, isIn, Reached, start-reached, called, callsOf, bodiesOf}
@@ -34,14 +34,17 @@ module _ {img text : List ℕ} where
   called-bodies (ev-terminal e) i = i
   called-bodies (ev-then-first-fails u m e) i = called-bodies u i
   called-bodies (ev-then u m v e) i =
-      ⊎-elim (λ j. in-left (bodiesOf v) (called-bodies u j)) (λ j. in-right (bodiesOf u) (called-bodies v j)) (in-either (callsOf u) (callsOf v) i)
+      ⊎-elim (λ j. in-left (bodiesOf v) (called-bodies u j)) (λ j. in-right (bodiesOf u) (called-bodies v j))
+      (in-either (callsOf u) (callsOf v) i)
   called-bodies (ev-else-first u m e) i = called-bodies u i
   called-bodies (ev-else-second u m v e) i =
-      ⊎-elim (λ j. in-left (bodiesOf v) (called-bodies u j)) (λ j. in-right (bodiesOf u) (called-bodies v j)) (in-either (callsOf u) (callsOf v) i)
+      ⊎-elim (λ j. in-left (bodiesOf v) (called-bodies u j)) (λ j. in-right (bodiesOf u) (called-bodies v j))
+      (in-either (callsOf u) (callsOf v) i)
   called-bodies (ev-star u e) i = called-bodies u i
   called-bodies (ev-last-round u m e) i = called-bodies u i
   called-bodies (ev-round u m v e) i =
-      ⊎-elim (λ j. in-left (bodiesOf v) (called-bodies u j)) (λ j. in-right (bodiesOf u) (called-bodies v j)) (in-either (callsOf u) (callsOf v) i)
+      ⊎-elim (λ j. in-left (bodiesOf v) (called-bodies u j)) (λ j. in-right (bodiesOf u) (called-bodies v j))
+      (in-either (callsOf u) (callsOf v) i)
   called-bodies (ev-not u e) i = called-bodies u i
   called-bodies (ev-call u e) here = own-body u
   called-bodies (ev-call u e) (later i) = absurd (none-in i)
@@ -66,7 +69,10 @@ module _ {img text : List ℕ} where
   pub in-reached : {z : Evaluation} {x : Pair} (d : Fresh img text (a-pair (start img)) 0 z) → In x (bodiesOf d) → Reached img text x
   in-reached {x = x} d i = all-inside (Reached img text) (λ x z u k y j. called k u j) d start-reached x i
 
-  pub reached-is : {z : Evaluation} {x : Pair} (d : Fresh img text (a-pair (start img)) 0 z) → Reached img text x → isIn (x .rule) (x .position) (bodiesOf d) ≡ true
+  pub reached-is :
+      {z : Evaluation} {x : Pair} (d : Fresh img text (a-pair (start img)) 0 z)
+      → Reached img text x
+      → isIn (x .rule) (x .position) (bodiesOf d) ≡ true
   reached-is d k = in-is (reached-in d k)
 
   pub is-reached :

@@ -115,7 +115,8 @@ module _ (img text : List ℕ) where
   slot-in r p m l h k =
       let a : p + 1 ≤ length text + 1 = omega arith in
       let b = mul-le-mul-right (rules img) a in
-      let c : (p + 1) * rules img ≡ p * rules img + rules img = add-mul p 1 (rules img) ∙ ap (λ (x : ℕ). p * rules img + x) (one-mul (rules img)) in
+      let c : (p + 1) * rules img ≡ p * rules img + rules img =
+      add-mul p 1 (rules img) ∙ ap (λ (x : ℕ). p * rules img + x) (one-mul (rules img)) in
       let d = mul-comm (rules img) (length text + 1) in
       omega arith
 
@@ -123,29 +124,35 @@ module _ (img text : List ℕ) where
   module _ (t : List ℕ) (c r p w : ℕ) (l : r < rules img) (h : p ≤ length text)
       (e : isHeld (wordAt img t r p) ≡ false) (f : isHeld w ≡ true)
     where
-      stored-there : Room img text t → wordAt img (set t (p * rules img + r) w) r p ≡ w
-      stored-there m = getD-set-same t (p * rules img + r) w 0 (slot-in r p (length t) l h m)
+      abbrev slot : ℕ
+      slot = p * rules img + r
+
+      abbrev after : List ℕ
+      after = set t slot w
+
+      stored-there : Room img text t → wordAt img after r p ≡ w
+      stored-there m = getD-set-same t slot w 0 (slot-in r p (length t) l h m)
 
       -- The pair is newly held, and no other.
       held-more :
           Room img text t → (s q : ℕ) → s < rules img → q < length text + 1
-          → oneIf (isHeld (wordAt img (set t (p * rules img + r) w) s q)) ≡ oneIf (isHeld (wordAt img t s q)) + oneIf (eqb r s && eqb p q)
+          → oneIf (isHeld (wordAt img after s q)) ≡ oneIf (isHeld (wordAt img t s q)) + oneIf (eqb r s && eqb p q)
       held-more m s q k j = go (eqb r s) refl (eqb p q) refl
         where
-          other : (q * rules img + s ≡ p * rules img + r → ⊥) → oneIf (isHeld (wordAt img (set t (p * rules img + r) w) s q)) ≡ oneIf (isHeld (wordAt img t s q)) + 0
+          other : (q * rules img + s ≡ slot → ⊥) → oneIf (isHeld (wordAt img after s q)) ≡ oneIf (isHeld (wordAt img t s q)) + 0
           other ne =
-              let x = ap (λ (v : ℕ). oneIf (isHeld v)) (getD-set-other t (p * rules img + r) (q * rules img + s) w 0 ne) in
+              let x = ap (λ (v : ℕ). oneIf (isHeld v)) (getD-set-other t slot (q * rules img + s) w 0 ne) in
               omega arith
 
           go :
               (a : Bool) → eqb r s ≡ a → (b : Bool) → eqb p q ≡ b
-              → oneIf (isHeld (wordAt img (set t (p * rules img + r) w) s q)) ≡ oneIf (isHeld (wordAt img t s q)) + oneIf (a && b)
+              → oneIf (isHeld (wordAt img after s q)) ≡ oneIf (isHeld (wordAt img t s q)) + oneIf (a && b)
           go true ea true eb =
               let x = eqb-true r s ea in
               let y = eqb-true p q eb in
-              let now : isHeld (wordAt img (set t (p * rules img + r) w) s q) ≡ true =
-              subst (λ (i : ℕ). isHeld (wordAt img (set t (p * rules img + r) w) i q) ≡ true) x
-              (subst (λ (i : ℕ). isHeld (wordAt img (set t (p * rules img + r) w) r i) ≡ true) y (ap isHeld (stored-there m) ∙ f)) in
+              let now : isHeld (wordAt img after s q) ≡ true =
+              subst (λ (i : ℕ). isHeld (wordAt img after i q) ≡ true) x
+              (subst (λ (i : ℕ). isHeld (wordAt img after r i) ≡ true) y (ap isHeld (stored-there m) ∙ f)) in
               let was : isHeld (wordAt img t s q) ≡ false =
               subst (λ (i : ℕ). isHeld (wordAt img t i q) ≡ false) x (subst (λ (i : ℕ). isHeld (wordAt img t r i) ≡ false) y e) in
               let n = ap oneIf now in
@@ -154,28 +161,30 @@ module _ (img text : List ℕ) where
           go true ea false eb = other (λ z. eqb-false p q eb (sym (one-slot (rules img) q p s r k l z .0)))
           go false ea b eb = other (λ z. eqb-false r s ea (sym (one-slot (rules img) q p s r k l z .1)))
 
-      pub gain-store : Gain t (set t (p * rules img + r) w) c ((c + 1) % 2 ^ 64) (record { rule = r; position = p } ∷ [])
+      pub gain-store : Gain t after c ((c + 1) % 2 ^ 64) (record { rule = r; position = p } ∷ [])
       gain-store =
           record {
-            only = λ j. at j (eqb j (p * rules img + r)) refl;
-            stays = λ j k. getD-set-other t (p * rules img + r) j w 0 (λ z. true≢false (sym k ∙ ap (λ (i : ℕ). isHeld (getD t i 0)) z ∙ e));
+            only = λ j. at j (eqb j slot) refl;
+            stays = λ j k. getD-set-other t slot j w 0 (λ z. true≢false (sym k ∙ ap (λ (i : ℕ). isHeld (getD t i 0)) z ∙ e));
             all = λ m x i. first m i;
-            as-long = length-set t (p * rules img + r) w;
+            as-long = length-set t slot w;
             count = 1;
             counted = λ k. refl;
             held = λ m.
                 let a =
-                count-plus (rules img) (length text + 1) (λ s q. isHeld (wordAt img (set t (p * rules img + r) w) s q))
+                count-plus (rules img) (length text + 1) (λ s q. isHeld (wordAt img after s q))
                 (λ s q. isHeld (wordAt img t s q)) (λ s q. eqb r s && eqb p q) (held-more m) in
                 let b = count-one (rules img) (length text + 1) r p l (omega arith) in
                 omega arith;
           }
         where
-          at : (j : ℕ) (b : Bool) → eqb j (p * rules img + r) ≡ b → (getD (set t (p * rules img + r) w) j 0 ≡ getD t j 0) ⊎ SlotAmong (record { rule = r; position = p } ∷ []) j
+          at : (j : ℕ) (b : Bool) → eqb j slot ≡ b → (getD after j 0 ≡ getD t j 0) ⊎ SlotAmong (record { rule = r; position = p } ∷ []) j
           at j true eb =
-              inr (record { pair = record { rule = r; position = p }; among = here; rule-in = l; slot-is = eqb-true j (p * rules img + r) eb })
-          at j false eb = inl (getD-set-other t (p * rules img + r) j w 0 (eqb-false j (p * rules img + r) eb))
+              inr (record { pair = record { rule = r; position = p }; among = here; rule-in = l; slot-is = eqb-true j slot eb })
+          at j false eb = inl (getD-set-other t slot j w 0 (eqb-false j slot eb))
 
-          first : {x : Pair} → Room img text t → In x (record { rule = r; position = p } ∷ []) → isHeld (wordAt img (set t (p * rules img + r) w) (x .rule) (x .position)) ≡ true
+          first :
+              {x : Pair} → Room img text t → In x (record { rule = r; position = p } ∷ [])
+              → isHeld (wordAt img after (x .rule) (x .position)) ≡ true
           first m here = ap isHeld (stored-there m) ∙ f
           first m (later i) = absurd (none-in i)

@@ -1,7 +1,6 @@
 -- A table that has grown: each pair's word is as it was, or was not held and is the word of the pair's evaluation over the first
 -- table; and with a pair that is newly held, the pairs whose body is evaluated in its evaluation are held. Assumes nothing.
 use Prim.Native.Nat.{ℕ, _+_, _*_, _≤_, _<_}
-use native.Mathlib.Omega.{arith}
 use mathlib.Core.Path.{_≡_, refl, sym, ap, _∙_, subst}
 use mathlib.Core.Bool.{Bool, true, false, true≢false}
 use mathlib.Core.List.{List}
@@ -12,7 +11,7 @@ use borrow.Author.Tests.{eqb-true, eqb-false, ltb-true, ltb-false}
 use Rattle.grammar.specs.declared.Evaluation.{Evaluation}
 use Rattle.grammar.specs.Image.{rules}
 use Rattle.grammar.specs.Evaluates.{a-pair}
-use Rattle.evaluation.specs.Calls.{Pair, In, bodiesOf}
+use Rattle.evaluation.specs.Calls.{bodiesOf}
 use Rattle.evaluation.proofs.BodiesOnce.{bodies-once}
 use Rattle.records.specs.Words.{isHeld, wordOf}
 use Rattle.reading.specs.Over.{wordAt, over, Over}
@@ -68,47 +67,53 @@ module _ {img text before after : List ℕ} (g : Grown img text before after) {r
     (u : Over img text before (a-pair r) p x) (k : x .nesting ≤ 4096) (f : isHeld (wordOf x) ≡ true)
     (a : Room img text before → AllHeld img (set after (p * rules img + r) (wordOf x)) (bodiesOf u))
   where
+    abbrev slot : ℕ
+    slot = p * rules img + r
+
+    abbrev later-table : List ℕ
+    later-table = set after slot (wordOf x)
+
     slots-after :
         (s q : ℕ) → s < rules img → q ≤ length text
-        → (b : Bool) → eqb (q * rules img + s) (p * rules img + r) ≡ b
-        → (c : Bool) → ltb (p * rules img + r) (length after) ≡ c
-        → Slot img text before (set after (p * rules img + r) (wordOf x)) s q
+        → (b : Bool) → eqb (q * rules img + s) slot ≡ b
+        → (c : Bool) → ltb slot (length after) ≡ c
+        → Slot img text before later-table s q
     slots-after s q m j b eb false ec =
-        subst (λ (t : List ℕ). Slot img text before t s q) (sym (set-out after (p * rules img + r) (wordOf x) (ltb-false (p * rules img + r) (length after) ec))) (g .slots s q m j)
+        subst (λ (t : List ℕ). Slot img text before t s q) (sym (set-out after slot (wordOf x) (ltb-false slot (length after) ec))) (g .slots s q m j)
     slots-after s q m j true eb true ec =
-        let same = eqb-true (q * rules img + s) (p * rules img + r) eb in
+        let same = eqb-true (q * rules img + s) slot eb in
         let d = one-slot (rules img) q p s r m l same in
-        subst (λ (i : ℕ). Slot img text before (set after (p * rules img + r) (wordOf x)) i q) (sym (d .1))
-        (subst (λ (i : ℕ). Slot img text before (set after (p * rules img + r) (wordOf x)) r i) (sym (d .0))
-        (stored x e u k (getD-set-same after (p * rules img + r) (wordOf x) 0 (ltb-true (p * rules img + r) (length after) ec))))
+        subst (λ (i : ℕ). Slot img text before later-table i q) (sym (d .1))
+        (subst (λ (i : ℕ). Slot img text before later-table r i) (sym (d .0))
+        (stored x e u k (getD-set-same after slot (wordOf x) 0 (ltb-true slot (length after) ec))))
     slots-after s q m j false eb true ec = again (g .slots s q m j)
       where
-        other : wordAt img (set after (p * rules img + r) (wordOf x)) s q ≡ wordAt img after s q
-        other = getD-set-other after (p * rules img + r) (q * rules img + s) (wordOf x) 0 (eqb-false (q * rules img + s) (p * rules img + r) eb)
+        other : wordAt img later-table s q ≡ wordAt img after s q
+        other = getD-set-other after slot (q * rules img + s) (wordOf x) 0 (eqb-false (q * rules img + s) slot eb)
 
-        again : Slot img text before after s q → Slot img text before (set after (p * rules img + r) (wordOf x)) s q
+        again : Slot img text before after s q → Slot img text before later-table s q
         again (kept w) = kept (other ∙ w)
         again (stored y f v n w) = stored y f v n (other ∙ w)
 
     inside-after :
         Room img text before → (s q : ℕ) → s < rules img → q ≤ length text
-        → (b : Bool) → eqb (q * rules img + s) (p * rules img + r) ≡ b
-        → Inside img text before (set after (p * rules img + r) (wordOf x)) s q
+        → (b : Bool) → eqb (q * rules img + s) slot ≡ b
+        → Inside img text before later-table s q
     inside-after n s q m j true eb =
-        let d = one-slot (rules img) q p s r m l (eqb-true (q * rules img + s) (p * rules img + r) eb) in
-        subst (λ (i : ℕ). Inside img text before (set after (p * rules img + r) (wordOf x)) i q) (sym (d .1))
-        (subst (λ (i : ℕ). Inside img text before (set after (p * rules img + r) (wordOf x)) r i) (sym (d .0))
+        let d = one-slot (rules img) q p s r m l (eqb-true (q * rules img + s) slot eb) in
+        subst (λ (i : ℕ). Inside img text before later-table i q) (sym (d .1))
+        (subst (λ (i : ℕ). Inside img text before later-table r i) (sym (d .0))
         (λ was is y v.
-        subst (AllHeld img (set after (p * rules img + r) (wordOf x))) (bodies-once img text (over img text before) u v) (a n)))
+        subst (AllHeld img later-table) (bodies-once img text (over img text before) u v) (a n)))
     inside-after n s q m j false eb = λ was is y v z i.
-        let other = getD-set-other after (p * rules img + r) (q * rules img + s) (wordOf x) 0 (eqb-false (q * rules img + s) (p * rules img + r) eb) in
-        held-set after (p * rules img + r) (z .position * rules img + z .rule) (wordOf x) f
+        let other = getD-set-other after slot (q * rules img + s) (wordOf x) 0 (eqb-false (q * rules img + s) slot eb) in
+        held-set after slot (z .position * rules img + z .rule) (wordOf x) f
         (g .inside n s q m j was (sym (ap isHeld other) ∙ is) y v z i)
 
-    pub grown-store : Grown img text before (set after (p * rules img + r) (wordOf x))
+    pub grown-store : Grown img text before later-table
     grown-store =
         record {
-          as-long = length-set after (p * rules img + r) (wordOf x) ∙ g .as-long;
-          slots = λ s q m j. slots-after s q m j (eqb (q * rules img + s) (p * rules img + r)) refl (ltb (p * rules img + r) (length after)) refl;
-          inside = λ n s q m j. inside-after n s q m j (eqb (q * rules img + s) (p * rules img + r)) refl;
+          as-long = length-set after slot (wordOf x) ∙ g .as-long;
+          slots = λ s q m j. slots-after s q m j (eqb (q * rules img + s) slot) refl (ltb slot (length after)) refl;
+          inside = λ n s q m j. inside-after n s q m j (eqb (q * rules img + s) slot) refl;
         }

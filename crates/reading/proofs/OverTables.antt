@@ -1,20 +1,20 @@
 -- Over any table the evaluator gives the evaluation in which each held pair takes what its word says, where the allowance covers its
 -- nesting, and 14 where it does not; and the table has grown from the one lent. For every node, pair and allowance.
 -- Assumes nothing.
-use Prim.Native.Nat.{ℕ, zero, suc, _+_, _*_, _%_, _≤_, _<_, _^_, max}
+use Prim.Native.Nat.{ℕ, zero, suc, _+_, _*_, _%_, _≤_, _<_, _^_}
 use native.Mathlib.Omega.{arith}
 use mathlib.Core.Path.{_≡_, refl, sym, ap, _∙_, subst}
 use mathlib.Core.Bool.{Bool, true, false, true≢false}
 use mathlib.Core.List.{List, [], _∷_, _++_}
 use mathlib.Core.Logic.{⊎-elim}
-use lib.ListN.{length, getD, set}
+use lib.ListN.{length, set}
 use lib.Dec.{eqb, leb}
 use borrow.Author.Tests.{ne-eqb, le-leb, lt-leb}
 use native.Mathlib.Decide.{decLe}
 use Rattle.grammar.specs.declared.Evaluation.{Evaluation}
-use Rattle.grammar.specs.Image.{Node, node, nodes, root, rules, body}
+use Rattle.grammar.specs.Image.{node, nodes, root, rules, body}
 use Rattle.grammar.specs.Questions.{Question4}
-use Rattle.grammar.specs.Evaluates.{Subject, CallAnswer, by-body, by-record, no-answer, a-node, a-pair, rounds-of}
+use Rattle.grammar.specs.Evaluates.{Subject, by-body, by-record, a-node, a-pair, rounds-of}
 use Rattle.grammar.specs.Evaluates.{lastRound, roundThen}
 use Rattle.grammar.specs.Evaluates.{ev-empty, ev-terminal, ev-then-first-fails, ev-then, ev-else-first, ev-else-second}
 use Rattle.grammar.specs.Evaluates.{ev-star, ev-last-round, ev-round, ev-not, ev-call, ev-body, ev-record}
@@ -23,10 +23,10 @@ use Rattle.grammar.proofs.Determinism.{one, still}
 use Rattle.grammar.proofs.References.{Refers, refers, root-in-range}
 use Rattle.evaluation.specs.Within.{Within}
 use Rattle.evaluation.proofs.Shape.{within}
-use Rattle.records.specs.Words.{isHeld, possible, IsPossible, nestingOf, lengthOf, examinedOf, matchedOf, spareOf, valueOf, wordOf}
+use Rattle.records.specs.Words.{isHeld, possible, IsPossible, nestingOf, valueOf, wordOf}
 use Rattle.records.proofs.Codec.{InRange, value-back, word-held, length-back, examined-back, nesting-back, matched-back, spare-back}
 use Rattle.records.proofs.Test.{says-possible, passes-test}
-use Rattle.reading.specs.Model.{Answer, answered, refused, Out, out, Evaluator, bind, made, afterFirst, afterChoice, afterRound, roundsM}
+use Rattle.reading.specs.Model.{answered, refused, Out, out, bind, afterFirst, afterChoice, afterRound, roundsM}
 use Rattle.reading.specs.Model.{met, looked, ruleM, kindM, nodeM}
 use Rattle.reading.specs.Over.{wordAt, taken, over, Over}
 use Rattle.evaluation.specs.Calls.{Pair, In, here, later, bodiesOf}
@@ -119,7 +119,8 @@ module _ (img text table : List ℕ) (words : Question4 img) (short : length tex
   unfolding over
   records-within r p x h e =
       let d = record-held (isHeld (wordAt img table r p)) (possible (wordAt img table r p) p (length text)) (wordAt img table r p) e in
-      subst (Within (length text) p) (sym (d .2)) (possible-within (wordAt img table r p) p (length text) (says-possible (wordAt img table r p) p (length text) (d .1)))
+      subst (Within (length text) p) (sym (d .2))
+      (possible-within (wordAt img table r p) p (length text) (says-possible (wordAt img table r p) p (length text) (d .1)))
 
   pub over-within : {s : Subject} {p : ℕ} {z : Evaluation} → Over img text table s p z → p ≤ length text → Within (length text) p z
   over-within u h = within img text (over img text table) records-within u h
@@ -236,7 +237,9 @@ module _ (img text table : List ℕ) (words : Question4 img) (short : length tex
       all-of : (t : List ℕ) → AllHeld img t (pair ∷ ps) → AllHeld img t (bodiesOf v)
       all-of t a = subst (AllHeld img t) (sym bodies) a
 
-      after : isHeld (wordAt img t r p) ≡ false → Result (nodeM img text left (root img r) p t c) z left t c ps → Result (looked false img text (nodeM img text left) left r p t c) z left t c (pair ∷ ps)
+      after :
+          isHeld (wordAt img t r p) ≡ false → Result (nodeM img text left (root img r) p t c) z left t c ps
+          → Result (looked false img text (nodeM img text left) left r p t c) z left t c (pair ∷ ps)
       after unheld (deep u d j q) = deep u d j (ap (λ (o : Out). bind o (λ x u d. out (answered x) (set u (p * rules img + r) (wordOf x)) ((d + 1) % 2 ^ 64))) q)
       after unheld (fine u d j b i q) =
           let word = word-possible z p (length text) short (over-within v h) (omega arith) in

@@ -9,22 +9,22 @@ use mathlib.Core.Path.{_≡_, refl, sym, ap, _∙_, subst}
 use mathlib.Core.Bool.{Bool, true, false, true≢false}
 use mathlib.Core.List.{List}
 use mathlib.Core.Logic.{⊎-elim}
-use lib.ListN.{length, getD}
+use lib.ListN.{length}
 use Rattle.grammar.specs.declared.Evaluation.{Evaluation}
 use Rattle.grammar.specs.Image.{rules}
 use Rattle.grammar.specs.Questions.{Question4, oneIf}
 use Rattle.grammar.specs.Evaluates.{Subject, a-pair}
 use Rattle.evaluation.specs.Calls.{Pair, In, isIn, bodiesOf}
-use Rattle.evaluation.proofs.Pairs.{in-is, is-in, not-in, one-pair}
+use Rattle.evaluation.proofs.Pairs.{is-in, not-in, one-pair}
 use Rattle.evaluation.proofs.Counts.{count-plus}
 use Rattle.evaluation.proofs.Bodies.{shallower}
 use Rattle.evaluation.proofs.Range.{PairOf, bodies-in-range}
 use Rattle.records.specs.Words.{isHeld, possible}
-use Rattle.reading.specs.Model.{Out, out, ruleM, nodeM}
+use Rattle.reading.specs.Model.{ruleM, nodeM}
 use Rattle.reading.specs.Over.{wordAt, over, Over}
 use Rattle.reading.specs.Stores.{Room, IsStored, Stores, evaluations, Determined, RefusedWith}
 use Rattle.reading.proofs.Slots.{one-slot}
-use Rattle.reading.proofs.Gain.{Gain, SlotAmong, only-pair}
+use Rattle.reading.proofs.Gain.{Gain}
 use Rattle.reading.proofs.Grown.{Slot, kept, stored, Grown, grown-none}
 use Rattle.reading.proofs.OverTables.{Result, fine, deep, pair-over, body-unheld, records-within}
 

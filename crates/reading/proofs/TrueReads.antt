@@ -3,14 +3,13 @@
 -- the nesting is above the allowance it refuses with 14, and with nothing else. Assumes nothing.
 --     pair-reads, pair-deep, only-14      for every pair of the image and the text, and every allowance of at most 4,096
 --     start-reads, start-deep             for the start pair
-use Prim.Native.Nat.{ℕ, _+_, _*_, _%_, _≤_, _<_, _^_}
+use Prim.Native.Nat.{ℕ, _+_, _≤_, _<_, _^_}
 use native.Mathlib.Omega.{arith}
 use native.Mathlib.Nat.{mul-le-mul}
-use native.Mathlib.Decide.{decLe}
 use mathlib.Core.Path.{_≡_, refl, sym, ap, _∙_, subst}
 use mathlib.Core.Bool.{Bool, true, false, not, _&&_, _||_, true≢false}
 use mathlib.Core.List.{List}
-use lib.ListN.{length, getD}
+use lib.ListN.{length}
 use borrow.Author.Tests.{le-leb}
 use Rattle.grammar.specs.declared.Evaluation.{Evaluation}
 use Rattle.grammar.specs.Image.{rules, start, body}
@@ -20,15 +19,15 @@ use Rattle.evaluation.specs.Calls.{Pair, In, isIn, callsOf, bodiesOf}
 use Rattle.evaluation.proofs.Pairs.{in-is, is-in}
 use Rattle.evaluation.proofs.Counts.{count-same, count-most}
 use Rattle.evaluation.proofs.Plain.{no-record}
-use Rattle.evaluation.proofs.Range.{PairOf, called-in-range}
+use Rattle.evaluation.proofs.Range.{called-in-range}
 use Rattle.evaluation.proofs.Reach.{bodies-closed}
-use Rattle.evaluation.proofs.Totality.{Exists, total-pair}
+use Rattle.evaluation.proofs.Totality.{total-pair}
 use Rattle.records.specs.Words.{isHeld, wordOf}
 use Rattle.records.proofs.Codec.{word-held}
-use Rattle.reading.specs.Model.{Answer, answered, refused, Out, out, ruleM, nodeM}
+use Rattle.reading.specs.Model.{ruleM, nodeM}
 use Rattle.reading.specs.Over.{wordAt, Over}
 use Rattle.reading.specs.True.{IsTrue, TrueTable}
-use Rattle.reading.specs.Stores.{Room, IsStored, Stores, Determined, RefusedWith, evaluations}
+use Rattle.reading.specs.Stores.{Room, Stores, RefusedWith, evaluations}
 use Rattle.reading.specs.Closed.{ClosedTable, Gains, newPairs, Reads}
 use Rattle.reading.proofs.OverTables.{Result, fine, deep, pair-over, word-possible, over-within}
 use Rattle.reading.proofs.Grown.{grown-none}
@@ -77,7 +76,9 @@ module _ (img text table : List ℕ) (accepted : Accepted img) (short : length t
             kept-pair st (λ x i. over-in-range img text table (accepted .lawful .words) short run l h x i .rule-in) s q m k
 
         -- A stored word is held,
-        stored-held : (s q : ℕ) → q ≤ length text → In (record { rule = s; position = q }) (bodiesOf run) → isHeld (wordAt img after s q) ≡ true
+        stored-held :
+            (s q : ℕ) → q ≤ length text → In (record { rule = s; position = q }) (bodiesOf run)
+            → isHeld (wordAt img after s q) ≡ true
         stored-held s q j i =
             let w = st .gained s q i in
             let k =

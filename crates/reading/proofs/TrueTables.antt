@@ -3,23 +3,22 @@
 --     over-of-fresh    what Ford's rules give, the rules over a true table give
 --     fresh-of-over    and the other way round, where the fresh evaluation exists
 --     bodies-over      the bodies evaluated over the table
-use Prim.Native.Nat.{ℕ, _+_, _≤_, _<_, _^_}
-use native.Mathlib.Omega.{arith}
-use mathlib.Core.Path.{_≡_, refl, sym, ap, _∙_, subst}
+use Prim.Native.Nat.{ℕ, _≤_, _<_}
+use mathlib.Core.Path.{_≡_, refl, sym, ap, _∙_}
 use mathlib.Core.Bool.{Bool, true, false, not, _&&_, _||_}
 use mathlib.Core.List.{List, [], _∷_, _++_}
 use lib.ListN.{length}
 use lib.Dec.{eqb}
 use borrow.Author.Tests.{eqb-true}
 use Rattle.grammar.specs.declared.Evaluation.{Evaluation}
-use Rattle.grammar.specs.Image.{Node, node, nodes, rules, root, body}
+use Rattle.grammar.specs.Image.{rules, root, body}
 use Rattle.grammar.specs.Questions.{Question4}
-use Rattle.grammar.specs.Evaluates.{Fresh, Subject, CallAnswer, by-body, by-record, bodiesOnly, a-node, a-pair, rounds-of}
+use Rattle.grammar.specs.Evaluates.{Fresh, Subject, by-record, bodiesOnly, a-node, a-pair}
 use Rattle.grammar.specs.Evaluates.{ev-empty, ev-terminal, ev-then-first-fails, ev-then, ev-else-first, ev-else-second}
 use Rattle.grammar.specs.Evaluates.{ev-star, ev-last-round, ev-round, ev-not, ev-call, ev-body, ev-record}
 use Rattle.grammar.proofs.Determinism.{one}
-use Rattle.grammar.proofs.References.{Refers, refers, root-in-range}
-use Rattle.evaluation.specs.Calls.{Pair, In, isIn, callsOf, bodiesOf}
+use Rattle.grammar.proofs.References.{refers, root-in-range}
+use Rattle.evaluation.specs.Calls.{Pair, isIn, bodiesOf}
 use Rattle.evaluation.proofs.Plain.{fresh-within, no-record}
 use Rattle.evaluation.proofs.Pairs.{is-in, is-in-both}
 use Rattle.evaluation.proofs.BodiesOnce.{bodies-once}
@@ -28,7 +27,7 @@ use Rattle.records.specs.Words.{isHeld, possible, valueOf, wordOf}
 use Rattle.records.proofs.Codec.{value-back}
 use Rattle.records.proofs.Test.{passes-test}
 use Rattle.reading.specs.Over.{wordAt, taken, over, Over}
-use Rattle.reading.specs.True.{IsTrue, TrueTable}
+use Rattle.reading.specs.True.{TrueTable}
 use Rattle.reading.specs.Closed.{ClosedTable}
 use Rattle.reading.proofs.OverTables.{word-possible}
 
