@@ -10,6 +10,7 @@ pub mod Consuming
 pub mod Slots
 pub mod Gain
 pub mod Grown
+pub mod Framed
 pub mod OverTables
 pub mod Stores
 pub mod TrueTables

@@ -3,9 +3,10 @@
 --     over-of-fresh    what Ford's rules give, the rules over a true table give
 --     fresh-of-over    and the other way round, where the fresh evaluation exists
 --     bodies-over      the bodies evaluated over the table
+--     none-true, none-closed    a table that holds no pair of the text is true and closed
 use Prim.Native.Nat.{ℕ, _≤_, _<_}
 use mathlib.Core.Path.{_≡_, refl, sym, ap, _∙_}
-use mathlib.Core.Bool.{Bool, true, false, not, _&&_, _||_}
+use mathlib.Core.Bool.{Bool, true, false, not, _&&_, _||_, true≢false}
 use mathlib.Core.List.{List, [], _∷_, _++_}
 use lib.ListN.{length}
 use lib.Dec.{eqb}
@@ -205,3 +206,10 @@ module _ (img text table : List ℕ) (words : Question4 img) (short : length tex
   bodies-over d u i h c r q =
       let x = same u i h in
       ap (isIn r q) (bodies-once img text (over img text table) d (x .evaluated)) ∙ x .bodies c r q
+
+module _ (img text table : List ℕ) (none : (r p : ℕ) → r < rules img → p ≤ length text → isHeld (wordAt img table r p) ≡ false) where
+  pub none-true : TrueTable img text table
+  none-true = record { held-words = λ r p l h e. absurd (true≢false (sym e ∙ none r p l h)) }
+
+  pub none-closed : ClosedTable img text table
+  none-closed = record { called-held = λ r p l h e z u y i. absurd (true≢false (sym e ∙ none r p l h)) }

@@ -7,3 +7,4 @@ pub mod Over
 pub mod True
 pub mod Stores
 pub mod Closed
+pub mod Framed
