@@ -86,3 +86,21 @@ read-back (suc (suc (suc (suc (suc (suc (suc (suc k)))))))) a b h = absurd (omeg
 pub kind-of-star : (img : List ℕ) (n a : ℕ) → kind img n ≤ 7 → node img n ≡ star a → kind img n ≡ 5
 unfolding node
 kind-of-star img n a h e = sym (read-back (kind img n) (fieldA img n) (fieldB img n) h) ∙ ap kindOf e
+
+pub kind-of-call : (img : List ℕ) (n r : ℕ) → kind img n ≤ 7 → node img n ≡ call r → kind img n ≡ 7
+unfolding node
+kind-of-call img n r h e = sym (read-back (kind img n) (fieldA img n) (fieldB img n) h) ∙ ap kindOf e
+
+-- The rule that a node calls, read back from it.
+abbrev calledBy : Node → ℕ
+calledBy empty = 0
+calledBy (terminal t) = 0
+calledBy (sequence a b) = 0
+calledBy (choice a b) = 0
+calledBy (star a) = 0
+calledBy (not-predicate a) = 0
+calledBy (call r) = r
+calledBy unlawful = 0
+
+pub rule-of-call : (img : List ℕ) (n r : ℕ) → kind img n ≡ 7 → node img n ≡ call r → fieldA img n ≡ r
+rule-of-call img n r k e = ap calledBy (sym (is-call img n k) ∙ e)

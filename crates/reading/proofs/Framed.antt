@@ -25,7 +25,7 @@ use Rattle.evaluation.proofs.Shape.{round-within, then-within}
 use Rattle.records.specs.Words.{isHeld, possible, nestingOf, valueOf, wordOf}
 use Rattle.records.proofs.Test.{says-possible}
 use Rattle.reading.specs.Model.{Answer, answered, refused, Out, out, Evaluator, bind, made, afterFirst, afterChoice, afterRound}
-use Rattle.reading.specs.Model.{roundsM, met, looked, ruleM, kindM, nodeM}
+use Rattle.reading.specs.Model.{roundsM, met, looked, pairM, ruleM, kindM, nodeM}
 use Rattle.reading.specs.Over.{wordAt}
 use Rattle.reading.specs.Framed.{Fits, Framed}
 use Rattle.reading.proofs.Rules.{possible-within}
@@ -168,7 +168,7 @@ module _ (img text : List ℕ) where
 
   module _ (words : Question4 img) where
     rule-framed : (left : ℕ) {ev : Evaluator} → All (nodes img) ev → All (rules img) (ruleM img text ev left)
-    unfolding ruleM
+    unfolding pairM
     rule-framed left {ev} all r p l h t c = by (isHeld (getD t (p * rules img + r) 0))
       where
         stored : (x : Evaluation) (u : List ℕ) (d : ℕ) → Within (length text) p x → Framed img text u p (out (answered x) (set u (p * rules img + r) (wordOf x)) d)
@@ -183,7 +183,7 @@ module _ (img text : List ℕ) where
               kept = λ j n. getD-set-other u (p * rules img + r) j (wordOf x) 0 (n r p l h);
             }
 
-        by : (b : Bool) → Framed img text t p (looked b img text ev left r p t c)
+        by : (b : Bool) → Framed img text t p (looked b (rules img) (root img r) text ev left r p t c)
         by true = unfold looked in
             met-framed (possible (wordAt img t r p) p (length text)) (leb (nestingOf (wordAt img t r p)) left) (wordAt img t r p) p refl t c
         by false = unfold looked in
@@ -208,7 +208,7 @@ module _ (img text : List ℕ) where
       → isHeld (wordAt img t r p) ≡ true
       → possible (wordAt img t r p) p (length text) ≡ false
       → ruleM img text ev left r p t c ≡ out (refused 12) t c
-  unfolding ruleM looked met
+  unfolding pairM looked met
   pair-impossible ev left r p t c e f =
-      ap (λ (b : Bool). looked b img text ev left r p t c) e
+      ap (λ (b : Bool). looked b (rules img) (root img r) text ev left r p t c) e
       ∙ ap (λ (b : Bool). met b (leb (nestingOf (wordAt img t r p)) left) (wordAt img t r p) t c) f

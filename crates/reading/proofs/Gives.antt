@@ -31,14 +31,14 @@ in-range short most a =
     }
 
 module _ {n at left : ℕ} {o : Out} {word : ℕ} {table : List ℕ} {count : ℕ} where
-  pub found : n ≤ 65535 → left ≤ 4096 → Gives n at left o word table count → 2 ^ 63 ≤ word → Found n at left o word table count
+  pub found : n ≤ 65535 → left ≤ 4096 → Gives n at left o word table count → 16 ≤ word → Found n at left o word table count
   found short most g h = go (g .answer) (g .is) (g .word-is) (g .bounds)
     where
       go : (a : Answer) → o ≡ out a table count → word ≡ coded a → Bounded n at left a → Found n at left o word table count
       go (answered x) e w b = record { value = x; is = e; word-is = w; bounds = b }
       go (refused k) e w b = absurd (omega arith)
 
-  pub was-refused : n ≤ 65535 → left ≤ 4096 → Gives n at left o word table count → word < 2 ^ 63 → Refused o word table count
+  pub was-refused : n ≤ 65535 → left ≤ 4096 → Gives n at left o word table count → word < 16 → Refused o word table count
   was-refused short most g h = go (g .answer) (g .is) (g .word-is) (g .bounds)
     where
       go : (a : Answer) → o ≡ out a table count → word ≡ coded a → Bounded n at left a → Refused o word table count

@@ -1,6 +1,8 @@
 -- The lemmas of the evaluator.
 pub mod TerminalWords
 pub mod Gives
+pub mod LoadedRuns
+pub mod LoadedWords
 pub mod Runs
 pub mod Stars
 pub mod Rules

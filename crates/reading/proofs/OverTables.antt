@@ -27,7 +27,7 @@ use Rattle.records.specs.Words.{isHeld, possible, IsPossible, nestingOf, valueO
 use Rattle.records.proofs.Codec.{InRange, value-back, word-held, length-back, examined-back, nesting-back, matched-back, spare-back}
 use Rattle.records.proofs.Test.{says-possible, passes-test}
 use Rattle.reading.specs.Model.{answered, refused, Out, out, bind, afterFirst, afterChoice, afterRound, roundsM}
-use Rattle.reading.specs.Model.{met, looked, ruleM, kindM, nodeM}
+use Rattle.reading.specs.Model.{met, looked, pairM, ruleM, kindM, nodeM}
 use Rattle.reading.specs.Over.{wordAt, taken, over, Over}
 use Rattle.evaluation.specs.Calls.{Pair, In, here, later, bodiesOf}
 use Rattle.evaluation.proofs.Pairs.{in-either, in-left, in-right, none-in}
@@ -151,9 +151,9 @@ module _ (img text table : List ℕ) (words : Question4 img) (short : length tex
       → isHeld (wordAt img t r p) ≡ true
       → possible (wordAt img t r p) p (length text) ≡ true
       → Result (ruleM img text (nodeM img text left) left r p t c) (valueOf (wordAt img t r p)) left t c ps
-  unfolding ruleM looked
+  unfolding pairM looked
   pair-met r p left t c ps g a h e =
-      same (ap (λ (b : Bool). looked b img text (nodeM img text left) left r p t c) h) (meets (wordAt img t r p) p left t c ps g a e)
+      same (ap (λ (b : Bool). looked b (rules img) (root img r) text (nodeM img text left) left r p t c) h) (meets (wordAt img t r p) p left t c ps g a e)
 
   -- What is shown of each subject: for every allowance of at most 4,096, every table grown from the first and every count.
   abbrev Runs : (ℕ → List ℕ → ℕ → Out) → Evaluation → List Pair → Type 0
@@ -220,7 +220,7 @@ module _ (img text table : List ℕ) (words : Question4 img) (short : length tex
       → (In (record { rule = r; position = p }) ps → ⊥)
       → Numbered (root img r) p z ps
       → Runs (λ left t c. ruleM img text (nodeM img text left) left r p t c) z (record { rule = r; position = p } ∷ ps)
-  unfolding ruleM looked
+  unfolding pairM looked
   body-of r p {z} {ps} l h e v bodies not-inside k left most t g c = go (g .slots r p l h)
     where
       pair : Pair
@@ -239,7 +239,7 @@ module _ (img text table : List ℕ) (words : Question4 img) (short : length tex
 
       after :
           isHeld (wordAt img t r p) ≡ false → Result (nodeM img text left (root img r) p t c) z left t c ps
-          → Result (looked false img text (nodeM img text left) left r p t c) z left t c (pair ∷ ps)
+          → Result (looked false (rules img) (root img r) text (nodeM img text left) left r p t c) z left t c (pair ∷ ps)
       after unheld (deep u d j q) = deep u d j (ap (λ (o : Out). bind o (λ x u d. out (answered x) (set u (p * rules img + r) (wordOf x)) ((d + 1) % 2 ^ 64))) q)
       after unheld (fine u d j b i q) =
           let word = word-possible z p (length text) short (over-within v h) (omega arith) in
@@ -258,7 +258,7 @@ module _ (img text table : List ℕ) (words : Question4 img) (short : length tex
 
       go : Slot img text table t r p → Result (ruleM img text (nodeM img text left) left r p t c) z left t c (pair ∷ ps)
       go (kept w) =
-          same (ap (λ (b : Bool). looked b img text (nodeM img text left) left r p t c) (ap isHeld w ∙ e)) (after (ap isHeld w ∙ e) (k left most t g c))
+          same (ap (λ (b : Bool). looked b (rules img) (root img r) text (nodeM img text left) left r p t c) (ap isHeld w ∙ e)) (after (ap isHeld w ∙ e) (k left most t g c))
       go (stored x f u n w) =
           let q = word-possible x p (length text) short (over-within u h) n in
           let says : valueOf (wordAt img t r p) ≡ z = ap valueOf w ∙ value-back x (q .0) ∙ one img text (over img text table) u v in

@@ -94,7 +94,7 @@ module _ (img text : List ℕ) where
           let l = accepted c .lawful in
           pair-over img text [] (l .words) short (start img) 0 start-over (l .counts .start-rule) (omega arith) 4096 (omega arith) [] (grown-none img text []) 0
 
-      pub depth-refused : word < 2 ^ 63 → PlainRead img text (Refused 14)
+      pub depth-refused : word < 16 → PlainRead img text (Refused 14)
       depth-refused h = go given
         where
           go : Given → PlainRead img text (Refused 14)
@@ -118,7 +118,7 @@ module _ (img text : List ℕ) where
                 values = (omega arith, λ e. record { value = start-exists .value; evaluated = start-exists .evaluated; above = k });
               }
 
-      pub answered-reading : 2 ^ 63 ≤ word → (x : Reading) → x ≡ readingOf (length text) (valueOf word) → PlainRead img text (Read x)
+      pub answered-reading : 16 ≤ word → (x : Reading) → x ≡ readingOf (length text) (valueOf word) → PlainRead img text (Read x)
       answered-reading h x ex = go given
         where
           go : Given → PlainRead img text (Read x)

@@ -10,7 +10,7 @@ use lib.ListN.{length, getD, set}
 use lib.Dec.{leb}
 use borrow.Author.Tests.{le-leb, lt-leb}
 use Rattle.grammar.specs.declared.Evaluation.{Evaluation}
-use Rattle.grammar.specs.Image.{Node, node, rules, root, fieldA}
+use Rattle.grammar.specs.Image.{Node}
 use Rattle.evaluation.specs.Within.{Within}
 use Rattle.records.specs.declared.Record.{Record}
 use Rattle.records.specs.declared.Decoded.{Decoded}
@@ -18,7 +18,8 @@ use Rattle.records.specs.declared.Decoded.the-variants.{Possible, Impossible}
 use Rattle.records.specs.Words.{isHeld, possible, IsPossible, nestingOf, valueOf, wordOf, recordOf, recordWord, pick}
 use Rattle.records.proofs.Codec.{word-again}
 use Rattle.records.proofs.Test.{says-possible}
-use Rattle.reading.specs.Model.{Answer, answered, refused, Out, out, Evaluator, bind, met, looked, ruleM, kindM, nodeM}
+use Rattle.reading.specs.Model.{Answer, answered, refused, Out, out, Evaluator, bind, met, looked, pairM, kindM}
+use Rattle.reading.specs.Loaded.{wordNode, wordB, wordM, nodeW, kindW}
 use Rattle.reading.specs.Gives.{Gives}
 use Rattle.reading.proofs.Gives.{found, was-refused, gives-value, gives-refusal}
 
@@ -43,19 +44,19 @@ possible-within word at n h =
       nested = h .some-nesting;
     }
 
-module _ (img text : List ℕ) (nodes : Evaluator) (left rule at : ℕ) (t : List ℕ) (c : ℕ) {word : ℕ}
-    (here : word ≡ getD t (at * rules img + rule) 0)
+module _ (rules root : ℕ) (text : List ℕ) (nodes : Evaluator) (left rule at : ℕ) (t : List ℕ) (c : ℕ) {word : ℕ}
+    (here : word ≡ getD t (at * rules + rule) 0)
   where
-    looks : {b : Bool} → isHeld word ≡ b → ruleM img text nodes left rule at t c ≡ looked b img text nodes left rule at t c
-    unfolding ruleM
-    looks e = ap (λ (k : Bool). looked k img text nodes left rule at t c) (sym (ap isHeld here) ∙ e)
+    looks : {b : Bool} → isHeld word ≡ b → pairM rules root text nodes left rule at t c ≡ looked b rules root text nodes left rule at t c
+    unfolding pairM
+    looks e = ap (λ (k : Bool). looked k rules root text nodes left rule at t c) (sym (ap isHeld here) ∙ e)
 
     meets :
         {p a : Bool}
         → isHeld word ≡ true
         → possible word at (length text) ≡ p
         → leb (nestingOf word) left ≡ a
-        → ruleM img text nodes left rule at t c ≡ met p a word t c
+        → pairM rules root text nodes left rule at t c ≡ met p a word t c
     unfolding looked
     meets {p} {a} e d k =
         looks e
@@ -66,7 +67,7 @@ module _ (img text : List ℕ) (nodes : Evaluator) (left rule at : ℕ) (t : Lis
     pub rule-impossible :
         isHeld word ≡ true
         → possible word at (length text) ≡ false
-        → Gives (length text) at left (ruleM img text nodes left rule at t c) 12 t c
+        → Gives (length text) at left (pairM rules root text nodes left rule at t c) 12 t c
     unfolding met
     rule-impossible e d = gives-refusal (meets e d refl) (omega arith)
 
@@ -74,7 +75,7 @@ module _ (img text : List ℕ) (nodes : Evaluator) (left rule at : ℕ) (t : Lis
         isHeld word ≡ true
         → possible word at (length text) ≡ true
         → left < nestingOf word
-        → Gives (length text) at left (ruleM img text nodes left rule at t c) 14 t c
+        → Gives (length text) at left (pairM rules root text nodes left rule at t c) 14 t c
     unfolding met
     rule-too-deep e d l = gives-refusal (meets e d (lt-leb (nestingOf word) left l)) (omega arith)
 
@@ -84,7 +85,7 @@ module _ (img text : List ℕ) (nodes : Evaluator) (left rule at : ℕ) (t : Lis
         → possible word at (length text) ≡ true
         → nestingOf word ≤ left
         → w ≡ recordWord (recordOf word)
-        → Gives (length text) at left (ruleM img text nodes left rule at t c) w t c
+        → Gives (length text) at left (pairM rules root text nodes left rule at t c) w t c
     unfolding met
     rule-met e d l k =
         let q = says-possible word at (length text) d in
@@ -99,65 +100,60 @@ module _ (img text : List ℕ) (nodes : Evaluator) (left rule at : ℕ) (t : Lis
 
     -- The body, where the pair is not held.
     module _ (short : length text ≤ 65535) (most : left ≤ 4096) (e : isHeld word ≡ false) {r d : ℕ} {u : List ℕ}
-        (g : Gives (length text) at left (nodes (root img rule) at t c) r u d)
+        (g : Gives (length text) at left (nodes root at t c) r u d)
       where
-        pub rule-refused : r < 2 ^ 63 → Gives (length text) at left (ruleM img text nodes left rule at t c) r u d
+        pub rule-refused : r < 16 → Gives (length text) at left (pairM rules root text nodes left rule at t c) r u d
         unfolding looked
         rule-refused h =
             let v = was-refused short most g h in
             gives-refusal
-            (looks e ∙ ap (λ (o : Out). bind o (λ x u d. out (answered x) (set u (at * rules img + rule) (wordOf x)) ((d + 1) % 2 ^ 64))) (v .is))
+            (looks e ∙ ap (λ (o : Out). bind o (λ x u d. out (answered x) (set u (at * rules + rule) (wordOf x)) ((d + 1) % 2 ^ 64))) (v .is))
             (v .small)
 
         pub rule-stored :
-            2 ^ 63 ≤ r
-            → Gives (length text) at left (ruleM img text nodes left rule at t c) r (set u (at * rules img + rule) r) ((d + 1) % 2 ^ 64)
+            16 ≤ r
+            → Gives (length text) at left (pairM rules root text nodes left rule at t c) r (set u (at * rules + rule) r) ((d + 1) % 2 ^ 64)
         unfolding looked
         rule-stored h =
             let v = found short most g h in
             gives-value (v .value)
             (looks e
-            ∙ ap (λ (o : Out). bind o (λ x u d. out (answered x) (set u (at * rules img + rule) (wordOf x)) ((d + 1) % 2 ^ 64))) (v .is)
-            ∙ ap (λ (w : ℕ). out (answered (v .value)) (set u (at * rules img + rule) w) ((d + 1) % 2 ^ 64)) (sym (v .word-is)))
+            ∙ ap (λ (o : Out). bind o (λ x u d. out (answered x) (set u (at * rules + rule) (wordOf x)) ((d + 1) % 2 ^ 64))) (v .is)
+            ∙ ap (λ (w : ℕ). out (answered (v .value)) (set u (at * rules + rule) w) ((d + 1) % 2 ^ 64)) (sym (v .word-is)))
             (v .word-is)
             (v .bounds .shape)
             (v .bounds .allowed)
 
 -- The slot of a pair is far below a machine word.
-pub slot-fits : (at rules : ℕ) → at ≤ 65535 → rules < 256 → at * rules ≤ 16711425
-slot-fits at rules h k = let l : rules ≤ 255 = omega arith in mul-le-mul h l
+pub slot-fits : (at rules : ℕ) → at ≤ 65535 → rules < 2 ^ 32 → at * rules ≤ 281470681677825
+slot-fits at rules h k = let l : rules ≤ 4294967295 = omega arith in mul-le-mul h l
 
-pub rules-small : (img : List ℕ) → rules img < 256
-unfolding rules
-rules-small img = omega arith
+module _ {n : ℕ} (ws text : List ℕ) (left : ℕ) where
+  -- A node: without an allowance, and with one.
+  pub node-too-deep :
+      (i at : ℕ) (t : List ℕ) (c : ℕ) → left ≡ 0 → Gives n at left (nodeW ws text left i at t c) 14 t c
+  node-too-deep i at t c e = subst (λ (l : ℕ). Gives n at l (nodeW ws text l i at t c) 14 t c) (sym e) (unfold nodeW in gives-refusal refl (omega arith))
 
-pub field-small : (img : List ℕ) (n : ℕ) → fieldA img n < 4096
-unfolding fieldA
-field-small img n = omega arith
+  pub node-goes :
+      (i at : ℕ) (t : List ℕ) (c : ℕ) {r d : ℕ} {u : List ℕ}
+      → (left ≡ 0 → ⊥)
+      → Gives n at left (wordM ws text (left - 1) (getD ws i 0) at t c) r u d
+      → Gives n at left (nodeW ws text left i at t c) r u d
+  node-goes i at t c {r} {d} {u} ne g =
+      let l : suc (left - 1) ≡ left = omega arith in
+      subst (λ (k : ℕ). Gives n at left (nodeW ws text k i at t c) r u d) l (unfold nodeW in g)
 
--- A node: without an allowance, and with one.
-pub node-too-deep :
-    {n : ℕ} (img text : List ℕ) (left i at : ℕ) (t : List ℕ) (c : ℕ)
-    → left ≡ 0
-    → Gives n at left (nodeM img text left i at t c) 14 t c
-unfolding nodeM
-node-too-deep img text zero i at t c e = gives-refusal refl (omega arith)
-node-too-deep img text (suc left) i at t c e = absurd (omega arith)
-
-pub node-goes :
-    {n : ℕ} (img text : List ℕ) (left i at : ℕ) (t : List ℕ) (c : ℕ) {m : Node} {r d : ℕ} {u : List ℕ}
-    → (left ≡ 0 → ⊥)
-    → node img i ≡ m
-    → Gives n at (left - 1 + 1) (kindM text (nodeM img text (left - 1)) (ruleM img text (nodeM img text (left - 1)) (left - 1)) m at t c) r u d
-    → Gives n at left (nodeM img text left i at t c) r u d
-unfolding nodeM
-node-goes img text zero i at t c ne e g = absurd (ne refl)
-node-goes {n} img text (suc left) i at t c {m} {r} {d} {u} ne e g =
-    let l : suc left - 1 ≡ left = omega arith in
-    let k : suc left - 1 + 1 ≡ suc left = omega arith in
-    subst (λ (j : ℕ). Gives n at j (kindM text (nodeM img text left) (ruleM img text (nodeM img text left) left) (node img i) at t c) r u d) k
-    (subst (λ (x : Node). Gives n at (suc left - 1 + 1) (kindM text (nodeM img text left) (ruleM img text (nodeM img text left) left) x at t c) r u d) (sym e)
-    (subst (λ (j : ℕ). Gives n at (suc left - 1 + 1) (kindM text (nodeM img text j) (ruleM img text (nodeM img text j) j) m at t c) r u d) l g))
+  -- A node's word, by the node that it stands for.
+  pub word-goes :
+      (w at : ℕ) (t : List ℕ) (c : ℕ) {m : Node} {r d : ℕ} {u : List ℕ}
+      → (left ≡ 0 → ⊥)
+      → wordNode w ≡ m
+      → Gives n at (left - 1 + 1) (kindW ws text (left - 1) (wordB w) m at t c) r u d
+      → Gives n at left (wordM ws text (left - 1) w at t c) r u d
+  word-goes w at t c {m} {r} {d} {u} ne e g =
+      let l : left - 1 + 1 ≡ left = omega arith in
+      subst (λ (k : ℕ). Gives n at k (wordM ws text (left - 1) w at t c) r u d) l
+      (subst (λ (x : Node). Gives n at (left - 1 + 1) (kindW ws text (left - 1) (wordB w) x at t c) r u d) (sym e) g)
 
 -- A kind that is none of 0 to 7.
 pub past-7 :

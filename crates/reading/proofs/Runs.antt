@@ -21,7 +21,7 @@ module _ {n at left : ℕ} (text : List ℕ) (nodes called : Evaluator) (t : Lis
   pub sequence-refused :
       (a b : ℕ) {r d : ℕ} {u : List ℕ}
       → Gives n at left (nodes a at t c) r u d
-      → r < 2 ^ 63
+      → r < 16
       → Gives n at (left + 1) (kindM text nodes called (sequence a b) at t c) r u d
   unfolding kindM
   sequence-refused a b g h =
@@ -31,7 +31,7 @@ module _ {n at left : ℕ} (text : List ℕ) (nodes called : Evaluator) (t : Lis
   pub sequence-failed :
       (a b : ℕ) {r d w : ℕ} {u : List ℕ}
       → Gives n at left (nodes a at t c) r u d
-      → 2 ^ 63 ≤ r
+      → 16 ≤ r
       → matchedOf r ≡ false
       → w ≡ wordOf (firstFailed (valueOf r))
       → Gives n at (left + 1) (kindM text nodes called (sequence a b) at t c) w u d
@@ -47,7 +47,7 @@ module _ {n at left : ℕ} (text : List ℕ) (nodes called : Evaluator) (t : Lis
       (omega (arith, f .bounds .allowed))
 
   -- What the first part leaves: its evaluation, its length as the word says it.
-  module _ (a b : ℕ) {r d : ℕ} {u : List ℕ} (g : Gives n at left (nodes a at t c) r u d) (h : 2 ^ 63 ≤ r) (m : matchedOf r ≡ true) where
+  module _ (a b : ℕ) {r d : ℕ} {u : List ℕ} (g : Gives n at left (nodes a at t c) r u d) (h : 16 ≤ r) (m : matchedOf r ≡ true) where
     then-runs : (o : Out) → nodes b (at + lengthOf r) u d ≡ o → kindM text nodes called (sequence a b) at t c ≡ made (inSequence (valueOf r)) o
     unfolding kindM afterFirst
     then-runs o e =
@@ -63,7 +63,7 @@ module _ {n at left : ℕ} (text : List ℕ) (nodes called : Evaluator) (t : Lis
     pub sequence-second-refused :
         {s e : ℕ} {v : List ℕ}
         → Gives n (at + lengthOf r) left (nodes b (at + lengthOf r) u d) s v e
-        → s < 2 ^ 63
+        → s < 16
         → Gives n at (left + 1) (kindM text nodes called (sequence a b) at t c) s v e
     sequence-second-refused g2 h2 =
         let f = was-refused short (omega arith) g2 h2 in
@@ -72,7 +72,7 @@ module _ {n at left : ℕ} (text : List ℕ) (nodes called : Evaluator) (t : Lis
     pub joinable :
         {s e : ℕ} {v : List ℕ}
         → Gives n (at + lengthOf r) left (nodes b (at + lengthOf r) u d) s v e
-        → 2 ^ 63 ≤ s
+        → 16 ≤ s
         → Joinable r s
     joinable g2 h2 =
         let x = found short (omega arith) g h in
@@ -87,7 +87,7 @@ module _ {n at left : ℕ} (text : List ℕ) (nodes called : Evaluator) (t : Lis
     pub sequence-both :
         {s e w : ℕ} {v : List ℕ}
         → Gives n (at + lengthOf r) left (nodes b (at + lengthOf r) u d) s v e
-        → 2 ^ 63 ≤ s
+        → 16 ≤ s
         → w ≡ wordOf (inSequence (valueOf r) (valueOf s))
         → Gives n at (left + 1) (kindM text nodes called (sequence a b) at t c) w v e
     sequence-both {s} {e} {v = v} g2 h2 k =
@@ -106,7 +106,7 @@ module _ {n at left : ℕ} (text : List ℕ) (nodes called : Evaluator) (t : Lis
   pub choice-refused :
       (a b : ℕ) {r d : ℕ} {u : List ℕ}
       → Gives n at left (nodes a at t c) r u d
-      → r < 2 ^ 63
+      → r < 16
       → Gives n at (left + 1) (kindM text nodes called (choice a b) at t c) r u d
   unfolding kindM
   choice-refused a b g h =
@@ -116,7 +116,7 @@ module _ {n at left : ℕ} (text : List ℕ) (nodes called : Evaluator) (t : Lis
   pub choice-first :
       (a b : ℕ) {r d w : ℕ} {u : List ℕ}
       → Gives n at left (nodes a at t c) r u d
-      → 2 ^ 63 ≤ r
+      → 16 ≤ r
       → matchedOf r ≡ true
       → w ≡ wordOf (takenOver (valueOf r))
       → Gives n at (left + 1) (kindM text nodes called (choice a b) at t c) w u d
@@ -131,7 +131,7 @@ module _ {n at left : ℕ} (text : List ℕ) (nodes called : Evaluator) (t : Lis
       (taken-within (f .bounds .shape))
       (omega (arith, f .bounds .allowed))
 
-  module _ (a b : ℕ) {r d : ℕ} {u : List ℕ} (g : Gives n at left (nodes a at t c) r u d) (h : 2 ^ 63 ≤ r) (m : matchedOf r ≡ false) where
+  module _ (a b : ℕ) {r d : ℕ} {u : List ℕ} (g : Gives n at left (nodes a at t c) r u d) (h : 16 ≤ r) (m : matchedOf r ≡ false) where
     else-runs : (o : Out) → nodes b at u d ≡ o → kindM text nodes called (choice a b) at t c ≡ made (secondChoice (valueOf r)) o
     unfolding kindM afterChoice
     else-runs o e =
@@ -145,7 +145,7 @@ module _ {n at left : ℕ} (text : List ℕ) (nodes called : Evaluator) (t : Lis
     pub choice-second-refused :
         {s e : ℕ} {v : List ℕ}
         → Gives n at left (nodes b at u d) s v e
-        → s < 2 ^ 63
+        → s < 16
         → Gives n at (left + 1) (kindM text nodes called (choice a b) at t c) s v e
     choice-second-refused g2 h2 =
         let f = was-refused short (omega arith) g2 h2 in
@@ -154,7 +154,7 @@ module _ {n at left : ℕ} (text : List ℕ) (nodes called : Evaluator) (t : Lis
     pub choice-second :
         {s e w : ℕ} {v : List ℕ}
         → Gives n at left (nodes b at u d) s v e
-        → 2 ^ 63 ≤ s
+        → 16 ≤ s
         → w ≡ wordOf (secondChoice (valueOf r) (valueOf s))
         → Gives n at (left + 1) (kindM text nodes called (choice a b) at t c) w v e
     choice-second {s} {e} {v = v} g2 h2 k =
@@ -172,7 +172,7 @@ module _ {n at left : ℕ} (text : List ℕ) (nodes called : Evaluator) (t : Lis
   pub not-refused :
       (a : ℕ) {r d : ℕ} {u : List ℕ}
       → Gives n at left (nodes a at t c) r u d
-      → r < 2 ^ 63
+      → r < 16
       → Gives n at (left + 1) (kindM text nodes called (not-predicate a) at t c) r u d
   unfolding kindM
   not-refused a g h =
@@ -182,7 +182,7 @@ module _ {n at left : ℕ} (text : List ℕ) (nodes called : Evaluator) (t : Lis
   pub not-answered :
       (a : ℕ) {r d w : ℕ} {u : List ℕ}
       → Gives n at left (nodes a at t c) r u d
-      → 2 ^ 63 ≤ r
+      → 16 ≤ r
       → w ≡ wordOf (negated (valueOf r))
       → Gives n at (left + 1) (kindM text nodes called (not-predicate a) at t c) w u d
   unfolding kindM
@@ -198,7 +198,7 @@ module _ {n at left : ℕ} (text : List ℕ) (nodes called : Evaluator) (t : Lis
   pub call-refused :
       (rule : ℕ) {r d : ℕ} {u : List ℕ}
       → Gives n at left (called rule at t c) r u d
-      → r < 2 ^ 63
+      → r < 16
       → Gives n at (left + 1) (kindM text nodes called (call rule) at t c) r u d
   unfolding kindM
   call-refused rule g h =
@@ -208,7 +208,7 @@ module _ {n at left : ℕ} (text : List ℕ) (nodes called : Evaluator) (t : Lis
   pub call-answered :
       (rule : ℕ) {r d w : ℕ} {u : List ℕ}
       → Gives n at left (called rule at t c) r u d
-      → 2 ^ 63 ≤ r
+      → 16 ≤ r
       → w ≡ wordOf (takenOver (valueOf r))
       → Gives n at (left + 1) (kindM text nodes called (call rule) at t c) w u d
   unfolding kindM
@@ -226,7 +226,7 @@ pub nesting-allowed :
     → n ≤ 65535
     → left ≤ 4096
     → Gives n at left o r u d
-    → 2 ^ 63 ≤ r
+    → 16 ≤ r
     → nestingOf r ≤ left
 nesting-allowed short most g h =
     let f = found short most g h in
@@ -238,7 +238,7 @@ pub length-within :
     → n ≤ 65535
     → left ≤ 4096
     → Gives n at left o r u d
-    → 2 ^ 63 ≤ r
+    → 16 ≤ r
     → at + lengthOf r ≤ n
 length-within short most g h =
     let f = found short most g h in

@@ -122,7 +122,7 @@ module _ {n at left : ℕ} (nodes : Evaluator) (a : ℕ) {goal : Out} {t : List 
     pub round-refused :
         {r d : ℕ} {u : List ℕ}
         → Gives n (at + consumed) left (nodes a (at + consumed) t c) r u d
-        → r < 2 ^ 63
+        → r < 16
         → made takenOver goal ≡ out (refused r) u d
     unfolding roundsM
     round-refused g h =
@@ -134,7 +134,7 @@ module _ {n at left : ℕ} (nodes : Evaluator) (a : ℕ) {goal : Out} {t : List 
         .1
 
     -- The round gave v with u and d: all rounds are then what comes after it.
-    module _ {r d : ℕ} {u : List ℕ} (g : Gives n (at + consumed) left (nodes a (at + consumed) t c) r u d) (h : 2 ^ 63 ≤ r) where
+    module _ {r d : ℕ} {u : List ℕ} (g : Gives n (at + consumed) left (nodes a (at + consumed) t c) r u d) (h : 16 ≤ r) where
       after-round :
           (f : ℕ) (m s : Bool)
           → matchedOf r ≡ m

@@ -60,16 +60,19 @@ met false allowed word t c = out (refused 12) t c
 met true true word t c = out (answered (valueOf word)) t c
 met true false word t c = out (refused 14) t c
 
--- A pair: its slot, whether its word is held.
-unfoldable pub looked : Bool → (img text : List ℕ) → Evaluator → (left rule at : ℕ) → List ℕ → ℕ → Out
-looked true img text ev left r at t c =
-    let word = getD t (at * rules img + r) 0 in
+-- A pair of a grammar of so many rules, whose rule has that root: whether its word is held.
+unfoldable pub looked : Bool → (rules root : ℕ) → (text : List ℕ) → Evaluator → (left rule at : ℕ) → List ℕ → ℕ → Out
+looked true rules root text ev left r at t c =
+    let word = getD t (at * rules + r) 0 in
     met (possible word at (length text)) (leb (nestingOf word) left) word t c
-looked false img text ev left r at t c =
-    bind (ev (root img r) at t c) (λ x u d. out (answered x) (set u (at * rules img + r) (wordOf x)) ((d + 1) % 2 ^ 64))
+looked false rules root text ev left r at t c =
+    bind (ev root at t c) (λ x u d. out (answered x) (set u (at * rules + r) (wordOf x)) ((d + 1) % 2 ^ 64))
 
-unfoldable pub ruleM : (img text : List ℕ) → Evaluator → (left : ℕ) → Evaluator
-ruleM img text ev left r at t c = looked (isHeld (getD t (at * rules img + r) 0)) img text ev left r at t c
+unfoldable pub pairM : (rules root : ℕ) → (text : List ℕ) → Evaluator → (left : ℕ) → Evaluator
+pairM rules root text ev left r at t c = looked (isHeld (getD t (at * rules + r) 0)) rules root text ev left r at t c
+
+abbrev pub ruleM : (img text : List ℕ) → Evaluator → (left : ℕ) → Evaluator
+ruleM img text ev left r = pairM (rules img) (root img r) text ev left r
 
 -- A node, by what it is: `nodes` evaluates its children, `called` the rules that it calls.
 unfoldable pub kindM : (text : List ℕ) → (nodes called : Evaluator) → Node → (at : ℕ) → List ℕ → ℕ → Out

@@ -1,24 +1,25 @@
 // The evaluator: "Nodes call rules and rules evaluate nodes, in turn." A function for each kind that has something inside stands
-// between the two, which keeps the stack's frames small. `left` is the remaining allowance of nesting: it falls by one from a node to
-// what is evaluated inside it, and not from a rule to its body. An answer is a record word, or the number of a refusal, which is not
-// held.
+// between the two. `left` is the remaining allowance of nesting: it falls by one from a node to what is evaluated inside it, and not
+// from a rule to its body. An answer is a record word, or the number of a refusal, which is below 16 and so not held.
 use crate::answers;
+use crate::loaded;
 use crate::memo;
 use crate::terminals;
 use records::Decoded;
 use records::Record;
-ghost use Prim.Native.Nat.{_+_, _<_, _≤_};
+ghost use Prim.Native.Nat.{_+_, _-_, _<_, _≤_};
 ghost use lib.ListN.{length};
 ghost use Rattle.grammar.specs.Image.{sequence, choice, star, not-predicate, call};
-ghost use Rattle.reading.specs.Model.{kindM, nodeM, ruleM};
+ghost use Rattle.reading.specs.Model.{pairM};
+ghost use Rattle.reading.specs.Loaded.{rulesIn, nodeW, wordM, kindW};
 ghost use Rattle.reading.specs.Gives.{Ready, Gives};
 
 // The word of the empty node's evaluation: matched, nesting 1.
 const EMPTY_HERE: u64 = 0xC000_0002_0000_0000;
 
-// A node at a position.
-pub fn eval_node(
-    image: &[u8],
+// A node at a position. A byte range is answered here, which saves the call that most visits would end in.
+fn eval_node(
+    words: &[u32; 4097],
     text: &[u8],
     table: &mut [u64],
     count: &mut u64,
@@ -26,25 +27,46 @@ pub fn eval_node(
     at: usize,
     left: usize,
 ) -> u64
-    requires { ⌜ Ready (now text) at left ⌝ }
-    ensures { λ r. ⌜ Gives (length (now (text .entry))) at left (nodeM (now (image .entry)) (now (text .entry)) left node at (now (table .entry)) (now (count .entry))) r (now (table .exit)) (now (count .exit)) ⌝ }
+    requires { ⌜ Ready (now text) at left × (node < 4096) ⌝ }
+    ensures { λ r. ⌜ Gives (length (now (text .entry))) at left (nodeW (now (words .entry)) (now (text .entry)) left node at (now (table .entry)) (now (count .entry))) r (now (table .exit)) (now (count .exit)) ⌝ }
 {
     if left == 0 {
         return 14;
     }
-    let word = image::node_at(image, node);
-    let kind = word.kind;
-    let a = word.a;
-    let b = word.b;
+    let word = words[node];
+    let fields = image::node_of(word);
+    if fields.kind == 2 {
+        return terminals::byte_between(text, fields.a, fields.b, at);
+    }
+    eval_word(words, text, table, count, word, at, left)
+}
+
+// A node's word at a position.
+pub fn eval_word(
+    words: &[u32; 4097],
+    text: &[u8],
+    table: &mut [u64],
+    count: &mut u64,
+    word: u32,
+    at: usize,
+    left: usize,
+) -> u64
+    requires { ⌜ Ready (now text) at left × (0 < left) ⌝ }
+    ensures { λ r. ⌜ Gives (length (now (text .entry))) at left (wordM (now (words .entry)) (now (text .entry)) (left - 1) word at (now (table .entry)) (now (count .entry))) r (now (table .exit)) (now (count .exit)) ⌝ }
+{
+    let fields = image::node_of(word);
+    let kind = fields.kind;
+    let a = fields.a;
+    let b = fields.b;
     match kind {
         0 => EMPTY_HERE,
         1 => terminals::any_byte(text, at),
         2 => terminals::byte_between(text, a, b, at),
-        3 => eval_sequence(image, text, table, count, a, b, at, left - 1),
-        4 => eval_choice(image, text, table, count, a, b, at, left - 1),
-        5 => eval_star(image, text, table, count, a, at, left - 1),
-        6 => eval_not(image, text, table, count, a, at, left - 1),
-        7 => eval_call(image, text, table, count, a, at, left - 1),
+        3 => eval_sequence(words, text, table, count, a, b, at, left - 1),
+        4 => eval_choice(words, text, table, count, a, b, at, left - 1),
+        5 => eval_star(words, text, table, count, a, at, left - 1),
+        6 => eval_not(words, text, table, count, a, at, left - 1),
+        7 => eval_call(words, text, table, count, a, b, at, left - 1),
         8..=15 => 4,
         _ => 4,
     }
@@ -52,7 +74,7 @@ pub fn eval_node(
 
 // A then B.
 fn eval_sequence(
-    image: &[u8],
+    words: &[u32; 4097],
     text: &[u8],
     table: &mut [u64],
     count: &mut u64,
@@ -61,18 +83,18 @@ fn eval_sequence(
     at: usize,
     left: usize,
 ) -> u64
-    requires { ⌜ Ready (now text) at (left + 1) ⌝ }
-    ensures { λ r. ⌜ Gives (length (now (text .entry))) at (left + 1) (kindM (now (text .entry)) (nodeM (now (image .entry)) (now (text .entry)) left) (ruleM (now (image .entry)) (now (text .entry)) (nodeM (now (image .entry)) (now (text .entry)) left) left) (sequence a b) at (now (table .entry)) (now (count .entry))) r (now (table .exit)) (now (count .exit)) ⌝ }
+    requires { ⌜ Ready (now text) at (left + 1) × (a < 4096) × (b < 4096) ⌝ }
+    ensures { λ r. ⌜ Gives (length (now (text .entry))) at (left + 1) (kindW (now (words .entry)) (now (text .entry)) left b (sequence a b) at (now (table .entry)) (now (count .entry))) r (now (table .exit)) (now (count .exit)) ⌝ }
 {
-    let x = eval_node(image, text, table, count, a, at, left);
-    if x < 0x8000_0000_0000_0000 {
+    let x = eval_node(words, text, table, count, a, at, left);
+    if x < 16 {
         return x;
     }
     if !records::matched_of(x) {
         return answers::first_failed(x);
     }
     let y = eval_node(
-        image,
+        words,
         text,
         table,
         count,
@@ -80,7 +102,7 @@ fn eval_sequence(
         at + records::length_of(x),
         left,
     );
-    if y < 0x8000_0000_0000_0000 {
+    if y < 16 {
         return y;
     }
     answers::in_sequence(x, y)
@@ -88,7 +110,7 @@ fn eval_sequence(
 
 // A else B.
 fn eval_choice(
-    image: &[u8],
+    words: &[u32; 4097],
     text: &[u8],
     table: &mut [u64],
     count: &mut u64,
@@ -97,18 +119,18 @@ fn eval_choice(
     at: usize,
     left: usize,
 ) -> u64
-    requires { ⌜ Ready (now text) at (left + 1) ⌝ }
-    ensures { λ r. ⌜ Gives (length (now (text .entry))) at (left + 1) (kindM (now (text .entry)) (nodeM (now (image .entry)) (now (text .entry)) left) (ruleM (now (image .entry)) (now (text .entry)) (nodeM (now (image .entry)) (now (text .entry)) left) left) (choice a b) at (now (table .entry)) (now (count .entry))) r (now (table .exit)) (now (count .exit)) ⌝ }
+    requires { ⌜ Ready (now text) at (left + 1) × (a < 4096) × (b < 4096) ⌝ }
+    ensures { λ r. ⌜ Gives (length (now (text .entry))) at (left + 1) (kindW (now (words .entry)) (now (text .entry)) left b (choice a b) at (now (table .entry)) (now (count .entry))) r (now (table .exit)) (now (count .exit)) ⌝ }
 {
-    let x = eval_node(image, text, table, count, a, at, left);
-    if x < 0x8000_0000_0000_0000 {
+    let x = eval_node(words, text, table, count, a, at, left);
+    if x < 16 {
         return x;
     }
     if records::matched_of(x) {
         return answers::taken_over(x);
     }
-    let y = eval_node(image, text, table, count, b, at, left);
-    if y < 0x8000_0000_0000_0000 {
+    let y = eval_node(words, text, table, count, b, at, left);
+    if y < 16 {
         return y;
     }
     answers::second_choice(x, y)
@@ -116,7 +138,7 @@ fn eval_choice(
 
 // Not A.
 fn eval_not(
-    image: &[u8],
+    words: &[u32; 4097],
     text: &[u8],
     table: &mut [u64],
     count: &mut u64,
@@ -124,11 +146,11 @@ fn eval_not(
     at: usize,
     left: usize,
 ) -> u64
-    requires { ⌜ Ready (now text) at (left + 1) ⌝ }
-    ensures { λ r. ⌜ Gives (length (now (text .entry))) at (left + 1) (kindM (now (text .entry)) (nodeM (now (image .entry)) (now (text .entry)) left) (ruleM (now (image .entry)) (now (text .entry)) (nodeM (now (image .entry)) (now (text .entry)) left) left) (not-predicate a) at (now (table .entry)) (now (count .entry))) r (now (table .exit)) (now (count .exit)) ⌝ }
+    requires { ⌜ Ready (now text) at (left + 1) × (a < 4096) ⌝ }
+    ensures { λ r. ⌜ Gives (length (now (text .entry))) at (left + 1) (kindW (now (words .entry)) (now (text .entry)) left 0 (not-predicate a) at (now (table .entry)) (now (count .entry))) r (now (table .exit)) (now (count .exit)) ⌝ }
 {
-    let x = eval_node(image, text, table, count, a, at, left);
-    if x < 0x8000_0000_0000_0000 {
+    let x = eval_node(words, text, table, count, a, at, left);
+    if x < 16 {
         return x;
     }
     answers::negated_answer(x)
@@ -136,7 +158,7 @@ fn eval_not(
 
 // A zero or more times: rounds until one fails. A matched round of length 0 gets refusal 12.
 fn eval_star(
-    image: &[u8],
+    words: &[u32; 4097],
     text: &[u8],
     table: &mut [u64],
     count: &mut u64,
@@ -144,15 +166,15 @@ fn eval_star(
     at: usize,
     left: usize,
 ) -> u64
-    requires { ⌜ Ready (now text) at (left + 1) ⌝ }
-    ensures { λ r. ⌜ Gives (length (now (text .entry))) at (left + 1) (kindM (now (text .entry)) (nodeM (now (image .entry)) (now (text .entry)) left) (ruleM (now (image .entry)) (now (text .entry)) (nodeM (now (image .entry)) (now (text .entry)) left) left) (star a) at (now (table .entry)) (now (count .entry))) r (now (table .exit)) (now (count .exit)) ⌝ }
+    requires { ⌜ Ready (now text) at (left + 1) × (a < 4096) ⌝ }
+    ensures { λ r. ⌜ Gives (length (now (text .entry))) at (left + 1) (kindW (now (words .entry)) (now (text .entry)) left 0 (star a) at (now (table .entry)) (now (count .entry))) r (now (table .exit)) (now (count .exit)) ⌝ }
 {
     let mut consumed = 0usize;
     let mut examined = 0usize;
     let mut deepest = 0usize;
     loop {
-        let x = eval_node(image, text, table, count, a, at + consumed, left);
-        if x < 0x8000_0000_0000_0000 {
+        let x = eval_node(words, text, table, count, a, at + consumed, left);
+        if x < 16 {
             return x;
         }
         examined = answers::larger(examined, consumed + records::examined_of(x));
@@ -170,39 +192,41 @@ fn eval_star(
 
 // A call of a rule.
 fn eval_call(
-    image: &[u8],
+    words: &[u32; 4097],
     text: &[u8],
     table: &mut [u64],
     count: &mut u64,
     rule: usize,
+    root: usize,
     at: usize,
     left: usize,
 ) -> u64
-    requires { ⌜ Ready (now text) at (left + 1) × (rule < 4096) ⌝ }
-    ensures { λ r. ⌜ Gives (length (now (text .entry))) at (left + 1) (kindM (now (text .entry)) (nodeM (now (image .entry)) (now (text .entry)) left) (ruleM (now (image .entry)) (now (text .entry)) (nodeM (now (image .entry)) (now (text .entry)) left) left) (call rule) at (now (table .entry)) (now (count .entry))) r (now (table .exit)) (now (count .exit)) ⌝ }
+    requires { ⌜ Ready (now text) at (left + 1) × (rule < 4096) × (root < 4096) ⌝ }
+    ensures { λ r. ⌜ Gives (length (now (text .entry))) at (left + 1) (kindW (now (words .entry)) (now (text .entry)) left root (call rule) at (now (table .entry)) (now (count .entry))) r (now (table .exit)) (now (count .exit)) ⌝ }
 {
-    let x = eval_rule(image, text, table, count, rule, at, left);
-    if x < 0x8000_0000_0000_0000 {
+    let x = eval_rule(words, text, table, count, rule, root, at, left);
+    if x < 16 {
         return x;
     }
     answers::taken_over(x)
 }
 
-// A rule at a position: its pair is looked up before its body is evaluated.
+// A rule, whose body has that root, at a position: its pair is looked up before its body is evaluated.
 pub fn eval_rule(
-    image: &[u8],
+    words: &[u32; 4097],
     text: &[u8],
     table: &mut [u64],
     count: &mut u64,
     rule: usize,
+    root: usize,
     at: usize,
     left: usize,
 ) -> u64
-    requires { ⌜ Ready (now text) at left × (rule < 4096) ⌝ }
-    ensures { λ r. ⌜ Gives (length (now (text .entry))) at left (ruleM (now (image .entry)) (now (text .entry)) (nodeM (now (image .entry)) (now (text .entry)) left) left rule at (now (table .entry)) (now (count .entry))) r (now (table .exit)) (now (count .exit)) ⌝ }
+    requires { ⌜ Ready (now text) at left × (rule < 4096) × (root < 4096) ⌝ }
+    ensures { λ r. ⌜ Gives (length (now (text .entry))) at left (pairM (rulesIn (now (words .entry))) root (now (text .entry)) (nodeW (now (words .entry)) (now (text .entry)) left) left rule at (now (table .entry)) (now (count .entry))) r (now (table .exit)) (now (count .exit)) ⌝ }
 {
-    let header = image::header_of(image);
-    let slot = at * header.rules + rule;
+    let rules = loaded::rules_in(words);
+    let slot = at * rules + rule;
     let word = memo::look(table, slot);
     if records::is_held(word) {
         let Decoded::Possible(held) = Record::from_word(word, at, text.len()) else {
@@ -213,9 +237,8 @@ pub fn eval_rule(
         }
         return held.word();
     }
-    let body = image::rule_at(image, rule);
-    let value = eval_node(image, text, table, count, body.root, at, left);
-    if value < 0x8000_0000_0000_0000 {
+    let value = eval_node(words, text, table, count, root, at, left);
+    if value < 16 {
         return value;
     }
     memo::put(table, slot, value);

@@ -1,5 +1,6 @@
 // The plain reading: a reading without records. Its answer depends on the image and the text alone.
 use crate::evaluate;
+use crate::loaded;
 use records::Record;
 ghost use Prim.Native.Nat.{_≤_};
 ghost use mathlib.Core.Path.{_≡_};
@@ -59,20 +60,24 @@ fn reading_of(word: u64, n: usize) -> Reading
     }
 }
 
-// The start pair's word over no records.
+// The start pair's word over no records: that of its rule's body.
 fn start_word(image: &[u8], text: &[u8]) -> u64
     requires { ⌜ Accepted (now image) × (length (now text) ≤ 65535) ⌝ }
     ensures { λ r. ⌜ StartWord (now (image .entry)) (now (text .entry)) r ⌝ }
 {
+    let words = loaded::load(image);
     let header = image::header_of(image);
+    let body = image::rule_at(image, header.start);
+    let root = body.root;
+    let word = words[root];
     let mut table = [0u64; 0];
     let mut count = 0u64;
-    evaluate::eval_rule(
-        image,
+    evaluate::eval_word(
+        &words,
         text,
         &mut table,
         &mut count,
-        header.start,
+        word,
         0,
         Record::MAX_NESTING,
     )
@@ -91,7 +96,7 @@ pub fn plain_reading(image: &[u8], text: &[u8]) -> PlainAnswer
         return PlainAnswer::Refused(8);
     }
     let word = start_word(image, text);
-    if word < 0x8000_0000_0000_0000 {
+    if word < 16 {
         return PlainAnswer::Refused(14);
     }
     PlainAnswer::Read(reading_of(word, text.len()))

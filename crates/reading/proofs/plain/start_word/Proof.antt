@@ -1,22 +1,52 @@
 use native.Mathlib.Omega.{arith}
+use mathlib.Core.Path.{_≡_, ap, _∙_}
+use Rattle.grammar.specs.Image.{root, start}
+use Rattle.reading.proofs.LoadedWords.{root-small}
+use Rattle.reading.proofs.LoadedRuns.{start-given}
 use borrow.Author.Needs.{needs}
 use Rattle.reading.proofs.plain.start_word.Statement.{statement}
 use Rattle.reading.proofs.plain.start_word.Tie as tie
 
+load-requires : tie.Need-load-requires
+load-requires c κs = search needs
+
 header-of-requires : tie.Need-header-of-requires
 header-of-requires c κs = search needs
 
-slice-aggregate-eval-rule : tie.Need-slice-aggregate-eval-rule
-slice-aggregate-eval-rule c = search needs
+rule-at-requires : tie.Need-rule-at-requires
+rule-at-requires c κs = search needs
 
-eval-rule-requires : tie.Need-eval-rule-requires
-eval-rule-requires c κs =
-    (record { short = c .before .before .before .before .before .pre .1; here = omega arith; most = omega arith }, omega (arith, c .before .before .header-of .ensures .its-start, c .before .before .before .before .before .pre .0 .lawful .counts .start-rule, c .before .before .before .before .before .pre .0 .lawful .counts .few-rules))
+mul-word : tie.Need-mul-word
+mul-word c =
+    let small = root-small (c .before .before .before .before .before .args .image .now) (c .before .header-of .result .start) in
+    omega (arith, c .rule-at .ensures .its-root)
+
+array-read-word : tie.Need-array-read-word
+array-read-word c =
+    let small = root-small (c .before .before .before .before .before .args .image .now) (c .before .header-of .result .start) in
+    omega (arith, c .rule-at .ensures .its-root)
+
+slice-aggregate-eval-word : tie.Need-slice-aggregate-eval-word
+slice-aggregate-eval-word c = search needs
+
+eval-word-requires : tie.Need-eval-word-requires
+eval-word-requires c κs = search needs
 
 returns : tie.Need-returns
 returns c =
-    record { table = _; count = _; gives = rw (c .before .before .before .before .header-of .ensures .its-start) at (c .before .eval-rule .ensures) }
+    let e : c .before .before .before .before .before .rule-at .result .root ≡ root (c .before .before .before .before .before .before .before .before .before .before .args .image .now) (start (c .before .before .before .before .before .before .before .before .before .before .args .image .now)) =
+    c .before .before .before .before .before .rule-at .ensures .its-root ∙ ap (root (c .before .before .before .before .before .before .before .before .before .before .args .image .now)) (c .before .before .before .before .before .before .header-of .ensures .its-start) in
+    start-given (c .before .before .before .before .before .before .before .before .before .before .args .image .now) (c .before .before .before .before .before .before .before .before .before .before .args .text .now) (c .before .before .before .before .before .before .before .load .ensures) (c .before .before .before .before .before .before .before .before .before .before .pre .1) (rw e at (c .before .eval-word .ensures))
 
 pub start-word-spec : {M : Type 1} → statement M
 start-word-spec =
-    tie.close (tie.spec header-of-requires slice-aggregate-eval-rule eval-rule-requires returns)
+    tie.close
+    (tie.spec
+    load-requires
+    header-of-requires
+    rule-at-requires
+    mul-word
+    array-read-word
+    slice-aggregate-eval-word
+    eval-word-requires
+    returns)
