@@ -2,63 +2,42 @@
 -- Assumes nothing.
 use Prim.Native.Nat.{ℕ, zero, suc, _≤_}
 use native.Mathlib.Omega.{arith}
-use mathlib.Core.Path.{_≡_, refl, ap}
+use mathlib.Core.Path.{_≡_, refl, sym, ap, _∙_}
 use mathlib.Core.Bool.{Bool, true, false, not, _&&_, _||_}
 use mathlib.Core.List.{List}
 use lib.ListN.{getD}
-use Rattle.grammar.specs.Image.{root, kind, fieldA, fieldB, node}
+use Rattle.grammar.specs.Image.{Node, root, kind, fieldA, fieldB, node}
 use Rattle.grammar.specs.Outcomes.{matches-empty}
 use Rattle.grammar.proofs.Nodes.{is-empty, is-any, is-range, is-sequence, is-choice, is-star, is-not, is-call, is-unlawful}
-use Rattle.checker.specs.Sets.{bit, thenSet, elseSet, starSet, notSet}
+use Rattle.checker.specs.Sets.{bit, setOfKind}
+use Rattle.checker.specs.Nodes.{Linked}
 use Rattle.checker.specs.Rounds.{gathered, formedFrom}
 
-module _ (img known : List ℕ) (n : ℕ) where
-  pub gathers-0 : kind img n ≡ 0 → gathered img known (node img n) ≡ 1
-  unfolding gathered
-  gathers-0 e = ap (gathered img known) (is-empty img n e)
+-- What the table gives for a node's kind and for the sets of the nodes that its word names is what the node gathers.
+pub gathers-by-kind :
+    (img known : List ℕ) {n k a b : ℕ}
+    → kind img n ≤ 7
+    → Linked img n k a b
+    → setOfKind k (getD known a 0) (getD known b 0) ≡ gathered img known (node img n)
+unfolding gathered setOfKind
+gathers-by-kind img known {n} {k} {a} {b} most w = go (kind img n) refl
+  where
+    sets : ℕ → ℕ
+    sets i = setOfKind i (getD known a 0) (getD known b 0)
 
-  gathers-1 : kind img n ≡ 1 → gathered img known (node img n) ≡ 6
-  unfolding gathered
-  gathers-1 e = ap (gathered img known) (is-any img n e)
+    of : {m : Node} (i : ℕ) → kind img n ≡ i → node img n ≡ m → sets i ≡ gathered img known m → sets k ≡ gathered img known (node img n)
+    of i e f g = ap sets (w .same-kind ∙ e) ∙ g ∙ sym (ap (gathered img known) f)
 
-  gathers-2 : kind img n ≡ 2 → gathered img known (node img n) ≡ 6
-  unfolding gathered
-  gathers-2 e = ap (gathered img known) (is-range img n e)
-
-  pub gathers-1-2 : 1 ≤ kind img n → kind img n ≤ 2 → gathered img known (node img n) ≡ 6
-  gathers-1-2 h k = go (kind img n) refl
-    where
-      go : (i : ℕ) → kind img n ≡ i → gathered img known (node img n) ≡ 6
-      go zero e = absurd (omega arith)
-      go (suc zero) e = gathers-1 e
-      go (suc (suc zero)) e = gathers-2 e
-      go (suc (suc (suc i))) e = absurd (omega arith)
-
-  pub gathers-3 :
-      kind img n ≡ 3 → gathered img known (node img n) ≡ thenSet (getD known (fieldA img n) 0) (getD known (fieldB img n) 0)
-  unfolding gathered
-  gathers-3 e = ap (gathered img known) (is-sequence img n e)
-
-  pub gathers-4 :
-      kind img n ≡ 4 → gathered img known (node img n) ≡ elseSet (getD known (fieldA img n) 0) (getD known (fieldB img n) 0)
-  unfolding gathered
-  gathers-4 e = ap (gathered img known) (is-choice img n e)
-
-  pub gathers-5 : kind img n ≡ 5 → gathered img known (node img n) ≡ starSet (getD known (fieldA img n) 0)
-  unfolding gathered
-  gathers-5 e = ap (gathered img known) (is-star img n e)
-
-  pub gathers-6 : kind img n ≡ 6 → gathered img known (node img n) ≡ notSet (getD known (fieldA img n) 0)
-  unfolding gathered
-  gathers-6 e = ap (gathered img known) (is-not img n e)
-
-  pub gathers-7 : kind img n ≡ 7 → gathered img known (node img n) ≡ getD known (root img (fieldA img n)) 0
-  unfolding gathered
-  gathers-7 e = ap (gathered img known) (is-call img n e)
-
-  pub gathers-8 : 8 ≤ kind img n → gathered img known (node img n) ≡ 0
-  unfolding gathered
-  gathers-8 h = ap (gathered img known) (is-unlawful img n h)
+    go : (i : ℕ) → kind img n ≡ i → sets k ≡ gathered img known (node img n)
+    go zero e = of 0 e (is-empty img n e) refl
+    go (suc zero) e = of 1 e (is-any img n e) refl
+    go (suc (suc zero)) e = of 2 e (is-range img n e) refl
+    go (suc (suc (suc zero))) e = of 3 e (is-sequence img n e) (rw (w .same-a (omega arith), w .same-b) refl)
+    go (suc (suc (suc (suc zero)))) e = of 4 e (is-choice img n e) (rw (w .same-a (omega arith), w .same-b) refl)
+    go (suc (suc (suc (suc (suc zero))))) e = of 5 e (is-star img n e) (rw (w .same-a (omega arith)) refl)
+    go (suc (suc (suc (suc (suc (suc zero)))))) e = of 6 e (is-not img n e) (rw (w .same-a (omega arith)) refl)
+    go (suc (suc (suc (suc (suc (suc (suc zero))))))) e = of 7 e (is-call img n e) (rw (w .root-for-a e) refl)
+    go (suc (suc (suc (suc (suc (suc (suc (suc i)))))))) e = absurd (omega arith)
 
 module _ (img known : List ℕ) (formed : List Bool) (n : ℕ) where
   forms-0 : kind img n ≡ 0 → formedFrom img known formed (node img n) ≡ true
@@ -102,13 +81,32 @@ module _ (img known : List ℕ) (formed : List Bool) (n : ℕ) where
   unfolding formedFrom
   forms-5 e = ap (formedFrom img known formed) (is-star img n e)
 
-  pub forms-6 : kind img n ≡ 6 → formedFrom img known formed (node img n) ≡ getD formed (fieldA img n) false
+  forms-6 : kind img n ≡ 6 → formedFrom img known formed (node img n) ≡ getD formed (fieldA img n) false
   unfolding formedFrom
   forms-6 e = ap (formedFrom img known formed) (is-not img n e)
 
-  pub forms-7 : kind img n ≡ 7 → formedFrom img known formed (node img n) ≡ getD formed (root img (fieldA img n)) false
+  forms-7 : kind img n ≡ 7 → formedFrom img known formed (node img n) ≡ getD formed (root img (fieldA img n)) false
   unfolding formedFrom
   forms-7 e = ap (formedFrom img known formed) (is-call img n e)
+
+  pub forms-6-7 :
+      {k a b : ℕ}
+      → Linked img n k a b
+      → 6 ≤ kind img n
+      → kind img n ≤ 7
+      → formedFrom img known formed (node img n) ≡ getD formed a false
+  forms-6-7 {k} {a} {b} w h most = go (kind img n) refl
+    where
+      go : (i : ℕ) → kind img n ≡ i → formedFrom img known formed (node img n) ≡ getD formed a false
+      go (suc (suc (suc (suc (suc (suc zero)))))) e = rw (w .same-a (omega arith)) (forms-6 e)
+      go (suc (suc (suc (suc (suc (suc (suc zero))))))) e = rw (w .root-for-a e) (forms-7 e)
+      go zero e = absurd (omega arith)
+      go (suc zero) e = absurd (omega arith)
+      go (suc (suc zero)) e = absurd (omega arith)
+      go (suc (suc (suc zero))) e = absurd (omega arith)
+      go (suc (suc (suc (suc zero)))) e = absurd (omega arith)
+      go (suc (suc (suc (suc (suc zero))))) e = absurd (omega arith)
+      go (suc (suc (suc (suc (suc (suc (suc (suc i)))))))) e = absurd (omega arith)
 
   pub forms-8 : 8 ≤ kind img n → formedFrom img known formed (node img n) ≡ false
   unfolding formedFrom

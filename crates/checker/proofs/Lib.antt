@@ -1,6 +1,6 @@
 -- The lemmas of the image check.
 pub mod Bits
-pub mod Table
+pub mod Tables
 pub mod Gathering
 pub mod Forming
 pub mod Turns
@@ -8,4 +8,5 @@ pub mod Weights
 pub mod OutcomeRounds
 pub mod FormedRounds
 pub mod Descending
+pub mod Links
 pub mod ByKind

@@ -1,5 +1,8 @@
 -- Outcome sets as numbers below 8: 1 for outcome 0, 2 for outcome 1, 4 for outcome f, added up.
-use Prim.Native.Nat.{ℕ, _+_, _*_, _/_, _%_}
+use Prim.Native.Nat.{ℕ, _+_, _*_, _/_, _%_, _<_}
+use mathlib.Core.Path.{_≡_}
+use mathlib.Core.List.{List, [], _∷_}
+use lib.ListN.{getD}
 use mathlib.Core.Bool.{Bool, true, false, _&&_, _||_}
 use mir.Val.{boolByte}
 use lib.Dec.{eqb}
@@ -41,3 +44,15 @@ starSet a = pack (bit fails a) (bit consumes a) false
 -- "Not: f if A has 0 or 1, 0 if A has f."
 unfoldable pub notSet : ℕ → ℕ
 notSet a = pack (bit fails a) false (bit matches-empty a || bit consumes a)
+
+-- The outcomes of a node of kind 0 to 7 from the sets a of its A and b of its B. Those of a call are its root's, here a.
+unfoldable pub setOfKind : (kind a b : ℕ) → ℕ
+setOfKind kind a b = getD (1 ∷ 6 ∷ 6 ∷ thenSet a b ∷ elseSet a b ∷ starSet a ∷ notSet a ∷ a ∷ []) kind 0
+
+-- A table of them: for each kind a row for each set of B, with a column for each set of A.
+pub record SetTable (table : List (List (List ℕ))) : Type 0 where
+  pub entry : (kind a b : ℕ) → kind < 8 → a < 8 → b < 8 → getD (getD (getD table kind []) b []) a 0 ≡ setOfKind kind a b
+
+-- Every entry is a set.
+abbrev pub OnlySets : List ℕ → Type 0
+OnlySets known = (n : ℕ) → getD known n 0 < 8

@@ -31,12 +31,7 @@ fn node_formed(
         3 => formed[a] & (!sets::has_empty(known[a]) | formed[b]),
         4 => formed[a] & formed[b],
         5 => formed[a] & !sets::has_empty(known[a]),
-        6 => formed[a],
-        7 => {
-            let body = image::rule_at(image, a);
-            let root = body.root;
-            formed[root]
-        }
+        6 | 7 => formed[a],
         8..=15 => false,
         _ => false,
     }

@@ -7,6 +7,7 @@ mod nodes;
 mod order;
 mod outcomes;
 mod sets;
+mod table;
 
 // The number of the first question that the image fails, 0 where it passes all seven.
 pub fn check(image: &[u8]) -> u8

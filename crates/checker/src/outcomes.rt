@@ -2,6 +2,7 @@
 use crate::nodes;
 use crate::order;
 use crate::sets;
+use crate::table;
 ghost use Prim.Native.Nat.{_<_};
 ghost use mathlib.Core.Path.{_≡_};
 ghost use Rattle.grammar.specs.Image.{node, nodes};
@@ -9,32 +10,24 @@ ghost use Rattle.grammar.specs.Questions.{Lawful, Question6};
 ghost use Rattle.lawful.specs.Tells.{Tells};
 ghost use Rattle.checker.specs.Order.{VisitsAll};
 ghost use Rattle.checker.specs.Nodes.{NodeWords};
+ghost use Rattle.checker.specs.Sets.{SetTable, OnlySets};
 ghost use Rattle.checker.specs.Rounds.{gathered, Outcomes, StarConsumes};
 
 // The outcomes of node n, from the sets known so far.
-fn node_outcomes(image: &[u8], words: &[u32; 1024], known: &[u8; 1024], n: usize) -> u8
-    requires { ⌜ Lawful (now image) × (n < nodes (now image)) × NodeWords (now image) (now words) ⌝ }
+fn node_outcomes(
+    image: &[u8],
+    table: &[[[u8; 8]; 8]; 8],
+    words: &[u32; 1024],
+    known: &[u8; 1024],
+    n: usize,
+) -> u8
+    requires { ⌜ Lawful (now image) × (n < nodes (now image)) × SetTable (now table) × NodeWords (now image) (now words) × OnlySets (now known) ⌝ }
     ensures { λ r. ⌜ r ≡ gathered (now (image .entry)) (now (known .entry)) (node (now (image .entry)) n) ⌝ }
 {
     let word = nodes::node_in(image, words, n);
-    let kind = word.kind;
     let a = word.a;
     let b = word.b;
-    match kind {
-        0 => 1,
-        1 | 2 => 6,
-        3 => sets::then_set(known[a], known[b]),
-        4 => sets::else_set(known[a], known[b]),
-        5 => sets::star_set(known[a]),
-        6 => sets::not_set(known[a]),
-        7 => {
-            let body = image::rule_at(image, a);
-            let root = body.root;
-            known[root]
-        }
-        8..=15 => 0,
-        _ => 0,
-    }
+    table::set_of_kind(table, word.kind, known[a], known[b])
 }
 
 // "The rounds stop at the first that adds nothing."
@@ -44,6 +37,7 @@ pub fn outcome_sets(image: &[u8], order: &[u16; 1024], words: &[u32; 1024]) -> [
 {
     let header = image::header_of(image);
     let count = header.nodes;
+    let table = table::set_table();
     let mut known = [0u8; 1024];
     'rounds: loop {
         let mut changed = false;
@@ -52,7 +46,7 @@ pub fn outcome_sets(image: &[u8], order: &[u16; 1024], words: &[u32; 1024]) -> [
             let old = known[n];
             // A full set gains nothing.
             if old != 7 {
-                let new = sets::join(old, node_outcomes(image, words, &known, n));
+                let new = sets::join(old, node_outcomes(image, &table, words, &known, n));
                 if new != old {
                     known[n] = new;
                     changed = true;

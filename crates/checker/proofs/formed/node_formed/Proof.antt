@@ -1,8 +1,6 @@
-use Rattle.checker.proofs.ByKind.{forms-0-to-2}
-use Rattle.grammar.specs.Image.{root}
-use mathlib.Core.Path.{ap, sym}
-use Rattle.checker.proofs.ByKind.{forms-3, forms-4, forms-5, forms-6, forms-7, forms-8}
-use Rattle.lawful.proofs.InRange.{a-below, b-below, called-below}
+use Rattle.checker.proofs.ByKind.{forms-0-to-2, forms-3, forms-4, forms-5, forms-6-7, forms-8}
+use Rattle.checker.proofs.Links.{linked-a-below, linked-b-below}
+use mathlib.Core.Path.{sym}
 use native.Mathlib.Omega.{arith}
 use borrow.Author.Needs.{needs}
 use Rattle.checker.proofs.formed.node_formed.Statement.{statement}
@@ -12,65 +10,55 @@ node-in-requires : tie.Need-node-in-requires
 node-in-requires c κs = (c .before .pre .2, c .before .pre .1, omega (arith, c .before .pre .0 .counts .few-nodes))
 
 element-copy-out-result : tie.Need-element-copy-out-result
-element-copy-out-result c = omega (arith, a-below (c .before .before .before .args .image .now) (c .before .before .before .pre .0 .counts) (c .before .before .before .pre .0 .words) (c .before .before .before .args .n) (c .before .before .before .pre .1) (omega arith) (omega arith))
+element-copy-out-result c = linked-a-below (c .before .before .before .args .image .now) (c .before .before .before .pre .0 .counts) (c .before .before .before .pre .0 .words) (c .before .before .before .pre .1) (c .before .node-in .ensures)
 
 element-copy-out-has-empty : tie.Need-element-copy-out-has-empty
-element-copy-out-has-empty c = omega (arith, a-below (c .before .before .before .before .args .image .now) (c .before .before .before .before .pre .0 .counts) (c .before .before .before .before .pre .0 .words) (c .before .before .before .before .args .n) (c .before .before .before .before .pre .1) (omega arith) (omega arith))
+element-copy-out-has-empty c = linked-a-below (c .before .before .before .before .args .image .now) (c .before .before .before .before .pre .0 .counts) (c .before .before .before .before .pre .0 .words) (c .before .before .before .before .pre .1) (c .before .before .node-in .ensures)
 
 has-empty-requires : tie.Need-has-empty-requires
 has-empty-requires c κs = search needs
 
 element-copy-out-result-2 : tie.Need-element-copy-out-result-2
-element-copy-out-result-2 c = omega (arith, b-below (c .before .before .before .before .before .before .args .image .now) (c .before .before .before .before .before .before .pre .0 .counts) (c .before .before .before .before .before .before .pre .0 .words) (c .before .before .before .before .before .before .args .n) (c .before .before .before .before .before .before .pre .1) (omega arith) (omega arith))
+element-copy-out-result-2 c = linked-b-below (c .before .before .before .before .before .before .args .image .now) (c .before .before .before .before .before .before .pre .0 .counts) (c .before .before .before .before .before .before .pre .0 .words) (c .before .before .before .before .before .before .pre .1) (c .before .before .before .before .node-in .ensures)
 
 element-copy-out-result-3 : tie.Need-element-copy-out-result-3
-element-copy-out-result-3 c = omega (arith, a-below (c .before .before .before .args .image .now) (c .before .before .before .pre .0 .counts) (c .before .before .before .pre .0 .words) (c .before .before .before .args .n) (c .before .before .before .pre .1) (omega arith) (omega arith))
+element-copy-out-result-3 c = linked-a-below (c .before .before .before .args .image .now) (c .before .before .before .pre .0 .counts) (c .before .before .before .pre .0 .words) (c .before .before .before .pre .1) (c .before .node-in .ensures)
 
 element-copy-out-result-4 : tie.Need-element-copy-out-result-4
-element-copy-out-result-4 c = omega (arith, b-below (c .before .before .before .before .args .image .now) (c .before .before .before .before .pre .0 .counts) (c .before .before .before .before .pre .0 .words) (c .before .before .before .before .args .n) (c .before .before .before .before .pre .1) (omega arith) (omega arith))
+element-copy-out-result-4 c = linked-b-below (c .before .before .before .before .args .image .now) (c .before .before .before .before .pre .0 .counts) (c .before .before .before .before .pre .0 .words) (c .before .before .before .before .pre .1) (c .before .before .node-in .ensures)
 
 element-copy-out-result-5 : tie.Need-element-copy-out-result-5
-element-copy-out-result-5 c = omega (arith, a-below (c .before .before .before .args .image .now) (c .before .before .before .pre .0 .counts) (c .before .before .before .pre .0 .words) (c .before .before .before .args .n) (c .before .before .before .pre .1) (omega arith) (omega arith))
+element-copy-out-result-5 c = linked-a-below (c .before .before .before .args .image .now) (c .before .before .before .pre .0 .counts) (c .before .before .before .pre .0 .words) (c .before .before .before .pre .1) (c .before .node-in .ensures)
 
 element-copy-out-has-empty-2 : tie.Need-element-copy-out-has-empty-2
-element-copy-out-has-empty-2 c = omega (arith, a-below (c .before .before .before .before .args .image .now) (c .before .before .before .before .pre .0 .counts) (c .before .before .before .before .pre .0 .words) (c .before .before .before .before .args .n) (c .before .before .before .before .pre .1) (omega arith) (omega arith))
+element-copy-out-has-empty-2 c = linked-a-below (c .before .before .before .before .args .image .now) (c .before .before .before .before .pre .0 .counts) (c .before .before .before .before .pre .0 .words) (c .before .before .before .before .pre .1) (c .before .before .node-in .ensures)
 
 has-empty-requires-2 : tie.Need-has-empty-requires-2
 has-empty-requires-2 c κs = search needs
 
 element-copy-out-result-6 : tie.Need-element-copy-out-result-6
-element-copy-out-result-6 c = omega (arith, a-below (c .before .before .before .args .image .now) (c .before .before .before .pre .0 .counts) (c .before .before .before .pre .0 .words) (c .before .before .before .args .n) (c .before .before .before .pre .1) (omega arith) (omega arith))
-
-rule-at-requires : tie.Need-rule-at-requires
-rule-at-requires c κs = search needs
-
-element-copy-out-result-7 : tie.Need-element-copy-out-result-7
-element-copy-out-result-7 c = let e = ap (root (c .before .before .before .before .args .image .now)) (c .before .before .node-in .ensures .its-a) in
-    omega (arith, called-below (c .before .before .before .before .args .image .now) (c .before .before .before .before .pre .0 .counts) (c .before .before .before .before .pre .0 .words) (c .before .before .before .before .args .n) (c .before .before .before .before .pre .1) (omega arith))
+element-copy-out-result-6 c = linked-a-below (c .before .before .before .before .before .args .image .now) (c .before .before .before .before .before .pre .0 .counts) (c .before .before .before .before .before .pre .0 .words) (c .before .before .before .before .before .pre .1) (c .before .before .before .node-in .ensures)
 
 returns : tie.Need-returns
-returns c = cc (forms-3 (c .before .before .before .before .before .before .before .args .image .now) (c .before .before .before .before .before .before .before .args .known .now) (c .before .before .before .before .before .before .before .args .formed .now) (c .before .before .before .before .before .before .before .args .n) (omega arith))
+returns c = cc (forms-3 (c .before .before .before .before .before .before .before .args .image .now) (c .before .before .before .before .before .before .before .args .known .now) (c .before .before .before .before .before .before .before .args .formed .now) (c .before .before .before .before .before .before .before .args .n) (omega arith), c .before .before .before .before .before .node-in .ensures .same-a (omega arith), c .before .before .before .before .before .node-in .ensures .same-b)
 
 returns-2 : tie.Need-returns-2
-returns-2 c = cc (forms-4 (c .before .before .before .before .before .args .image .now) (c .before .before .before .before .before .args .known .now) (c .before .before .before .before .before .args .formed .now) (c .before .before .before .before .before .args .n) (omega arith))
+returns-2 c = cc (forms-4 (c .before .before .before .before .before .args .image .now) (c .before .before .before .before .before .args .known .now) (c .before .before .before .before .before .args .formed .now) (c .before .before .before .before .before .args .n) (omega arith), c .before .before .before .node-in .ensures .same-a (omega arith), c .before .before .before .node-in .ensures .same-b)
 
 returns-3 : tie.Need-returns-3
-returns-3 c = cc (forms-5 (c .before .before .before .before .before .before .args .image .now) (c .before .before .before .before .before .before .args .known .now) (c .before .before .before .before .before .before .args .formed .now) (c .before .before .before .before .before .before .args .n) (omega arith))
+returns-3 c = cc (forms-5 (c .before .before .before .before .before .before .args .image .now) (c .before .before .before .before .before .before .args .known .now) (c .before .before .before .before .before .before .args .formed .now) (c .before .before .before .before .before .before .args .n) (omega arith), c .before .before .before .before .node-in .ensures .same-a (omega arith), c .before .before .before .before .node-in .ensures .same-b)
 
 returns-4 : tie.Need-returns-4
-returns-4 c = cc (forms-6 (c .before .before .before .before .args .image .now) (c .before .before .before .before .args .known .now) (c .before .before .before .before .args .formed .now) (c .before .before .before .before .args .n) (omega arith))
+returns-4 c = sym (forms-0-to-2 (c .before .before .before .before .args .image .now) (c .before .before .before .before .args .known .now) (c .before .before .before .before .args .formed .now) (c .before .before .before .before .args .n) (omega arith))
 
 returns-5 : tie.Need-returns-5
-returns-5 c = cc (forms-7 (c .before .before .before .before .before .args .image .now) (c .before .before .before .before .before .args .known .now) (c .before .before .before .before .before .args .formed .now) (c .before .before .before .before .before .args .n) (omega arith))
+returns-5 c = sym (forms-6-7 (c .before .before .before .before .before .before .args .image .now) (c .before .before .before .before .before .before .args .known .now) (c .before .before .before .before .before .before .args .formed .now) (c .before .before .before .before .before .before .args .n) (c .before .before .before .before .node-in .ensures) (omega arith) (omega arith))
 
 returns-6 : tie.Need-returns-6
-returns-6 c = sym (forms-0-to-2 (c .before .before .before .before .args .image .now) (c .before .before .before .before .args .known .now) (c .before .before .before .before .args .formed .now) (c .before .before .before .before .args .n) (omega arith))
+returns-6 c = sym (forms-8 (c .before .before .before .before .before .before .args .image .now) (c .before .before .before .before .before .before .args .known .now) (c .before .before .before .before .before .before .args .formed .now) (c .before .before .before .before .before .before .args .n) (omega arith))
 
 returns-7 : tie.Need-returns-7
-returns-7 c = sym (forms-8 (c .before .before .before .before .before .args .image .now) (c .before .before .before .before .before .args .known .now) (c .before .before .before .before .before .args .formed .now) (c .before .before .before .before .before .args .n) (omega arith))
-
-returns-8 : tie.Need-returns-8
-returns-8 c = sym (forms-8 (c .before .before .before .before .before .args .image .now) (c .before .before .before .before .before .args .known .now) (c .before .before .before .before .before .args .formed .now) (c .before .before .before .before .before .args .n) (omega arith))
+returns-7 c = sym (forms-8 (c .before .before .before .before .before .before .args .image .now) (c .before .before .before .before .before .before .args .known .now) (c .before .before .before .before .before .before .args .formed .now) (c .before .before .before .before .before .before .args .n) (omega arith))
 
 pub node-formed-spec : {M : Type 1} → statement M
 node-formed-spec =
@@ -87,13 +75,10 @@ node-formed-spec =
     element-copy-out-has-empty-2
     has-empty-requires-2
     element-copy-out-result-6
-    rule-at-requires
-    element-copy-out-result-7
     returns
     returns-2
     returns-3
     returns-4
     returns-5
     returns-6
-    returns-7
-    returns-8)
+    returns-7)

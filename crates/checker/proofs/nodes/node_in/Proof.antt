@@ -1,4 +1,3 @@
-use Rattle.image.proofs.NodeWords.{fields-of-word}
 use borrow.Author.Needs.{needs}
 use Rattle.checker.proofs.nodes.node_in.Statement.{statement}
 use Rattle.checker.proofs.nodes.node_in.Tie as tie
@@ -13,7 +12,9 @@ node-of-requires : tie.Need-node-of-requires
 node-of-requires c κs = search needs
 
 returns : tie.Need-returns
-returns c = fields-of-word (c .before .before .before .pre .0 .word-of (c .before .before .before .args .n) (c .before .before .before .pre .1)) (c .node-of .ensures)
+returns c =
+    let f = c .node-of .ensures in
+    rw (f .its-kind, f .its-a, f .its-b) (c .before .before .before .pre .0 .word-of (c .before .before .before .args .n) (c .before .before .before .pre .1))
 
 pub node-in-spec : {M : Type 1} → statement M
 node-in-spec = tie.close (tie.spec mul-node-of element-copy-out-node-of node-of-requires returns)

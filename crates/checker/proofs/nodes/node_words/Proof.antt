@@ -1,5 +1,5 @@
-use Rattle.grammar.specs.Image.{nodeWord}
-use Rattle.lawful.proofs.Writes.{next-written}
+use Rattle.checker.specs.Nodes.{LinkedWord}
+use Rattle.checker.proofs.Links.{next-linked}
 use native.Mathlib.Omega.{arith}
 use lib.ListN.{length, getD, length-set}
 use mathlib.Core.Path.{_≡_, _∙_}
@@ -9,7 +9,7 @@ use Rattle.checker.proofs.nodes.node_words.Statement.{statement}
 use Rattle.checker.proofs.nodes.node_words.Tie as tie
 
 abbrev Inv-loop : tie.InvT-loop
-Inv-loop image count words₀ n₀ words n = (n ≤ count) × (length words ≡ 1024) × ((k : ℕ) → k < n → getD words k 0 ≡ nodeWord image k)
+Inv-loop image count words₀ n₀ words n = (n ≤ count) × (length words ≡ 1024) × ((k : ℕ) → k < n → LinkedWord image k (getD words k 0))
 
 abbrev μ-loop : tie.MeasureT-loop
 μ-loop image count words₀ n₀ words n = count - n
@@ -20,8 +20,8 @@ header-of-requires c κs = search needs
 loop-holds : tie.Need-loop-holds Inv-loop μ-loop
 loop-holds c = (search needs, search needs, λ k l. absurd (omega arith))
 
-node-word-requires : tie.Need-node-word-requires Inv-loop μ-loop
-node-word-requires c κs = search needs
+linked-word-requires : tie.Need-linked-word-requires Inv-loop μ-loop
+linked-word-requires c κs = search needs
 
 mul-words : tie.Need-mul-words Inv-loop μ-loop
 mul-words c = search needs
@@ -42,7 +42,7 @@ loop-again c =
     let l : at-loop .loop .n < length (at-loop .loop .words) = omega (arith, start .pre .few-nodes) in (
       search needs,
       length-set (at-loop .loop .words) (at-loop .loop .n) _ ∙ at-loop .loop .inv .1,
-      next-written (nodeWord (start .args .image .now)) (at-loop .loop .words) (at-loop .loop .n) _ l (c .node-word .ensures) (at-loop .loop .inv .2),
+      next-linked (start .args .image .now) (at-loop .loop .words) (at-loop .loop .n) _ l (c .linked-word .ensures) (at-loop .loop .inv .2),
     )
 
 returns : tie.Need-returns Inv-loop μ-loop
@@ -56,7 +56,7 @@ node-words-spec =
     μ-loop
     header-of-requires
     loop-holds
-    node-word-requires
+    linked-word-requires
     mul-words
     array-write-words
     add-n

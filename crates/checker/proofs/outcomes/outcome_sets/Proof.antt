@@ -16,40 +16,43 @@ use Rattle.checker.proofs.outcomes.outcome_sets.Statement.{statement}
 use Rattle.checker.proofs.outcomes.outcome_sets.Tie as tie
 
 abbrev Inv-loop : tie.InvT-loop
-Inv-loop image order words count known₀ changed₀ i₀ known changed i = (i ≤ count) × Turned weight (Sound image) (λ (L : List ℕ) (k : ℕ). Closed image L (getD order k 0)) known₀ known i changed
+Inv-loop image order words count table known₀ changed₀ i₀ known changed i = (i ≤ count) × Turned weight (Sound image) (λ (L : List ℕ) (k : ℕ). Closed image L (getD order k 0)) known₀ known i changed
 
 abbrev μ-loop : tie.MeasureT-loop
-μ-loop image order words count known₀ changed₀ i₀ known changed i = count - i
+μ-loop image order words count table known₀ changed₀ i₀ known changed i = count - i
 
 abbrev Inv-rounds : tie.InvT-rounds
-Inv-rounds image order words count known₀ known = Sound image known
+Inv-rounds image order words count table known₀ known = Sound image known
 
 abbrev μ-rounds : tie.MeasureT-rounds
-μ-rounds image order words count known₀ known = 7168 - weight known
+μ-rounds image order words count table known₀ known = 7168 - weight known
 
 header-of-requires : tie.Need-header-of-requires Inv-loop μ-loop Inv-rounds μ-rounds
 header-of-requires c κs = search needs
 
+set-table-requires : tie.Need-set-table-requires Inv-loop μ-loop Inv-rounds μ-rounds
+set-table-requires c κs = search needs
+
 rounds-holds : tie.Need-rounds-holds Inv-loop μ-loop Inv-rounds μ-rounds
-rounds-holds c = sound-start (c .before .before .args .image .now) 1024 refl
+rounds-holds c = sound-start (c .before .before .before .args .image .now) 1024 refl
 
 loop-holds : tie.Need-loop-holds Inv-loop μ-loop Inv-rounds μ-rounds
 loop-holds c = (search needs, turn-none (c .rounds .inv))
 
 visited-requires : tie.Need-visited-requires Inv-loop μ-loop Inv-rounds μ-rounds
-visited-requires c κs = omega (arith, c .before .before .before .before .before .pre .0 .counts .few-nodes)
+visited-requires c κs = omega (arith, c .before .before .before .before .before .before .pre .0 .counts .few-nodes)
 
 array-read-old : tie.Need-array-read-old Inv-loop μ-loop Inv-rounds μ-rounds
-array-read-old c = omega (arith, c .before .before .before .before .before .before .pre .1 .only-nodes (c .before .before .loop .i) (omega arith), c .before .before .before .before .before .before .pre .0 .counts .few-nodes)
+array-read-old c = omega (arith, c .before .before .before .before .before .before .before .pre .1 .only-nodes (c .before .before .loop .i) (omega arith), c .before .before .before .before .before .before .before .pre .0 .counts .few-nodes)
 
 node-outcomes-requires : tie.Need-node-outcomes-requires Inv-loop μ-loop Inv-rounds μ-rounds
-node-outcomes-requires c κs = (c .before .before .before .before .before .before .before .before .pre .0, omega (arith, c .before .before .before .before .before .before .before .before .pre .1 .only-nodes (c .before .before .before .before .loop .i) (omega arith)), c .before .before .before .before .before .before .before .before .pre .2)
+node-outcomes-requires c κs = (c .before .before .before .before .before .before .before .before .before .before .pre .0, omega (arith, c .before .before .before .before .before .before .before .before .before .before .pre .1 .only-nodes (c .before .before .before .before .before .loop .i) (omega arith)), c .before .before .before .before .before .before .before .set-table .ensures, c .before .before .before .before .before .before .before .before .before .before .pre .2, c .before .before .before .before .before .loop .inv .1 .sound .small)
 
 join-requires : tie.Need-join-requires Inv-loop μ-loop Inv-rounds μ-rounds
 join-requires c κs = search needs
 
 array-write-known : tie.Need-array-write-known Inv-loop μ-loop Inv-rounds μ-rounds
-array-write-known c = omega (arith, c .before .before .before .before .before .before .before .before .before .before .before .pre .1 .only-nodes (c .before .before .before .before .before .before .before .loop .i) (omega arith), c .before .before .before .before .before .before .before .before .before .before .before .pre .0 .counts .few-nodes)
+array-write-known c = omega (arith, c .before .before .before .before .before .before .before .before .before .before .before .before .before .pre .1 .only-nodes (c .before .before .before .before .before .before .before .before .loop .i) (omega arith), c .before .before .before .before .before .before .before .before .before .before .before .before .before .pre .0 .counts .few-nodes)
 
 add-i : tie.Need-add-i Inv-loop μ-loop Inv-rounds μ-rounds
 add-i c = search needs
@@ -60,7 +63,7 @@ loop-less c = search needs
 loop-again : tie.Need-loop-again Inv-loop μ-loop Inv-rounds μ-rounds
 loop-again c =
     let at-loop = c .before .before .before in
-    let start = at-loop .before .before .before .before in
+    let start = at-loop .before .before .before .before .before in
     let img = start .args .image .now in
     let known = at-loop .loop .known in
     let n = c .before .visited .result in
@@ -69,15 +72,15 @@ loop-again c =
       search needs,
       ⊎-elim
           (λ w.
-          let v = w .3 .result in
+          let v = w .4 .result in
           let gained : v ≡ union (getD known n 0) (gathered img known (node img n)) = cc in
-          rw (w .5, w .6)
-          (turn-write t (stored img known (t .sound) n v small gained (w .3 .ensures .1)) (stored-heavier img known (t .sound) n v small gained (w .4 .taken))))
+          rw (w .6, w .7)
+          (turn-write t (stored img known (t .sound) n v small gained (w .4 .ensures .1)) (stored-heavier img known (t .sound) n v small gained (w .5 .taken))))
           (λ v. ⊎-elim
           (λ w.
-          let v = w .3 .result in
+          let v = w .4 .result in
           let gained : v ≡ union (getD known n 0) (gathered img known (node img n)) = cc in
-          rw (w .5, w .6) (turn-keep t (rw (c .before .visited .ensures) at (kept img known (t .sound) n v small gained (w .4 .left)))))
+          rw (w .6, w .7) (turn-keep t (rw (c .before .visited .ensures) at (kept img known (t .sound) n v small gained (w .5 .left)))))
           (λ w. rw (w .1, w .2) (turn-keep t (rw (c .before .visited .ensures) at (full img known n (w .0 .left)))))
           v)
           (c .if1 .came),
@@ -86,7 +89,7 @@ loop-again c =
 rounds-less : tie.Need-rounds-less Inv-loop μ-loop Inv-rounds μ-rounds
 rounds-less c =
     let t = c .before .before .loop .inv .1 in
-    omega (arith, round-heavier t (not-false (c .before .before .loop .changed) (c .if3 .left)), weight-bound (c .before .before .before .before .before .before .args .image .now) (c .before .before .loop .known) (t .sound))
+    omega (arith, round-heavier t (not-false (c .before .before .loop .changed) (c .if3 .left)), weight-bound (c .before .before .before .before .before .before .before .args .image .now) (c .before .before .loop .known) (t .sound))
 
 rounds-again : tie.Need-rounds-again Inv-loop μ-loop Inv-rounds μ-rounds
 rounds-again c = c .before .before .loop .inv .1 .sound
@@ -94,8 +97,8 @@ rounds-again c = c .before .before .loop .inv .1 .sound
 returns : tie.Need-returns Inv-loop μ-loop Inv-rounds μ-rounds
 returns c =
     let t = c .before .before .loop .inv .1 in
-    least (c .before .before .before .before .before .before .args .image .now) (c .before .before .loop .known) (c .before .before .before .before .before .before .args .order .now) (c .before .before .before .before .before .before .pre .0 .words) (c .before .before .before .before .before .before .pre .1) (t .sound)
-    (λ k l. round-closed t (not-true (c .before .before .loop .changed) (c .if3 .taken)) k (omega (arith, c .before .before .before .before .header-of .ensures .its-nodes)))
+    least (c .before .before .before .before .before .before .before .args .image .now) (c .before .before .loop .known) (c .before .before .before .before .before .before .before .args .order .now) (c .before .before .before .before .before .before .before .pre .0 .words) (c .before .before .before .before .before .before .before .pre .1) (t .sound)
+    (λ k l. round-closed t (not-true (c .before .before .loop .changed) (c .if3 .taken)) k (omega (arith, c .before .before .before .before .before .header-of .ensures .its-nodes)))
 
 pub outcome-sets-spec : {M : Type 1} → statement M
 outcome-sets-spec =
@@ -106,6 +109,7 @@ outcome-sets-spec =
     Inv-rounds
     μ-rounds
     header-of-requires
+    set-table-requires
     rounds-holds
     loop-holds
     visited-requires
