@@ -30,10 +30,11 @@ b-small img n = omega arith
 
 -- and the word that is put together for a call.
 pub call-word :
-    (img : List ℕ) (n : ℕ)
+    (img : List ℕ) (n word : ℕ)
     → kind img n ≡ 7
-    → LinkedWord img n (7 * 268435456 + root img (fieldA img n) * 4096 + fieldB img n)
-call-word img n e =
+    → word ≡ 7 * 268435456 + root img (fieldA img n) * 4096 + fieldB img n
+    → LinkedWord img n word
+call-word img n word e sum =
     let r = root-small img (fieldA img n) in
     let s = b-small img n in
     record { same-kind = omega arith; same-a = λ h. absurd (omega arith); root-for-a = λ h. omega arith; same-b = omega arith }

@@ -3,7 +3,8 @@ use Rattle.checker.proofs.Links.{own-word, root-small, b-small, call-wo
 use native.Mathlib.Omega.{arith}
 use Prim.Native.Nat.{_<_}
 use Rattle.image.specs.Fields.{NodeFields}
-use mathlib.Core.Path.{_∙_}
+use Rattle.grammar.specs.Image.{root}
+use mathlib.Core.Path.{ap, _∙_}
 use borrow.Author.Needs.{needs}
 use Rattle.checker.proofs.nodes.linked_word.Statement.{statement}
 use Rattle.checker.proofs.nodes.linked_word.Tie as tie
@@ -55,8 +56,9 @@ returns-2 c =
     let at-rule = c .before .before in
     let fields = read (at-rule .before .before .before) in
     let start = at-rule .before .before .before .before .before .before in
-    rw (at-rule .rule-at .ensures .its-root, fields .its-a, fields .its-b)
-    (call-word (start .args .image .now) (start .args .n) (omega (arith, fields .its-kind, at-rule .before .if1 .left)))
+    let img = start .args .image .now in
+    let its-root = at-rule .rule-at .ensures .its-root ∙ ap (root img) (fields .its-a) in
+    call-word img (start .args .n) _ (omega (arith, fields .its-kind, at-rule .before .if1 .left)) (omega (arith, its-root, fields .its-b))
 
 pub linked-word-spec : {M : Type 1} → statement M
 linked-word-spec =
