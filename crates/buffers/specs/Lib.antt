@@ -1,0 +1,2 @@
+-- What a loop over a lent slice leaves (Filled).
+pub mod Filled
