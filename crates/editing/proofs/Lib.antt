@@ -1,0 +1,2 @@
+-- The laws of the edit.
+pub mod TextLaw

@@ -1,0 +1,38 @@
+-- `text::fill` meets its contract, by the law of the opened text. Assumes nothing.
+use Rattle.editing.proofs.TextLaw.{fill-is}
+use borrow.Author.Needs.{needs}
+use Rattle.editing.proofs.text.fill.Statement.{statement}
+use Rattle.editing.proofs.text.fill.Tie as tie
+
+copy-requires : tie.Need-copy-requires
+copy-requires c κs = search needs
+
+sub-clear : tie.Need-sub-clear
+sub-clear c = search needs
+
+part-clear-start : tie.Need-part-clear-start
+part-clear-start c = search needs
+
+part-clear-end : tie.Need-part-clear-end
+part-clear-end c = search needs
+
+clear-requires : tie.Need-clear-requires
+clear-requires c κs = search needs
+
+same-length : tie.Need-same-length
+same-length c = search needs
+
+returns : tie.Need-returns
+returns c = fill-is (c .before .before .before .before .before .before .before .before .before .before .args .buffer .now) (c .before .before .before .before .before .before .before .before .before .before .args .text .now) _ _ (c .before .before .before .before .before .before .before .before .before .before .pre) (c .before .before .before .before .before .before .copy .ensures) (c .before .before .clear .ensures)
+
+pub fill-spec : {M : Type 1} → statement M
+fill-spec =
+    tie.close
+    (tie.spec
+    copy-requires
+    sub-clear
+    part-clear-start
+    part-clear-end
+    clear-requires
+    same-length
+    returns)

@@ -1,0 +1,2 @@
+// The edit of a sheet's text and of its memo table, and what an opening leaves in both.
+pub mod text;
