@@ -1,2 +1,7 @@
 -- The laws of the edit.
 pub mod TextLaw
+pub mod Held
+pub mod Kept
+pub mod Turns
+pub mod ScanLaw
+pub mod Rows

@@ -23,8 +23,9 @@ wordOf rules table rule position = getD table (slotOf rules rule position) 0
 abbrev pub tableSize : (rules cap : ℕ) → ℕ
 tableSize rules cap = rules * (cap + 1)
 
--- "the table wholly lent", for 1 to 64 rules.
+-- "cap at most 65,535", "the table wholly lent", for 1 to 64 rules.
 pub record TableLent (rules cap : ℕ) (words : List ℕ) : Type 0 where
+  pub most : cap ≤ 65535
   pub some-rules : 1 ≤ rules
   pub most-rules : rules ≤ 64
   pub whole : tableSize rules cap ≤ length words

@@ -7,9 +7,8 @@ use lib.ListN.{length, take, drop, replicate}
 abbrev pub newLength : (n s e k : ℕ) → ℕ
 newLength n s e k = n - (e - s) + k
 
--- An edit that was not refused: "8. Is cap at most 65,535, the text at most cap", "9. Edit: s ≤ e ≤ n?", "10. Edit: n' ≤ cap?".
+-- An edit that was not refused: "8. .. the text at most cap", "9. Edit: s ≤ e ≤ n?", "10. Edit: n' ≤ cap?".
 pub record EditFits (cap n s e k : ℕ) : Type 0 where
-  pub most : cap ≤ 65535
   pub lent : n ≤ cap
   pub ordered : s ≤ e
   pub within : e ≤ n

@@ -1,5 +1,5 @@
 -- What the loops over words promise each other.
-use Prim.Native.Nat.{ℕ, zero, suc, _+_, _-_, _/_, _≤_, _<_}
+use Prim.Native.Nat.{ℕ, zero, suc, _+_, _-_, _/_, _^_, _≤_, _<_}
 use mathlib.Core.Path.{_≡_}
 use mathlib.Core.Bool.{Bool, true, false, _&&_}
 use mathlib.Core.List.{List}
@@ -8,6 +8,7 @@ use lib.Dec.{leb}
 use Rattle.buffers.specs.Filled.{Filled, at}
 use Rattle.records.specs.Words.{isHeld, examinedOf}
 use Rattle.editing.specs.Table.{pick}
+use Rattle.editing.specs.declared.scan.Scan.{Scan}
 
 -- 1 for a held word, 0 for another.
 abbrev pub heldBit : ℕ → ℕ
@@ -34,3 +35,27 @@ keptAt rules s q words j = keptWord (s - (q + j / rules)) (at words j)
 pub record Counted (f : ℕ → ℕ) (old new : List ℕ) (lo hi : ℕ) (held : ℕ → ℕ) (count c : ℕ) : Type 0 where
   pub filled : Filled f old new lo hi
   pub counted : c ≡ heldTo held count
+
+-- From slot `from` so many words were carried to slot `to`, those that are not held as 0; c of them are held.
+abbrev pub Carried : (old new : List ℕ) (from to count c : ℕ) → Type 0
+Carried old new from to count c =
+    Counted (λ j. onlyHeld (at old (from + (j - to)))) old new to (to + count) (λ j. at old (from + j)) count c
+
+-- The words of a first row that stay at its position.
+pub record RowOf (words : List ℕ) (rules : ℕ) (row : List ℕ) : Type 0 where
+  pub stay : (rule : ℕ) → rule < rules → at row rule ≡ keptWord 0 (at words rule)
+
+-- A row was put over the first words where it is held; c words more are held.
+pub record Put (row old new : List ℕ) (rules c : ℕ) : Type 0 where
+  pub filled : Filled (λ j. pick (isHeld (at row j)) (at row j) (at old j)) old new 0 rules
+  pub counted : c + heldTo (at old) rules ≡ heldTo (at new) rules
+
+-- One less, and the greatest word for 0.
+pub record Lowered (word r : ℕ) : Type 0 where
+  pub above : 2 ^ 63 ≤ r → word < 2 ^ 63 → word ≡ 0
+
+-- What a scan tells of words: no examined field is above that of `any`, so many are held, and where it is clean each other word is 0.
+pub record Scanned (words : List ℕ) (r : Scan) : Type 0 where
+  pub bound : (j : ℕ) → j < length words → examinedOf (at words j) ≤ examinedOf (r .any)
+  pub counted : r .held ≡ heldTo (at words) (length words)
+  pub empty : r .clean ≡ true → (j : ℕ) → j < length words → isHeld (at words j) ≡ false → at words j ≡ 0

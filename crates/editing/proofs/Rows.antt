@@ -1,0 +1,101 @@
+-- Rows of the front, block by block: a block that is done adds its words and its count; a scan that shows nothing to drop is a block done.
+-- Assumes nothing.
+use Prim.Native.Nat.{ℕ, _+_, _-_, _*_, _/_, _≤_, _<_}
+use native.Mathlib.Omega.{arith}
+use native.Mathlib.Nat.{mul-add-div-right, div-eq-of-lt, div-lt-iff-lt-mul}
+use mathlib.Core.Path.{_≡_, refl, sym, ap, ap₂, _∙_, subst}
+use mathlib.Core.Bool.{Bool, true, false}
+use mathlib.Core.List.{List}
+use lib.ListN.{length}
+use borrow.Rule.Slice.PartMut.{midOf, putMid}
+use Rattle.buffers.specs.Filled.{Filled, at}
+use Rattle.buffers.proofs.Fill.{none, kept, more, fit}
+use Rattle.buffers.proofs.Parts.{mid-at, part-filled}
+use Rattle.records.specs.Words.{isHeld, examinedOf}
+use Rattle.editing.specs.declared.scan.Scan.{Scan}
+use Rattle.editing.specs.Words.{keptWord, keptAt, heldTo, Counted, Scanned}
+use Rattle.editing.proofs.Held.{held-add, held-same}
+use Rattle.editing.proofs.Kept as words
+
+-- A row's words in a row that was lent are the words of the whole.
+same-row :
+    (R s q i a k x : ℕ) (old mid : List ℕ) → 1 ≤ R → a ≡ i * R → x < k → at mid (a + x) ≡ at old (a + x)
+    → keptAt R s (q + i) (midOf a k mid) x ≡ keptAt R s q old (a + x)
+same-row R s q i a k x old mid h e l w =
+    let row : (a + x) / R ≡ i + x / R = ap (λ (y : ℕ). (y + x) / R) e ∙ mul-add-div-right {m = R} h i x in
+    let place : s - (q + i + x / R) ≡ s - (q + (a + x) / R) = omega arith in
+    ap₂ keptWord place (mid-at a k mid x l ∙ w)
+
+pub rows-more :
+    {s q c b : ℕ} {old mid ys : List ℕ} (R i a k : ℕ)
+    → 1 ≤ R
+    → a ≡ i * R
+    → a + k ≤ length old
+    → Counted (keptAt R s q old) old mid 0 a (keptAt R s q old) a c
+    → Counted (keptAt R s (q + i) (midOf a k mid)) (midOf a k mid) ys 0 k (keptAt R s (q + i) (midOf a k mid)) k b
+    → Counted (keptAt R s q old) old (putMid a k mid ys) 0 (a + k) (keptAt R s q old) (a + k) (c + b)
+rows-more {s} {q} {c} {b} {old} {mid} {ys} R i a k h e fits C D =
+    let F = C .filled in
+    let long = F .long in
+    let G = part-filled a k (D .filled) (omega arith) (omega arith) (omega arith) in
+    let same : (x : ℕ) → x < k → keptAt R s (q + i) (midOf a k mid) x ≡ keptAt R s q old (a + x) =
+        λ x l. same-row R s q i a k x old mid h e l (F .past (a + x) (omega arith)) in
+    let sum = held-add (keptAt R s q old) a k in
+    let part = held-same (keptAt R s (q + i) (midOf a k mid)) (λ x. keptAt R s q old (a + x)) k same in
+    let first = C .counted in
+    let second = D .counted in
+    record {
+      filled = more
+      F
+      (fit G (omega arith) refl (λ j p o. refl))
+      (omega arith)
+      (omega arith)
+      (λ j p o.
+          let back : a + (j - a) ≡ j = omega arith in
+          same (j - a) (omega arith) ∙ ap (λ (y : ℕ). keptAt R s q old y) back);
+      counted = omega arith;
+    }
+
+-- One row.
+pub one-row :
+    {limit c : ℕ} {w ys : List ℕ} (R s p : ℕ)
+    → 1 ≤ R
+    → limit ≡ s - p
+    → length w ≡ R
+    → Counted (λ j. keptWord limit (at w j)) w ys 0 (length w) (λ j. keptWord limit (at w j)) (length w) c
+    → Counted (keptAt R s p w) w ys 0 R (keptAt R s p w) R c
+one-row {limit} {c} {w} {ys} R s p h e l C =
+    let same : (j : ℕ) → j < R → keptWord limit (at w j) ≡ keptAt R s p w j = λ j o.
+        let row : j / R ≡ 0 = div-eq-of-lt {n = j} {m = R} o in
+        let place : limit ≡ s - (p + j / R) = omega arith in
+        ap (λ (y : ℕ). keptWord y (at w j)) place in
+    record {
+      filled = fit (C .filled) refl l (λ j a b. same j (omega arith));
+      counted = C .counted ∙ ap (heldTo (λ j. keptWord limit (at w j))) l ∙ held-same (λ j. keptWord limit (at w j)) (keptAt R s p w) R same;
+    }
+
+-- A block of which a scan shows that nothing is to be dropped.
+pub nothing-dropped :
+    {r : Scan} {w : List ℕ} (R s q rows : ℕ)
+    → 1 ≤ R
+    → q + rows ≤ s
+    → length w ≡ rows * R
+    → Scanned w r
+    → r .clean ≡ true
+    → examinedOf (r .any) ≤ s - (q + rows - 1)
+    → Counted (keptAt R s q w) w w 0 (rows * R) (keptAt R s q w) (rows * R) (r .held)
+nothing-dropped {r} {w} R s q rows h o l S clean bound =
+    record {
+      filled = kept (rows * R) (none 0) (omega arith) (omega arith) (λ j a b. sym (same j b));
+      counted = S .counted ∙ ap (heldTo (at w)) l ∙ held-same (at w) (keptAt R s q w) (rows * R) (λ j b. sym (same j b));
+    }
+  where
+    by : (j : ℕ) → j < rows * R → (t : Bool) → isHeld (at w j) ≡ t → keptAt R s q w j ≡ at w j
+    by j b true e =
+        let row : j / R < rows = div-lt-iff-lt-mul {k = R} {x = j} {y = rows} h .1 b in
+        let small = S .bound j (omega arith) in
+        words.kept (s - (q + j / R)) (at w j) e (omega arith)
+    by j b false e = words.kept-empty (s - (q + j / R)) (at w j) e ∙ sym (S .empty clean j (omega arith) e)
+
+    same : (j : ℕ) → j < rows * R → keptAt R s q w j ≡ at w j
+    same j b = by j b (isHeld (at w j)) refl

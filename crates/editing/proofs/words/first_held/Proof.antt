@@ -1,0 +1,18 @@
+-- `words::first_held` meets its contract. Assumes nothing.
+use Rattle.editing.proofs.Held.{pick-by}
+use mathlib.Core.Path.{sym, _∙_}
+use borrow.Author.Needs.{needs}
+use Rattle.editing.proofs.words.first_held.Statement.{statement}
+use Rattle.editing.proofs.words.first_held.Tie as tie
+
+is-held-requires : tie.Need-is-held-requires
+is-held-requires c κs = search needs
+
+returns : tie.Need-returns
+returns c = sym (pick-by (c .before .before .args .first) (c .before .before .args .second) (sym (c .before .is-held .ensures) ∙ c .if1 .taken))
+
+returns-2 : tie.Need-returns-2
+returns-2 c = sym (pick-by (c .before .before .args .first) (c .before .before .args .second) (sym (c .before .is-held .ensures) ∙ c .if1 .left))
+
+pub first-held-spec : {M : Type 1} → statement M
+first-held-spec = tie.close (tie.spec is-held-requires returns returns-2)

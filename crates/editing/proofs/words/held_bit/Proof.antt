@@ -1,0 +1,13 @@
+use Rattle.editing.proofs.Held.{bit-is}
+-- `words::held_bit` meets its contract. Assumes nothing.
+use native.Mathlib.Omega.{arith}
+use Rattle.editing.proofs.Held.{bit-is}
+use borrow.Author.Needs.{needs}
+use Rattle.editing.proofs.words.held_bit.Statement.{statement}
+use Rattle.editing.proofs.words.held_bit.Tie as tie
+
+returns : tie.Need-returns
+returns c = (bit-is (c .args .word) (omega arith), omega arith)
+
+pub held-bit-spec : {M : Type 1} → statement M
+held-bit-spec = tie.close (tie.spec returns)
