@@ -1,7 +1,9 @@
 -- The laws of the edit.
 pub mod TextLaw
+pub mod OpenLaw
 pub mod Held
 pub mod Kept
 pub mod Turns
 pub mod ScanLaw
 pub mod Rows
+pub mod Slots

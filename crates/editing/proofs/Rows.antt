@@ -10,11 +10,12 @@ use lib.ListN.{length}
 use borrow.Rule.Slice.PartMut.{midOf, putMid}
 use Rattle.buffers.specs.Filled.{Filled, at}
 use Rattle.buffers.proofs.Fill.{none, kept, more, fit}
-use Rattle.buffers.proofs.Parts.{mid-at, part-filled}
+use Rattle.buffers.proofs.Parts.{mid-at, mid-long, part-filled}
 use Rattle.records.specs.Words.{isHeld, examinedOf}
 use Rattle.editing.specs.declared.scan.Scan.{Scan}
 use Rattle.editing.specs.Words.{keptWord, keptAt, heldTo, Counted, Scanned}
-use Rattle.editing.proofs.Held.{held-add, held-same}
+use Rattle.editing.proofs.Held.{held-add, held-same, held-most}
+use Rattle.editing.proofs.Turns.{counted-all}
 use Rattle.editing.proofs.Kept as words
 
 -- A row's words in a row that was lent are the words of the whole.
@@ -27,14 +28,14 @@ same-row R s q i a k x old mid h e l w =
     ap₂ keptWord place (mid-at a k mid x l ∙ w)
 
 pub rows-more :
-    {s q c b : ℕ} {old mid ys : List ℕ} (R i a k : ℕ)
+    {c b : ℕ} {old mid ys : List ℕ} (R s q i a k : ℕ)
     → 1 ≤ R
     → a ≡ i * R
     → a + k ≤ length old
     → Counted (keptAt R s q old) old mid 0 a (keptAt R s q old) a c
     → Counted (keptAt R s (q + i) (midOf a k mid)) (midOf a k mid) ys 0 k (keptAt R s (q + i) (midOf a k mid)) k b
     → Counted (keptAt R s q old) old (putMid a k mid ys) 0 (a + k) (keptAt R s q old) (a + k) (c + b)
-rows-more {s} {q} {c} {b} {old} {mid} {ys} R i a k h e fits C D =
+rows-more {c} {b} {old} {mid} {ys} R s q i a k h e fits C D =
     let F = C .filled in
     let long = F .long in
     let G = part-filled a k (D .filled) (omega arith) (omega arith) (omega arith) in
@@ -73,6 +74,40 @@ one-row {limit} {c} {w} {ys} R s p h e l C =
       filled = fit (C .filled) refl l (λ j a b. same j (omega arith));
       counted = C .counted ∙ ap (heldTo (λ j. keptWord limit (at w j))) l ∙ held-same (λ j. keptWord limit (at w j)) (keptAt R s p w) R same;
     }
+
+-- The rows done, and one row more.
+pub row-done :
+    {limit c b : ℕ} {old mid ys : List ℕ} (R s q i k : ℕ)
+    → 1 ≤ R
+    → k ≡ R
+    → limit ≡ s - (q + i)
+    → i * R + R ≤ length old
+    → Counted (keptAt R s q old) old mid 0 (i * R) (keptAt R s q old) (i * R) c
+    → Counted
+    (λ j. keptWord limit (at (midOf (i * R) k mid) j))
+    (midOf (i * R) k mid)
+    ys
+    0
+    (length (midOf (i * R) k mid))
+    (λ j. keptWord limit (at (midOf (i * R) k mid) j))
+    (length (midOf (i * R) k mid))
+    b
+    → Counted (keptAt R s q old) old (putMid (i * R) k mid ys) 0 ((i + 1) * R) (keptAt R s q old) ((i + 1) * R) (c + b)
+row-done {mid = mid} R s q i k h e l fits C D =
+    let long = C .filled .long in
+    let w : length (midOf (i * R) k mid) ≡ R = mid-long (i * R) k mid (omega arith) ∙ e in
+    let E = counted-all (one-row R s (q + i) h l w D) (sym e) in
+    counted-all (rows-more R s q i (i * R) k h refl (omega arith) C E) (omega arith)
+
+-- The count of the rows done and of a part more is at most their words.
+pub counts-fit :
+    {f g : ℕ → ℕ} {old mid w ys : List ℕ} {a k c b : ℕ} → Counted f old mid 0 a f a c → Counted g w ys 0 k g k b → c + b ≤ a + k
+counts-fit {f} {g} {a = a} {k = k} C D =
+    let x = held-most f a in
+    let y = held-most g k in
+    let first = C .counted in
+    let second = D .counted in
+    omega arith
 
 -- A block of which a scan shows that nothing is to be dropped.
 pub nothing-dropped :

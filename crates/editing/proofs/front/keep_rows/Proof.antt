@@ -1,79 +1,95 @@
+-- `front::keep_rows` meets its contract: the first i rows are done. Assumes nothing.
+use Rattle.editing.proofs.Slots.{row-room}
+use Rattle.editing.proofs.Rows.{row-done, counts-fit}
+use Rattle.editing.proofs.Turns.{counted-all}
+use Rattle.editing.specs.Words.{Counted, keptAt}
+use Rattle.buffers.proofs.Parts.{mid-long}
+use Rattle.buffers.proofs.Fill.{empty}
+use lib.ListN.{length}
+use mathlib.Core.Path.{_≡_, refl, ap}
+use native.Mathlib.Omega.{arith}
+use Prim.Native.Nat.{ℕ, _≤_, _-_, _+_, _*_}
 use borrow.Author.Needs.{needs}
 use Rattle.editing.proofs.front.keep_rows.Statement.{statement}
 use Rattle.editing.proofs.front.keep_rows.Tie as tie
-use Rattle.editing.proofs.front.keep_rows.Reads as reads
-use Rattle.editing.proofs.front.keep_rows.Lts as lts
-use Rattle.editing.proofs.front.keep_row.Reads as keep-row-reads
 
 abbrev Inv-loop : tie.InvT-loop
-Inv-loop part₀ rules q rows s c₀ i₀ part c i = ?
+Inv-loop part₀ rules q rows s c₀ i₀ part c i =
+    (i ≤ rows) × Counted (keptAt rules s q part₀) part₀ part 0 (i * rules) (keptAt rules s q part₀) (i * rules) c
 
 abbrev μ-loop : tie.MeasureT-loop
-μ-loop part₀ rules q rows s c₀ i₀ part c i = ?
+μ-loop part₀ rules q rows s c₀ i₀ part c i = rows - i
 
--- src/front.rt:50:5
 loop-holds : tie.Need-loop-holds Inv-loop μ-loop
-loop-holds c = search needs
+loop-holds c = (omega arith, counted-all (record { filled = empty refl; counted = refl }) (omega arith))
 
--- src/front.rt:51:20
 mul-from : tie.Need-mul-from Inv-loop μ-loop
-mul-from c = search needs
+mul-from c = omega (arith, row-room (c .before .before .before .args .rules) (c .before .loop .i) (c .before .before .before .args .rows) (omega arith))
 
--- src/front.rt:52:18
 add-to : tie.Need-add-to Inv-loop μ-loop
-add-to c = search needs
+add-to c = omega (arith, row-room (c .before .before .before .args .rules) (c .before .loop .i) (c .before .before .before .args .rows) (omega arith))
 
--- src/front.rt:53:23
 mul-keep-row : tie.Need-mul-keep-row Inv-loop μ-loop
-mul-keep-row c = search needs
+mul-keep-row c = omega (arith, row-room (c .before .before .before .args .rules) (c .before .loop .i) (c .before .before .before .args .rows) (omega arith))
 
--- src/front.rt:53:23
 sub-keep-row : tie.Need-sub-keep-row Inv-loop μ-loop
 sub-keep-row c = search needs
 
--- src/front.rt:53:23
 part-keep-row-start : tie.Need-part-keep-row-start Inv-loop μ-loop
 part-keep-row-start c = search needs
 
--- src/front.rt:53:23
 part-keep-row-end : tie.Need-part-keep-row-end Inv-loop μ-loop
-part-keep-row-end c = search needs
+part-keep-row-end c = omega (arith, c .before .loop .inv .1 .filled .long, row-room (c .before .before .before .args .rules) (c .before .loop .i) (c .before .before .before .args .rows) (omega arith))
 
--- src/front.rt:53:49
 add-keep-row : tie.Need-add-keep-row Inv-loop μ-loop
 add-keep-row c = search needs
 
--- src/front.rt:53:44
 sub-keep-row-2 : tie.Need-sub-keep-row-2 Inv-loop μ-loop
 sub-keep-row-2 c = search needs
 
--- src/front.rt:53:14
 keep-row-requires : tie.Need-keep-row-requires Inv-loop μ-loop
 keep-row-requires c κs = search needs
 
--- src/front.rt:53:9
 add-c : tie.Need-add-c Inv-loop μ-loop
-add-c c = search needs
+add-c c =
+    let room = row-room (c .before .before .before .before .before .before .before .args .rules) (c .before .before .before .before .before .loop .i) (c .before .before .before .before .before .before .before .args .rows) (omega arith) in
+    let long = c .before .before .before .before .before .loop .inv .1 .filled .long in
+    let w = mid-long (c .before .before .before .before .before .loop .i * c .before .before .before .before .before .before .before .args .rules) (c .before .before .before .before .before .loop .i * c .before .before .before .before .before .before .before .args .rules + c .before .before .before .before .before .before .before .args .rules - c .before .before .before .before .before .loop .i * c .before .before .before .before .before .before .before .args .rules) (c .before .before .before .before .before .loop .part) (omega arith) in
+    let few = counts-fit (c .before .before .before .before .before .loop .inv .1) (c .before .before .keep-row .ensures) in
+    omega arith
 
--- src/front.rt:54:9
 add-i : tie.Need-add-i Inv-loop μ-loop
 add-i c = search needs
 
--- src/front.rt:50:5
 loop-less : tie.Need-loop-less Inv-loop μ-loop
-loop-less c = search needs
+loop-less c = omega arith
 
--- src/front.rt:50:5
 loop-again : tie.Need-loop-again Inv-loop μ-loop
-loop-again c = search needs
+loop-again c =
+    let room = row-room (c .before .before .before .before .before .before .before .args .rules) (c .before .before .before .before .before .loop .i) (c .before .before .before .before .before .before .before .args .rows) (omega arith) in
+    (
+      omega arith,
+      row-done
+      (c .before .before .before .before .before .before .before .args .rules)
+      (c .before .before .before .before .before .before .before .args .s)
+      (c .before .before .before .before .before .before .before .args .q)
+      (c .before .before .before .before .before .loop .i)
+      (c .before .before .before .before .before .loop .i * c .before .before .before .before .before .before .before .args .rules + c .before .before .before .before .before .before .before .args .rules - c .before .before .before .before .before .loop .i * c .before .before .before .before .before .before .before .args .rules)
+      (omega arith)
+      (omega arith)
+      refl
+      (omega arith)
+      (c .before .before .before .before .before .loop .inv .1)
+      (c .before .before .keep-row .ensures),
+    )
 
--- src/front.rt:34:1
 same-length : tie.Need-same-length Inv-loop μ-loop
-same-length c = search needs
+same-length c = c .before .loop .inv .1 .filled .long
 
--- src/front.rt:34:1
 returns : tie.Need-returns Inv-loop μ-loop
-returns c = search needs
+returns c =
+    let end : c .before .loop .i ≡ c .before .before .before .args .rows = omega arith in
+    counted-all (c .before .loop .inv .1) (ap (λ (x : ℕ). x * c .before .before .before .args .rules) end)
 
 pub keep-rows-spec : {M : Type 1} → statement M
 keep-rows-spec =
