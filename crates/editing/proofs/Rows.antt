@@ -20,38 +20,39 @@ use Rattle.editing.proofs.Kept as words
 
 -- A row's words in a row that was lent are the words of the whole.
 same-row :
-    (R s q i a k x : ℕ) (old mid : List ℕ) → 1 ≤ R → a ≡ i * R → x < k → at mid (a + x) ≡ at old (a + x)
-    → keptAt R s (q + i) (midOf a k mid) x ≡ keptAt R s q old (a + x)
-same-row R s q i a k x old mid h e l w =
+    (R s q p i a k x : ℕ) (old mid : List ℕ) → 1 ≤ R → p ≡ q + i → a ≡ i * R → x < k → at mid (a + x) ≡ at old (a + x)
+    → keptAt R s p (midOf a k mid) x ≡ keptAt R s q old (a + x)
+same-row R s q p i a k x old mid h o e l w =
     let row : (a + x) / R ≡ i + x / R = ap (λ (y : ℕ). (y + x) / R) e ∙ mul-add-div-right {m = R} h i x in
-    let place : s - (q + i + x / R) ≡ s - (q + (a + x) / R) = omega arith in
+    let place : s - (p + x / R) ≡ s - (q + (a + x) / R) = omega arith in
     ap₂ keptWord place (mid-at a k mid x l ∙ w)
 
 pub rows-more :
-    {c b : ℕ} {old mid ys : List ℕ} (R s q i a k : ℕ)
+    {c b : ℕ} {old mid ys : List ℕ} (R s q p i a k : ℕ)
     → 1 ≤ R
+    → p ≡ q + i
     → a ≡ i * R
     → a + k ≤ length old
     → Counted (keptAt R s q old) old mid 0 a (keptAt R s q old) a c
-    → Counted (keptAt R s (q + i) (midOf a k mid)) (midOf a k mid) ys 0 k (keptAt R s (q + i) (midOf a k mid)) k b
+    → Counted (keptAt R s p (midOf a k mid)) (midOf a k mid) ys 0 k (keptAt R s p (midOf a k mid)) k b
     → Counted (keptAt R s q old) old (putMid a k mid ys) 0 (a + k) (keptAt R s q old) (a + k) (c + b)
-rows-more {c} {b} {old} {mid} {ys} R s q i a k h e fits C D =
+rows-more {c} {b} {old} {mid} {ys} R s q p i a k h o e fits C D =
     let F = C .filled in
     let long = F .long in
     let G = part-filled a k (D .filled) (omega arith) (omega arith) (omega arith) in
-    let same : (x : ℕ) → x < k → keptAt R s (q + i) (midOf a k mid) x ≡ keptAt R s q old (a + x) =
-        λ x l. same-row R s q i a k x old mid h e l (F .past (a + x) (omega arith)) in
+    let same : (x : ℕ) → x < k → keptAt R s p (midOf a k mid) x ≡ keptAt R s q old (a + x) =
+    λ x l. same-row R s q p i a k x old mid h o e l (F .past (a + x) (omega arith)) in
     let sum = held-add (keptAt R s q old) a k in
-    let part = held-same (keptAt R s (q + i) (midOf a k mid)) (λ x. keptAt R s q old (a + x)) k same in
+    let part = held-same (keptAt R s p (midOf a k mid)) (λ x. keptAt R s q old (a + x)) k same in
     let first = C .counted in
     let second = D .counted in
     record {
       filled = more
-      F
-      (fit G (omega arith) refl (λ j p o. refl))
-      (omega arith)
-      (omega arith)
-      (λ j p o.
+          F
+          (fit G (omega arith) refl (λ j p o. refl))
+          (omega arith)
+          (omega arith)
+          (λ j x y.
           let back : a + (j - a) ≡ j = omega arith in
           same (j - a) (omega arith) ∙ ap (λ (y : ℕ). keptAt R s q old y) back);
       counted = omega arith;
@@ -67,9 +68,9 @@ pub one-row :
     → Counted (keptAt R s p w) w ys 0 R (keptAt R s p w) R c
 one-row {limit} {c} {w} {ys} R s p h e l C =
     let same : (j : ℕ) → j < R → keptWord limit (at w j) ≡ keptAt R s p w j = λ j o.
-        let row : j / R ≡ 0 = div-eq-of-lt {n = j} {m = R} o in
-        let place : limit ≡ s - (p + j / R) = omega arith in
-        ap (λ (y : ℕ). keptWord y (at w j)) place in
+    let row : j / R ≡ 0 = div-eq-of-lt {n = j} {m = R} o in
+    let place : limit ≡ s - (p + j / R) = omega arith in
+    ap (λ (y : ℕ). keptWord y (at w j)) place in
     record {
       filled = fit (C .filled) refl l (λ j a b. same j (omega arith));
       counted = C .counted ∙ ap (heldTo (λ j. keptWord limit (at w j))) l ∙ held-same (λ j. keptWord limit (at w j)) (keptAt R s p w) R same;
@@ -97,7 +98,29 @@ row-done {mid = mid} R s q i k h e l fits C D =
     let long = C .filled .long in
     let w : length (midOf (i * R) k mid) ≡ R = mid-long (i * R) k mid (omega arith) ∙ e in
     let E = counted-all (one-row R s (q + i) h l w D) (sym e) in
-    counted-all (rows-more R s q i (i * R) k h refl (omega arith) C E) (omega arith)
+    counted-all (rows-more R s q (q + i) i (i * R) k h refl refl (omega arith) C E) (omega arith)
+
+-- The rows before q done, and a block more.
+pub block-done :
+    {c b : ℕ} {old mid ys : List ℕ} (R s q rows k : ℕ)
+    → 1 ≤ R
+    → k ≡ rows * R
+    → q * R + rows * R ≤ length old
+    → Counted (keptAt R s 0 old) old mid 0 (q * R) (keptAt R s 0 old) (q * R) c
+    → Counted
+    (keptAt R s q (midOf (q * R) k mid))
+    (midOf (q * R) k mid)
+    ys
+    0
+    (rows * R)
+    (keptAt R s q (midOf (q * R) k mid))
+    (rows * R)
+    b
+    → Counted (keptAt R s 0 old) old (putMid (q * R) k mid ys) 0 ((q + rows) * R) (keptAt R s 0 old) ((q + rows) * R) (c + b)
+block-done R s q rows k h e fits C D =
+    counted-all
+    (rows-more R s 0 q q (q * R) k h (omega arith) refl (omega arith) C (counted-all D (sym e)))
+    (omega arith)
 
 -- The count of the rows done and of a part more is at most their words.
 pub counts-fit :

@@ -48,14 +48,14 @@ seen-more {words} {any} {all} {held} {i} {low} {bit} S L b =
     let or = examined-or any (at words i) in
     record {
       bound = below-more
-      (λ j. examinedOf (at words j) ≤ examinedOf (bitOr any (at words i)))
-      i
-      (λ j h. let l = S .bound j h in omega (arith, both .0))
-      (omega (arith, both .1));
+          (λ j. examinedOf (at words j) ≤ examinedOf (bitOr any (at words i)))
+          i
+          (λ j h. let l = S .bound j h in omega (arith, both .0))
+          (omega (arith, both .1));
       counted = (let more = held-more (at words) i in let count = S .counted in omega arith);
       empty = λ l. below-more
-      (λ j. isHeld (at words j) ≡ false → at words j ≡ 0)
-      i
-      (S .empty (let a = and-le-l all low in omega arith))
-      (λ h. L .above (let a = and-le-r all low in omega arith) (leb-false (2 ^ 63) (at words i) h));
+          (λ j. isHeld (at words j) ≡ false → at words j ≡ 0)
+          i
+          (S .empty (let a = and-le-l all low in omega arith))
+          (λ h. L .above (let a = and-le-r all low in omega arith) (leb-false (2 ^ 63) (at words i) h));
     }

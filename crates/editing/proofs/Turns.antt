@@ -95,7 +95,7 @@ put-over {row} {old} {new} {i} {c} {a} {b} {v} P l d e g =
     let F = P .filled in
     let same = F .past i (omega arith) in
     let word : v ≡ pick (isHeld (at row i)) (at row i) (at old i) =
-        d ∙ ap (λ (x : ℕ). pick (isHeld (at row i)) (at row i) x) same in
+    d ∙ ap (λ (x : ℕ). pick (isHeld (at row i)) (at row i) x) same in
     let G = up F (omega arith) l word in
     let now : at (set new i v) i ≡ v = G .inside i (omega arith) (omega arith) ∙ sym word in
     let kept = held-same (at (set new i v)) (at new) i (λ j h. G .inside j (omega arith) (omega arith) ∙ sym (F .inside j (omega arith) h)) in
@@ -105,10 +105,10 @@ put-over {row} {old} {new} {i} {c} {a} {b} {v} P l d e g =
     record {
       filled = G;
       counted =
-      (let more = held-more (at (set new i v)) i in
-      let before = held-more (at old) i in
-      let count = P .counted in
-      omega arith);
+          (let more = held-more (at (set new i v)) i in
+          let before = held-more (at old) i in
+          let count = P .counted in
+          omega arith);
     }
 
 -- Where the turns have come to the end.

@@ -7,17 +7,15 @@ ghost use Rattle.editing.specs.Words.{Counted, keptWord, keptAt};
 
 // Of one row: keeps the held words that examined at most `limit` bytes, zeroes the others. Answers how many it keeps.
 pub fn keep_row(row: &mut [u64], limit: usize) -> usize
-    ensures {
-        λ c. ⌜ Counted
-            (λ j. keptWord limit (at (now (row .entry)) j))
-            (now (row .entry))
-            (now (row .exit))
-            0
-            (length (now (row .entry)))
-            (λ j. keptWord limit (at (now (row .entry)) j))
-            (length (now (row .entry)))
-            c ⌝
-    }
+    ensures { λ c. ⌜ Counted
+        (λ j. keptWord limit (at (now (row .entry)) j))
+        (now (row .entry))
+        (now (row .exit))
+        0
+        (length (now (row .entry)))
+        (λ j. keptWord limit (at (now (row .entry)) j))
+        (length (now (row .entry)))
+        c ⌝ }
 {
     let mut c: usize = 0;
     let mut i: usize = 0;
@@ -33,17 +31,15 @@ pub fn keep_row(row: &mut [u64], limit: usize) -> usize
 // Row by row, of rows whose first is that of position q.
 fn keep_rows(part: &mut [u64], rules: usize, q: usize, rows: usize, s: usize) -> usize
     requires { ⌜ (1 ≤ rules) × (q + rows ≤ s) × (length (now part) ≡ rows * rules) ⌝ }
-    ensures {
-        λ c. ⌜ Counted
-            (keptAt rules s q (now (part .entry)))
-            (now (part .entry))
-            (now (part .exit))
-            0
-            (rows * rules)
-            (keptAt rules s q (now (part .entry)))
-            (rows * rules)
-            c ⌝
-    }
+    ensures { λ c. ⌜ Counted
+        (keptAt rules s q (now (part .entry)))
+        (now (part .entry))
+        (now (part .exit))
+        0
+        (rows * rules)
+        (keptAt rules s q (now (part .entry)))
+        (rows * rules)
+        c ⌝ }
 {
     let mut c: usize = 0;
     let mut i: usize = 0;
@@ -59,17 +55,15 @@ fn keep_rows(part: &mut [u64], rules: usize, q: usize, rows: usize, s: usize) ->
 // A block of rows: where a scan shows that nothing is to be dropped, nothing is stored.
 fn keep_block(part: &mut [u64], rules: usize, q: usize, rows: usize, s: usize) -> usize
     requires { ⌜ (1 ≤ rules) × (1 ≤ rows) × (q + rows ≤ s) × (length (now part) ≡ rows * rules) ⌝ }
-    ensures {
-        λ c. ⌜ Counted
-            (keptAt rules s q (now (part .entry)))
-            (now (part .entry))
-            (now (part .exit))
-            0
-            (rows * rules)
-            (keptAt rules s q (now (part .entry)))
-            (rows * rules)
-            c ⌝
-    }
+    ensures { λ c. ⌜ Counted
+        (keptAt rules s q (now (part .entry)))
+        (now (part .entry))
+        (now (part .exit))
+        0
+        (rows * rules)
+        (keptAt rules s q (now (part .entry)))
+        (rows * rules)
+        c ⌝ }
 {
     let seen = super::scan::scan_words(part);
     let clean = seen.clean;
@@ -88,17 +82,15 @@ const BLOCK: usize = 64;
 // All rows of positions before s, block by block.
 pub fn keep_front(part: &mut [u64], rules: usize, s: usize) -> usize
     requires { ⌜ (1 ≤ rules) × (length (now part) ≡ s * rules) ⌝ }
-    ensures {
-        λ c. ⌜ Counted
-            (keptAt rules s 0 (now (part .entry)))
-            (now (part .entry))
-            (now (part .exit))
-            0
-            (s * rules)
-            (keptAt rules s 0 (now (part .entry)))
-            (s * rules)
-            c ⌝
-    }
+    ensures { λ c. ⌜ Counted
+        (keptAt rules s 0 (now (part .entry)))
+        (now (part .entry))
+        (now (part .exit))
+        0
+        (s * rules)
+        (keptAt rules s 0 (now (part .entry)))
+        (s * rules)
+        c ⌝ }
 {
     let mut c: usize = 0;
     let mut q: usize = 0;

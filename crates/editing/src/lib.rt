@@ -1,7 +1,7 @@
 // The edit of a sheet's text and of its memo table, and what an opening leaves in both.
+mod back;
+mod front;
+mod scan;
+pub mod table;
 pub mod text;
 mod words;
-mod scan;
-mod front;
-mod back;
-pub mod table;

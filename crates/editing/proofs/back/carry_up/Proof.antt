@@ -57,17 +57,16 @@ loop-less c = search needs
 loop-again : tie.Need-loop-again Inv-loop μ-loop
 loop-again c =
     let i = c .before .before .before .before .loop .i in
-    let more : i - 1 + 1 ≡ i = omega arith in
-    (
+    let more : i - 1 + 1 ≡ i = omega arith in (
       omega arith,
       carried-up
-      (i - 1)
-      (subst (λ (x : ℕ). Left (c .before .before .before .before .before .before .args .part .now) (c .before .before .before .before .loop .part) (c .before .before .before .before .before .before .args .from) (c .before .before .before .before .before .before .args .to) (c .before .before .before .before .before .before .args .count) x (c .before .before .before .before .loop .c)) (sym more) (c .before .before .before .before .loop .inv .1))
-      (omega arith)
-      (omega arith)
-      (omega arith)
-      (c .before .held-bit .ensures .0)
-      (c .only-held .ensures),
+          (i - 1)
+          (subst (λ (x : ℕ). Left (c .before .before .before .before .before .before .args .part .now) (c .before .before .before .before .loop .part) (c .before .before .before .before .before .before .args .from) (c .before .before .before .before .before .before .args .to) (c .before .before .before .before .before .before .args .count) x (c .before .before .before .before .loop .c)) (sym more) (c .before .before .before .before .loop .inv .1))
+          (omega arith)
+          (omega arith)
+          (omega arith)
+          (c .before .held-bit .ensures .0)
+          (c .only-held .ensures),
     )
 
 same-length : tie.Need-same-length Inv-loop μ-loop

@@ -3,7 +3,6 @@ use mathlib.Core.Path.{refl, ap, _∙_}
 use Rattle.editing.proofs.Turns.{put-over, put-all}
 use Rattle.editing.proofs.Held.{held-most, bit-over}
 use Rattle.editing.specs.Words.{Put, heldBit}
-
 use Rattle.buffers.proofs.Fill.{none}
 use Rattle.buffers.specs.Filled.{at}
 use lib.ListN.{length}

@@ -1,84 +1,104 @@
+-- `front::keep_front` meets its contract: the rows before q are done. Assumes nothing.
+use Rattle.editing.proofs.Slots.{rows-room}
+use Rattle.editing.proofs.Rows.{block-done, counts-fit}
+use Rattle.editing.proofs.Turns.{counted-all}
+use Rattle.editing.specs.Words.{Counted, keptAt}
+use Rattle.buffers.proofs.Parts.{mid-long}
+use Rattle.buffers.proofs.Fill.{empty}
+use lib.ListN.{length}
+use mathlib.Core.Path.{_≡_, refl, ap}
+use native.Mathlib.Omega.{arith}
+use Prim.Native.Nat.{ℕ, _≤_, _-_, _+_, _*_}
 use borrow.Author.Needs.{needs}
 use Rattle.editing.proofs.front.keep_front.Statement.{statement}
 use Rattle.editing.proofs.front.keep_front.Tie as tie
-use Rattle.editing.proofs.front.keep_front.Reads as reads
-use Rattle.editing.proofs.front.keep_front.Lts as lts
-use Rattle.editing.proofs.front.block_rows.Reads as block-rows-reads
-use Rattle.editing.proofs.front.keep_block.Reads as keep-block-reads
 
 abbrev Inv-loop : tie.InvT-loop
-Inv-loop part₀ rules s c₀ q₀ part c q = ?
+Inv-loop part₀ rules s c₀ q₀ part c q =
+    (q ≤ s) × Counted (keptAt rules s 0 part₀) part₀ part 0 (q * rules) (keptAt rules s 0 part₀) (q * rules) c
 
 abbrev μ-loop : tie.MeasureT-loop
-μ-loop part₀ rules s c₀ q₀ part c q = ?
+μ-loop part₀ rules s c₀ q₀ part c q = s - q
 
--- src/front.rt:105:5
 loop-holds : tie.Need-loop-holds Inv-loop μ-loop
-loop-holds c = search needs
+loop-holds c = (omega arith, counted-all (record { filled = empty refl; counted = refl }) (omega arith))
 
--- src/front.rt:106:31
 sub-block-rows : tie.Need-sub-block-rows Inv-loop μ-loop
 sub-block-rows c = search needs
 
--- src/front.rt:106:13
 block-rows-requires : tie.Need-block-rows-requires Inv-loop μ-loop
 block-rows-requires c κs = search needs
 
--- src/front.rt:107:20
 mul-from : tie.Need-mul-from Inv-loop μ-loop
-mul-from c = search needs
+mul-from c = omega (arith, rows-room (c .before .before .before .before .args .rules) (c .before .before .loop .q) (c .block-rows .result) (c .before .before .before .before .args .s) (omega arith))
 
--- src/front.rt:108:25
 mul-to : tie.Need-mul-to Inv-loop μ-loop
-mul-to c = search needs
+mul-to c = omega (arith, rows-room (c .before .before .before .before .args .rules) (c .before .before .loop .q) (c .block-rows .result) (c .before .before .before .before .args .s) (omega arith))
 
--- src/front.rt:108:18
 add-to : tie.Need-add-to Inv-loop μ-loop
-add-to c = search needs
+add-to c = omega (arith, rows-room (c .before .before .before .before .args .rules) (c .before .before .loop .q) (c .block-rows .result) (c .before .before .before .before .args .s) (omega arith))
 
--- src/front.rt:109:25
 mul-keep-block : tie.Need-mul-keep-block Inv-loop μ-loop
-mul-keep-block c = search needs
+mul-keep-block c = omega (arith, rows-room (c .before .before .before .before .args .rules) (c .before .before .loop .q) (c .block-rows .result) (c .before .before .before .before .args .s) (omega arith))
 
--- src/front.rt:109:25
 sub-keep-block : tie.Need-sub-keep-block Inv-loop μ-loop
 sub-keep-block c = search needs
 
--- src/front.rt:109:25
 part-keep-block-start : tie.Need-part-keep-block-start Inv-loop μ-loop
 part-keep-block-start c = search needs
 
--- src/front.rt:109:25
 part-keep-block-end : tie.Need-part-keep-block-end Inv-loop μ-loop
-part-keep-block-end c = search needs
+part-keep-block-end c =
+    omega (arith, c .before .before .loop .inv .1 .filled .long, rows-room (c .before .before .before .before .args .rules) (c .before .before .loop .q) (c .block-rows .result) (c .before .before .before .before .args .s) (omega arith))
 
--- src/front.rt:109:14
 keep-block-requires : tie.Need-keep-block-requires Inv-loop μ-loop
-keep-block-requires c κs = search needs
+keep-block-requires c κs =
+    let room = rows-room (c .before .before .before .before .before .args .rules) (c .before .before .before .loop .q) (c .before .block-rows .result) (c .before .before .before .before .before .args .s) (omega arith) in
+    let long = c .before .before .before .loop .inv .1 .filled .long in
+    let w =
+    mid-long
+    (c .before .before .before .loop .q * c .before .before .before .before .before .args .rules)
+    (c .before .before .before .loop .q * c .before .before .before .before .before .args .rules + c .before .block-rows .result * c .before .before .before .before .before .args .rules - c .before .before .before .loop .q * c .before .before .before .before .before .args .rules)
+    (c .before .before .before .loop .part)
+    (omega arith) in
+    (omega arith, omega arith, omega arith, omega arith)
 
--- src/front.rt:109:9
 add-c : tie.Need-add-c Inv-loop μ-loop
-add-c c = search needs
+add-c c =
+    let room = rows-room (c .before .before .before .before .before .before .before .before .args .rules) (c .before .before .before .before .before .before .loop .q) (c .before .before .before .before .block-rows .result) (c .before .before .before .before .before .before .before .before .args .s) (omega arith) in
+    let few = counts-fit (c .before .before .before .before .before .before .loop .inv .1) (c .before .before .keep-block .ensures) in
+    omega arith
 
--- src/front.rt:110:9
 add-q : tie.Need-add-q Inv-loop μ-loop
 add-q c = search needs
 
--- src/front.rt:105:5
 loop-less : tie.Need-loop-less Inv-loop μ-loop
-loop-less c = search needs
+loop-less c = omega arith
 
--- src/front.rt:105:5
 loop-again : tie.Need-loop-again Inv-loop μ-loop
-loop-again c = search needs
+loop-again c =
+    let room = rows-room (c .before .before .before .before .before .before .before .before .args .rules) (c .before .before .before .before .before .before .loop .q) (c .before .before .before .before .block-rows .result) (c .before .before .before .before .before .before .before .before .args .s) (omega arith) in (
+      omega arith,
+      block-done
+          (c .before .before .before .before .before .before .before .before .args .rules)
+          (c .before .before .before .before .before .before .before .before .args .s)
+          (c .before .before .before .before .before .before .loop .q)
+          (c .before .before .before .before .block-rows .result)
+          (c .before .before .before .before .before .before .loop .q * c .before .before .before .before .before .before .before .before .args .rules + c .before .before .before .before .block-rows .result * c .before .before .before .before .before .before .before .before .args .rules - c .before .before .before .before .before .before .loop .q * c .before .before .before .before .before .before .before .before .args .rules)
+          (omega arith)
+          (omega arith)
+          (omega arith)
+          (c .before .before .before .before .before .before .loop .inv .1)
+          (c .before .before .keep-block .ensures),
+    )
 
--- src/front.rt:89:1
 same-length : tie.Need-same-length Inv-loop μ-loop
-same-length c = search needs
+same-length c = c .before .loop .inv .1 .filled .long
 
--- src/front.rt:89:1
 returns : tie.Need-returns Inv-loop μ-loop
-returns c = search needs
+returns c =
+    let end : c .before .loop .q ≡ c .before .before .before .args .s = omega arith in
+    counted-all (c .before .loop .inv .1) (ap (λ (x : ℕ). x * c .before .before .before .args .rules) end)
 
 pub keep-front-spec : {M : Type 1} → statement M
 keep-front-spec =

@@ -66,21 +66,20 @@ loop-less c = omega arith
 
 loop-again : tie.Need-loop-again Inv-loop μ-loop
 loop-again c =
-    let room = row-room (c .before .before .before .before .before .before .before .args .rules) (c .before .before .before .before .before .loop .i) (c .before .before .before .before .before .before .before .args .rows) (omega arith) in
-    (
+    let room = row-room (c .before .before .before .before .before .before .before .args .rules) (c .before .before .before .before .before .loop .i) (c .before .before .before .before .before .before .before .args .rows) (omega arith) in (
       omega arith,
       row-done
-      (c .before .before .before .before .before .before .before .args .rules)
-      (c .before .before .before .before .before .before .before .args .s)
-      (c .before .before .before .before .before .before .before .args .q)
-      (c .before .before .before .before .before .loop .i)
-      (c .before .before .before .before .before .loop .i * c .before .before .before .before .before .before .before .args .rules + c .before .before .before .before .before .before .before .args .rules - c .before .before .before .before .before .loop .i * c .before .before .before .before .before .before .before .args .rules)
-      (omega arith)
-      (omega arith)
-      refl
-      (omega arith)
-      (c .before .before .before .before .before .loop .inv .1)
-      (c .before .before .keep-row .ensures),
+          (c .before .before .before .before .before .before .before .args .rules)
+          (c .before .before .before .before .before .before .before .args .s)
+          (c .before .before .before .before .before .before .before .args .q)
+          (c .before .before .before .before .before .loop .i)
+          (c .before .before .before .before .before .loop .i * c .before .before .before .before .before .before .before .args .rules + c .before .before .before .before .before .before .before .args .rules - c .before .before .before .before .before .loop .i * c .before .before .before .before .before .before .before .args .rules)
+          (omega arith)
+          (omega arith)
+          refl
+          (omega arith)
+          (c .before .before .before .before .before .loop .inv .1)
+          (c .before .before .keep-row .ensures),
     )
 
 same-length : tie.Need-same-length Inv-loop μ-loop
