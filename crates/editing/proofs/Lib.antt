@@ -7,3 +7,4 @@ pub mod Turns
 pub mod ScanLaw
 pub mod Rows
 pub mod Slots
+pub mod BackLaw

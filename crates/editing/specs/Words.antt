@@ -4,7 +4,7 @@ use mathlib.Core.Path.{_≡_}
 use mathlib.Core.Bool.{Bool, true, false, _&&_}
 use mathlib.Core.List.{List}
 use lib.ListN.{length}
-use lib.Dec.{leb}
+use lib.Dec.{leb, ltb}
 use Rattle.buffers.specs.Filled.{Filled, at}
 use Rattle.records.specs.Words.{isHeld, examinedOf}
 use Rattle.editing.specs.Table.{pick}
@@ -59,3 +59,24 @@ pub record Scanned (words : List ℕ) (r : Scan) : Type 0 where
   pub bound : (j : ℕ) → j < length words → examinedOf (at words j) ≤ examinedOf (r .any)
   pub counted : r .held ≡ heldTo (at words) (length words)
   pub empty : r .clean ≡ true → (j : ℕ) → j < length words → isHeld (at words j) ≡ false → at words j ≡ 0
+
+-- The slots of an edit's back: a first row, the words that are gone, new and carried.
+pub record BackFits (rules gone new tail long : ℕ) : Type 0 where
+  pub most-rules : rules ≤ 64
+  pub row : rules ≤ long
+  pub old-fits : gone + tail ≤ long
+  pub new-fits : new + tail ≤ long
+
+-- The word that came to slot j: the one behind the edit that is carried there, 0 where none is.
+abbrev pub cameWord : (gone new tail : ℕ) → List ℕ → ℕ → ℕ
+cameWord gone new tail words j = pick (leb new j && ltb j (new + tail)) (onlyHeld (at words (gone + (j - new)))) 0
+
+-- The back after an edit: in the first row the words that stay win.
+pub record Back (rules gone new tail : ℕ) (old words : List ℕ) (c : ℕ) : Type 0 where
+  pub long : length words ≡ length old
+  pub first :
+      (j : ℕ)
+      → j < rules
+      → at words j ≡ pick (isHeld (keptWord 0 (at old j))) (keptWord 0 (at old j)) (cameWord gone new tail old j)
+  pub rest : (j : ℕ) → rules ≤ j → j < length old → at words j ≡ cameWord gone new tail old j
+  pub counted : c ≡ heldTo (at words) (length old)

@@ -1,12 +1,8 @@
 // The back of the table, lent from the slot of position s on: the words behind the edit are carried to their new rows, each row between
 // and behind is zeroed, and the words that stay at s are put over the rest.
-ghost use Prim.Native.Nat.{_+_, _-_, _*_, _≤_, _<_};
-ghost use mathlib.Core.Path.{_≡_};
+ghost use Prim.Native.Nat.{_+_, _≤_};
 ghost use lib.ListN.{length};
-ghost use Rattle.buffers.specs.Filled.{Filled, at};
-ghost use Rattle.records.specs.Words.{isHeld};
-ghost use Rattle.editing.specs.Table.{pick};
-ghost use Rattle.editing.specs.Words.{Counted, onlyHeld, keptWord, RowOf, Put, Carried};
+ghost use Rattle.editing.specs.Words.{RowOf, Put, Carried, BackFits, Back};
 
 // `count` words go from `from` down to `to`, lowest first; those that are not held become 0. Answers how many are held.
 fn carry_down(part: &mut [u64], from: usize, to: usize, count: usize) -> usize
@@ -77,4 +73,17 @@ fn put_row(part: &mut [u64], row: &[u64; 64], rules: usize) -> usize
         part[rule] = word;
     }
     c
+}
+
+// All words from position s on: `gone` words give way to `new` ones, and the `tail` words behind them are carried. Answers how many are held.
+pub fn edit_back(part: &mut [u64], rules: usize, gone: usize, new: usize, tail: usize) -> usize
+    requires { ⌜ BackFits rules gone new tail (length (now part)) ⌝ }
+    ensures { λ c. ⌜ Back rules gone new tail (now (part .entry)) (now (part .exit)) c ⌝ }
+{
+    let row = staying_row(part, rules);
+    let carried = carry(part, gone, new, tail);
+    buffers::words::clear(&mut part[0..new]);
+    let end = new + tail;
+    buffers::words::clear(&mut part[end..]);
+    carried + put_row(part, &row, rules)
 }
