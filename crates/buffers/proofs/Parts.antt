@@ -97,3 +97,12 @@ part-zeros a k xs ys e fits =
           ∙ getD-replicate (length (midOf a k xs)) (j - a) 0 0 (omega arith);
       past = put-past a k xs ys fits m;
     }
+
+-- The element of two joined lists, in either.
+pub joined-first : (xs ys : List ℕ) (a j : ℕ) → length xs ≡ a → j < a → at (xs ++ ys) j ≡ at xs j
+joined-first xs ys a j e h = List·getD-append xs ys 0 j (omega arith)
+
+pub joined-second : (xs ys : List ℕ) (a j : ℕ) → length xs ≡ a → a ≤ j → at (xs ++ ys) j ≡ at ys (j - a)
+joined-second xs ys a j e h =
+    let d : j ≡ length xs + (j - a) = omega arith in
+    ap (λ (x : ℕ). at (xs ++ ys) x) d ∙ getD-append-add xs ys (j - a) 0

@@ -8,3 +8,4 @@ pub mod ScanLaw
 pub mod Rows
 pub mod Slots
 pub mod BackLaw
+pub mod TableLaw

@@ -10,17 +10,8 @@ use lib.Seq.{getD-take, getD-drop, getD-append-add, length-take-le, ext-getD}
 use borrow.Rule.Slice.PartMut.{midOf, putMid}
 use Rattle.buffers.specs.Filled.{Filled, at}
 use Rattle.buffers.proofs.Fill.{cut}
-use Rattle.buffers.proofs.Parts.{mid-at, part-filled, part-zeros}
+use Rattle.buffers.proofs.Parts.{mid-at, part-filled, part-zeros, joined-first, joined-second}
 use Rattle.editing.specs.Text.{EditFits, newLength, textAfter, opened}
-
--- The element of two joined lists, in either.
-joined-first : (xs ys : List ℕ) (a j : ℕ) → length xs ≡ a → j < a → at (xs ++ ys) j ≡ at xs j
-joined-first xs ys a j e h = List·getD-append xs ys 0 j (omega arith)
-
-joined-second : (xs ys : List ℕ) (a j : ℕ) → length xs ≡ a → a ≤ j → at (xs ++ ys) j ≡ at ys (j - a)
-joined-second xs ys a j e h =
-    let d : j ≡ length xs + (j - a) = omega arith in
-    ap (λ (x : ℕ). at (xs ++ ys) x) d ∙ getD-append-add xs ys (j - a) 0
 
 in-tail : (s k t j : ℕ) → j < s + k + t → s + k ≤ j → j - s - k < t
 in-tail s k t j h l = omega arith
