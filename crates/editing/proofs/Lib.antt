@@ -9,3 +9,4 @@ pub mod Rows
 pub mod Slots
 pub mod BackLaw
 pub mod TableLaw
+pub mod Ledger

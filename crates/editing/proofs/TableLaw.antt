@@ -119,7 +119,7 @@ module _ (R s k rule : ℕ) (below : rule < R) where
       ∙ ap (λ (x : ℕ). x * R + rule) (let o : s + i + (e - s) ≡ s + d - k + (e - s) = omega arith in o)
 
 -- A position that a carried pair had is in the old text.
-was-inside :
+pub was-inside :
     (n s e k i cap : ℕ) → s + k ≤ s + i → s + i ≤ newLength n s e k → s ≤ e → e ≤ n → n ≤ cap → cameFrom s e k (s + i) < cap + 1
 was-inside n s e k i cap x y a b l = omega arith
 

@@ -1,9 +1,8 @@
 -- The pairs that stand after an edit, said of pairs and not of words.
-use Prim.Native.Nat.{ℕ, zero, suc, _+_, _-_}
+use Prim.Native.Nat.{ℕ, _+_, _-_}
 use mathlib.Core.Bool.{Bool, _&&_, _||_}
 use lib.Dec.{leb}
 use Rattle.editing.specs.Text.{newLength}
-use Rattle.editing.specs.Table.{pick}
 
 -- "A pair at new position q stands exactly when q ≤ s, the pair was held at q, and q + examined ≤ s; or s + k ≤ q ≤ n' and the pair was
 -- held at q − k + (e − s)." For one rule: `held` at each old position, `examined` there on the old text.
@@ -11,13 +10,3 @@ unfoldable pub standsAfter : (held : ℕ → Bool) (examined : ℕ → ℕ) (n s
 standsAfter held examined n s e k q =
     (leb q s && (held q && leb (q + examined q) s))
     || (leb (s + k) q && (leb q (newLength n s e k) && held (q - k + (e - s))))
-
--- How many of the numbers below n a test takes.
-abbrev pub countBelow : (ℕ → Bool) → ℕ → ℕ
-countBelow p zero = 0
-countBelow p (suc n) = countBelow p n + pick (p n) 1 0
-
--- How many pairs of a rule below `rules` and a position below `positions` a test takes: the sum by positions of the sums by rules.
-abbrev pub countPairs : (rules positions : ℕ) → (ℕ → ℕ → Bool) → ℕ
-countPairs rules zero p = 0
-countPairs rules (suc q) p = countPairs rules q p + countBelow (λ rule. p rule q) rules
