@@ -16,10 +16,7 @@ pub fn held_bit(word: u64) -> usize
 pub fn only_held(word: u64) -> u64
     ensures { λ r. ⌜ r ≡ onlyHeld word ⌝ }
 {
-    if records::is_held(word) {
-        return word;
-    }
-    0
+    if records::is_held(word) { word } else { 0 }
 }
 
 // The word where it is held and examined at most `limit` bytes, else 0.
@@ -40,7 +37,8 @@ pub fn first_held(first: u64, second: u64) -> u64
     ensures { λ r. ⌜ r ≡ pick (isHeld first) first second ⌝ }
 {
     if records::is_held(first) {
-        return first;
+        first
+    } else {
+        second
     }
-    second
 }
