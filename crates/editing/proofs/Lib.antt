@@ -10,3 +10,4 @@ pub mod Slots
 pub mod BackLaw
 pub mod TableLaw
 pub mod Ledger
+pub mod Loans

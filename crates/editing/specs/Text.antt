@@ -22,3 +22,7 @@ textAfter buffer n s e r =
 -- "Open: copies the text, zeroes the rest of the buffer".
 abbrev pub opened : (cap : ℕ) (text : List ℕ) → List ℕ
 opened cap text = text ++ replicate (cap - length text) 0
+
+-- A text after an edit: "bytes s to e − 1 give way to r".
+abbrev pub edited : (text : List ℕ) (s e : ℕ) (r : List ℕ) → List ℕ
+edited text s e r = take s text ++ (r ++ drop e text)

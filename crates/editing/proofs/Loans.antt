@@ -1,0 +1,101 @@
+-- What the lent buffers hold from call to call: a text and then zeros stay so over an edit, the words after the table stay, and the table keeps
+-- its size. Assumes nothing.
+use Prim.Native.Nat.{ℕ, _+_, _-_, _*_, _/_, _%_, _≤_, _<_}
+use native.Mathlib.Omega.{arith}
+use mathlib.Core.Path.{_≡_, refl, sym, ap, ap₂, _∙_}
+use mathlib.Core.Bool.{Bool, true, false, _&&_, _||_}
+use mathlib.Core.List.{List, _++_, append-assoc}
+use lib.ListN.{length, take, drop, replicate, length-append, length-drop, length-replicate, getD-replicate}
+use lib.Seq.{length-take-le, take-append-le, drop-append-le, take-at, drop-at}
+use lib.Dec.{leb}
+use borrow.Author.Tests.{leb-true}
+use Rattle.buffers.proofs.Parts.{joined-first}
+use Rattle.editing.specs.Text.{EditFits, newLength, textAfter, opened, edited}
+use Rattle.editing.specs.Table.{slotOf, wordOf, tableSize, TableLent, wordAfter, tabulate, wordsAfter, tableAfter, clearedTable}
+use Rattle.editing.specs.Pairs.{standsAfter}
+use Rattle.editing.proofs.Slots.{row-room}
+use Rattle.editing.proofs.TableLaw.{tabulate-long}
+
+module _ (cap s e : ℕ) (text r : List ℕ) (fits : EditFits cap (length text) s e (length r)) where
+  pub edited-long : length (edited text s e r) ≡ newLength (length text) s e (length r)
+  edited-long =
+      let a = length-append (take s text) (r ++ drop e text) in
+      let b = length-append r (drop e text) in
+      let c = length-take-le s text (omega arith) in
+      let d = length-drop e text in
+      omega arith
+
+  opened-long : length (opened cap text) ≡ cap
+  opened-long =
+      let a = length-append text (replicate (cap - length text) 0) in
+      let b = length-replicate {A = ℕ} (cap - length text) 0 in
+      omega arith
+
+  -- A text and then zeros: so it is after an edit.
+  pub edit-opened : textAfter (opened cap text) (length text) s e r ≡ opened cap (edited text s e r)
+  unfolding textAfter
+  edit-opened =
+      let zeros : List ℕ = replicate (cap - length text) 0 in
+      let front : take s (opened cap text) ≡ take s text = take-append-le s text zeros (omega arith) in
+      let rest : drop e (opened cap text) ≡ drop e text ++ zeros = drop-append-le e text zeros (omega arith) in
+      let tail : take (length text - e) (drop e (opened cap text)) ≡ drop e text =
+      ap (take (length text - e)) rest ∙ take-at (drop e text) zeros (length text - e) (length-drop e text) in
+      let count : length (opened cap text) - newLength (length text) s e (length r) ≡ cap - length (edited text s e r) =
+      ap₂ (λ (x y : ℕ). x - y) opened-long (sym edited-long) in
+      ap₂
+      (λ (x y : List ℕ). x ++ (r ++ (y ++ replicate (length (opened cap text) - newLength (length text) s e (length r)) 0)))
+      front
+      tail
+      ∙ ap (λ (x : ℕ). take s text ++ (r ++ (drop e text ++ replicate x 0))) count
+      ∙ sym
+      (append-assoc (take s text) (r ++ drop e text) (replicate (cap - length (edited text s e r)) 0)
+      ∙ ap (λ (x : List ℕ). take s text ++ x) (append-assoc r (drop e text) (replicate (cap - length (edited text s e r)) 0)))
+
+-- Words before what is behind the table.
+kept-length : (size : ℕ) (words t : List ℕ) → length words ≡ size → size ≤ length t → length (words ++ drop size t) ≡ length t
+kept-length size words t e h =
+    let a = length-append words (drop size t) in
+    let b = length-drop size t in
+    omega arith
+
+module _ {R cap : ℕ} {t : List ℕ} (lent : TableLent R cap t) where
+  pub cleared-long : length (clearedTable R cap t) ≡ length t
+  cleared-long = kept-length (tableSize R cap) (replicate (tableSize R cap) 0) t (length-replicate (tableSize R cap) 0) (lent .whole)
+
+  pub cleared-tail : drop (tableSize R cap) (clearedTable R cap t) ≡ drop (tableSize R cap) t
+  cleared-tail = drop-at (replicate (tableSize R cap) 0) (drop (tableSize R cap) t) (tableSize R cap) (length-replicate (tableSize R cap) 0)
+
+  pub cleared-word : (rule q : ℕ) → rule < R → q ≤ cap → wordOf R (clearedTable R cap t) rule q ≡ 0
+  cleared-word rule q below inside =
+      let m = row-room R q (cap + 1) (omega arith) in
+      let slot : slotOf R rule q < tableSize R cap = omega arith in
+      joined-first (replicate (tableSize R cap) 0) (drop (tableSize R cap) t) (tableSize R cap) (slotOf R rule q) (length-replicate (tableSize R cap) 0) slot
+      ∙ getD-replicate (tableSize R cap) (slotOf R rule q) 0 0 slot
+
+  module _ (n s e k : ℕ) where
+    after-words : length (wordsAfter R cap n s e k t) ≡ tableSize R cap
+    unfolding wordsAfter
+    after-words = tabulate-long (λ j. wordAfter R n s e k t (j % R) (j / R)) (tableSize R cap)
+
+    pub after-long : length (tableAfter R cap n s e k t) ≡ length t
+    after-long = kept-length (tableSize R cap) (wordsAfter R cap n s e k t) t after-words (lent .whole)
+
+    pub after-tail : drop (tableSize R cap) (tableAfter R cap n s e k t) ≡ drop (tableSize R cap) t
+    after-tail = drop-at (wordsAfter R cap n s e k t) (drop (tableSize R cap) t) (tableSize R cap) after-words
+
+-- A pair that stands is at a position of the new text.
+pub stands-in-text :
+    {cap n s e k : ℕ} (held : ℕ → Bool) (examined : ℕ → ℕ) (q : ℕ)
+    → EditFits cap n s e k
+    → standsAfter held examined n s e k q ≡ true
+    → q ≤ newLength n s e k
+unfolding standsAfter
+stands-in-text {cap} {n} {s} {e} {k} held examined q fits h =
+    go (leb q s) (held q && leb (q + examined q) s) (leb (s + k) q) (leb q (newLength n s e k)) (held (q - k + (e - s))) refl refl h
+  where
+    go :
+        (a b c d f : Bool) → leb q s ≡ a → leb q (newLength n s e k) ≡ d → ((a && b) || (c && (d && f))) ≡ true → q ≤ newLength n s e k
+    go true b c d f x y z = let l = leb-true q s x in omega arith
+    go false b true true f x y z = leb-true q (newLength n s e k) y
+    go false b true false f x y z = absurd (let i : _≡_ {A = ℕ} 0 1 = cc in omega arith)
+    go false b false d f x y z = absurd (let i : _≡_ {A = ℕ} 0 1 = cc in omega arith)
