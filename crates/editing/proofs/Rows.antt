@@ -13,7 +13,7 @@ use Rattle.buffers.proofs.Fill.{none, kept, more, fit}
 use Rattle.buffers.proofs.Parts.{mid-at, mid-long, part-filled}
 use Rattle.records.specs.Words.{isHeld, examinedOf}
 use Rattle.editing.specs.declared.scan.Scan.{Scan}
-use Rattle.editing.specs.Words.{keptWord, keptAt, heldTo, Counted, Scanned}
+use Rattle.editing.specs.Words.{keptWord, keptAt, heldTo, Counted, KeptRows, Scanned}
 use Rattle.editing.proofs.Held.{held-add, held-same, held-most}
 use Rattle.editing.proofs.Turns.{counted-all}
 use Rattle.editing.proofs.Kept as words
@@ -33,9 +33,9 @@ pub rows-more :
     → p ≡ q + i
     → a ≡ i * R
     → a + k ≤ length old
-    → Counted (keptAt R s q old) old mid 0 a (keptAt R s q old) a c
-    → Counted (keptAt R s p (midOf a k mid)) (midOf a k mid) ys 0 k (keptAt R s p (midOf a k mid)) k b
-    → Counted (keptAt R s q old) old (putMid a k mid ys) 0 (a + k) (keptAt R s q old) (a + k) (c + b)
+    → KeptRows R s q old mid a c
+    → KeptRows R s p (midOf a k mid) ys k b
+    → KeptRows R s q old (putMid a k mid ys) (a + k) (c + b)
 rows-more {c} {b} {old} {mid} {ys} R s q p i a k h o e fits C D =
     let F = C .filled in
     let long = F .long in
@@ -65,7 +65,7 @@ pub one-row :
     → limit ≡ s - p
     → length w ≡ R
     → Counted (λ j. keptWord limit (at w j)) w ys 0 (length w) (λ j. keptWord limit (at w j)) (length w) c
-    → Counted (keptAt R s p w) w ys 0 R (keptAt R s p w) R c
+    → KeptRows R s p w ys R c
 one-row {limit} {c} {w} {ys} R s p h e l C =
     let same : (j : ℕ) → j < R → keptWord limit (at w j) ≡ keptAt R s p w j = λ j o.
     let row : j / R ≡ 0 = div-eq-of-lt {n = j} {m = R} o in
@@ -83,7 +83,7 @@ pub row-done :
     → k ≡ R
     → limit ≡ s - (q + i)
     → i * R + R ≤ length old
-    → Counted (keptAt R s q old) old mid 0 (i * R) (keptAt R s q old) (i * R) c
+    → KeptRows R s q old mid (i * R) c
     → Counted
     (λ j. keptWord limit (at (midOf (i * R) k mid) j))
     (midOf (i * R) k mid)
@@ -93,34 +93,25 @@ pub row-done :
     (λ j. keptWord limit (at (midOf (i * R) k mid) j))
     (length (midOf (i * R) k mid))
     b
-    → Counted (keptAt R s q old) old (putMid (i * R) k mid ys) 0 ((i + 1) * R) (keptAt R s q old) ((i + 1) * R) (c + b)
+    → KeptRows R s q old (putMid (i * R) k mid ys) ((i + 1) * R) (c + b)
 row-done {mid = mid} R s q i k h e l fits C D =
     let long = C .filled .long in
     let w : length (midOf (i * R) k mid) ≡ R = mid-long (i * R) k mid (omega arith) ∙ e in
     let E = counted-all (one-row R s (q + i) h l w D) (sym e) in
     counted-all (rows-more R s q (q + i) i (i * R) k h refl refl (omega arith) C E) (omega arith)
 
--- The rows before q done, and a block more.
-pub block-done :
-    {c b : ℕ} {old mid ys : List ℕ} (R s q rows k : ℕ)
+-- The rows done, and a part of several rows more.
+pub part-done :
+    {c b : ℕ} {old mid ys : List ℕ} (R s q p i rows k : ℕ)
     → 1 ≤ R
+    → p ≡ q + i
     → k ≡ rows * R
-    → q * R + rows * R ≤ length old
-    → Counted (keptAt R s 0 old) old mid 0 (q * R) (keptAt R s 0 old) (q * R) c
-    → Counted
-    (keptAt R s q (midOf (q * R) k mid))
-    (midOf (q * R) k mid)
-    ys
-    0
-    (rows * R)
-    (keptAt R s q (midOf (q * R) k mid))
-    (rows * R)
-    b
-    → Counted (keptAt R s 0 old) old (putMid (q * R) k mid ys) 0 ((q + rows) * R) (keptAt R s 0 old) ((q + rows) * R) (c + b)
-block-done R s q rows k h e fits C D =
-    counted-all
-    (rows-more R s 0 q q (q * R) k h (omega arith) refl (omega arith) C (counted-all D (sym e)))
-    (omega arith)
+    → i * R + rows * R ≤ length old
+    → KeptRows R s q old mid (i * R) c
+    → KeptRows R s p (midOf (i * R) k mid) ys (rows * R) b
+    → KeptRows R s q old (putMid (i * R) k mid ys) ((i + rows) * R) (c + b)
+part-done R s q p i rows k h o e fits C D =
+    counted-all (rows-more R s q p i (i * R) k h o refl (omega arith) C (counted-all D (sym e))) (omega arith)
 
 -- The count of the rows done and of a part more is at most their words.
 pub counts-fit :
@@ -138,11 +129,10 @@ pub nothing-dropped :
     → 1 ≤ R
     → q + rows ≤ s
     → length w ≡ rows * R
-    → Scanned w r
-    → r .clean ≡ true
-    → examinedOf (r .any) ≤ s - (q + rows - 1)
-    → Counted (keptAt R s q w) w w 0 (rows * R) (keptAt R s q w) (rows * R) (r .held)
-nothing-dropped {r} {w} R s q rows h o l S clean bound =
+    → Scanned w (s - (q + rows - 1)) r
+    → r .every ≡ true
+    → KeptRows R s q w w (rows * R) (r .held)
+nothing-dropped {r} {w} R s q rows h o l S every =
     record {
       filled = kept (rows * R) (none 0) (omega arith) (omega arith) (λ j a b. sym (same j b));
       counted = S .counted ∙ ap (heldTo (at w)) l ∙ held-same (at w) (keptAt R s q w) (rows * R) (λ j b. sym (same j b));
@@ -151,9 +141,9 @@ nothing-dropped {r} {w} R s q rows h o l S clean bound =
     by : (j : ℕ) → j < rows * R → (t : Bool) → isHeld (at w j) ≡ t → keptAt R s q w j ≡ at w j
     by j b true e =
         let row : j / R < rows = div-lt-iff-lt-mul {k = R} {x = j} {y = rows} h .1 b in
-        let small = S .bound j (omega arith) in
+        let small = S .bound every j (omega arith) in
         words.kept (s - (q + j / R)) (at w j) e (omega arith)
-    by j b false e = words.kept-empty (s - (q + j / R)) (at w j) e ∙ sym (S .empty clean j (omega arith) e)
+    by j b false e = words.kept-empty (s - (q + j / R)) (at w j) e ∙ sym (S .empty every j (omega arith) e)
 
     same : (j : ℕ) → j < rows * R → keptAt R s q w j ≡ at w j
     same j b = by j b (isHeld (at w j)) refl

@@ -3,17 +3,18 @@
 use Prim.Native.Nat.{ℕ, _+_, _-_, _*_, _/_, _%_, _^_, _≤_, _<_}
 use native.Mathlib.Omega.{arith}
 use mathlib.Core.Path.{_≡_, refl, sym, ap, _∙_}
-use mathlib.Core.Bool.{Bool, true, false}
+use mathlib.Core.Bool.{true, false, true≢false}
 use mathlib.Core.Logic.{⊎-elim}
 use mathlib.Core.List.{List}
 use lib.ListN.{length}
 use lib.Bits.{bitOr, bitAnd, or-add-and, and-le-l, and-le-r, or-comm, or-shr, or-mod}
 use borrow.Author.Count.{below-more}
-use borrow.Author.Tests.{leb-false}
+use lib.Dec.{leb}
+use borrow.Author.Tests.{leb-true, leb-false}
 use Rattle.buffers.specs.Filled.{at}
 use Rattle.grammar.specs.Image.{field}
 use Rattle.records.specs.Words.{isHeld, examinedOf}
-use Rattle.editing.specs.Words.{heldBit, heldTo, Lowered}
+use Rattle.editing.specs.Words.{heldBit, heldTo, Lowered, Scanned}
 use Rattle.editing.proofs.Held.{held-more}
 
 or-above : (a b : ℕ) → (a ≤ bitOr a b) × (b ≤ bitOr a b)
@@ -59,3 +60,21 @@ seen-more {words} {any} {all} {held} {i} {low} {bit} S L b =
           (S .empty (let a = and-le-l all low in omega arith))
           (λ h. L .above (let a = and-le-r all low in omega arith) (leb-false (2 ^ 63) (at words i) h));
     }
+
+-- At the end: nothing is told, or the bound of all fields is held against the limit.
+module _ {words : List ℕ} {any all held i : ℕ} (limit : ℕ) (S : Seen words any all held i) (end : i ≡ length words) where
+  pub told-nothing : Scanned words limit (record { held = held; every = false })
+  told-nothing =
+      record {
+        counted = S .counted ∙ ap (heldTo (at words)) end;
+        bound = λ no. absurd (true≢false (sym no));
+        empty = λ no. absurd (true≢false (sym no));
+      }
+
+  pub told : (x : ℕ) → 2 ^ 63 ≤ all → x ≡ examinedOf any → Scanned words limit (record { held = held; every = leb x limit })
+  told x clean e =
+      record {
+        counted = S .counted ∙ ap (heldTo (at words)) end;
+        bound = λ yes j h. (let a = S .bound j (omega arith) in let b = leb-true x limit yes in omega arith);
+        empty = λ yes j h. S .empty clean j (omega arith);
+      }

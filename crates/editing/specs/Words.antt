@@ -36,6 +36,10 @@ pub record Counted (f : ℕ → ℕ) (old new : List ℕ) (lo hi : ℕ) (held : 
   pub filled : Filled f old new lo hi
   pub counted : c ≡ heldTo held count
 
+-- Rows that begin with that of position q, done: of so many words each is kept or 0, and c are held.
+abbrev pub KeptRows : (rules s q : ℕ) (old new : List ℕ) (count c : ℕ) → Type 0
+KeptRows rules s q old new count c = Counted (keptAt rules s q old) old new 0 count (keptAt rules s q old) count c
+
 -- From slot `from` so many words were carried to slot `to`, those that are not held as 0; c of them are held.
 abbrev pub Carried : (old new : List ℕ) (from to count c : ℕ) → Type 0
 Carried old new from to count c =
@@ -54,11 +58,11 @@ pub record Put (row old new : List ℕ) (rules c : ℕ) : Type 0 where
 pub record Lowered (word r : ℕ) : Type 0 where
   pub above : 2 ^ 63 ≤ r → word < 2 ^ 63 → word ≡ 0
 
--- What a scan tells of words: no examined field is above that of `any`, so many are held, and where it is clean each other word is 0.
-pub record Scanned (words : List ℕ) (r : Scan) : Type 0 where
-  pub bound : (j : ℕ) → j < length words → examinedOf (at words j) ≤ examinedOf (r .any)
+-- What a scan tells of words: so many are held, and where `every` is true each word is 0 or held, with an examined field of at most `limit`.
+pub record Scanned (words : List ℕ) (limit : ℕ) (r : Scan) : Type 0 where
   pub counted : r .held ≡ heldTo (at words) (length words)
-  pub empty : r .clean ≡ true → (j : ℕ) → j < length words → isHeld (at words j) ≡ false → at words j ≡ 0
+  pub bound : r .every ≡ true → (j : ℕ) → j < length words → examinedOf (at words j) ≤ limit
+  pub empty : r .every ≡ true → (j : ℕ) → j < length words → isHeld (at words j) ≡ false → at words j ≡ 0
 
 -- The slots of an edit's back: a first row, the words that are gone, new and carried.
 pub record BackFits (rules gone new tail long : ℕ) : Type 0 where

@@ -3,7 +3,7 @@ ghost use Prim.Native.Nat.{_+_, _-_, _*_, _≤_, _<_};
 ghost use mathlib.Core.Path.{_≡_};
 ghost use lib.ListN.{length};
 ghost use Rattle.buffers.specs.Filled.{at};
-ghost use Rattle.editing.specs.Words.{Counted, keptWord, keptAt};
+ghost use Rattle.editing.specs.Words.{Counted, keptWord, KeptRows};
 
 // Of one row: keeps the held words that examined at most `limit` bytes, zeroes the others. Answers how many it keeps.
 pub fn keep_row(row: &mut [u64], limit: usize) -> usize
@@ -31,15 +31,7 @@ pub fn keep_row(row: &mut [u64], limit: usize) -> usize
 // Row by row, of rows whose first is that of position q.
 fn keep_rows(part: &mut [u64], rules: usize, q: usize, rows: usize, s: usize) -> usize
     requires { ⌜ (1 ≤ rules) × (q + rows ≤ s) × (length (now part) ≡ rows * rules) ⌝ }
-    ensures { λ c. ⌜ Counted
-        (keptAt rules s q (now (part .entry)))
-        (now (part .entry))
-        (now (part .exit))
-        0
-        (rows * rules)
-        (keptAt rules s q (now (part .entry)))
-        (rows * rules)
-        c ⌝ }
+    ensures { λ c. ⌜ KeptRows rules s q (now (part .entry)) (now (part .exit)) (rows * rules) c ⌝ }
 {
     let mut c: usize = 0;
     let mut i: usize = 0;
@@ -52,65 +44,78 @@ fn keep_rows(part: &mut [u64], rules: usize, q: usize, rows: usize, s: usize) ->
     c
 }
 
-// A block of rows: where a scan shows that nothing is to be dropped, nothing is stored.
-fn keep_block(part: &mut [u64], rules: usize, q: usize, rows: usize, s: usize) -> usize
+// A group of rows: where a scan shows that every word stays, nothing is stored.
+fn keep_group(part: &mut [u64], rules: usize, q: usize, rows: usize, s: usize) -> usize
     requires { ⌜ (1 ≤ rules) × (1 ≤ rows) × (q + rows ≤ s) × (length (now part) ≡ rows * rules) ⌝ }
-    ensures { λ c. ⌜ Counted
-        (keptAt rules s q (now (part .entry)))
-        (now (part .entry))
-        (now (part .exit))
-        0
-        (rows * rules)
-        (keptAt rules s q (now (part .entry)))
-        (rows * rules)
-        c ⌝ }
+    ensures { λ c. ⌜ KeptRows rules s q (now (part .entry)) (now (part .exit)) (rows * rules) c ⌝ }
 {
-    let seen = super::scan::scan_words(part);
-    let clean = seen.clean;
-    if clean {
-        let any = seen.any;
-        if records::examined_of(any) <= s - (q + rows - 1) {
-            return seen.held;
-        }
+    let seen = super::scan::scan_words(part, s - (q + rows - 1));
+    let every = seen.every;
+    if every {
+        return seen.held;
     }
     keep_rows(part, rules, q, rows, s)
 }
 
-// The rows of a block.
-const BLOCK: usize = 64;
-
-// All rows of positions before s, block by block.
-pub fn keep_front(part: &mut [u64], rules: usize, s: usize) -> usize
-    requires { ⌜ (1 ≤ rules) × (length (now part) ≡ s * rules) ⌝ }
-    ensures { λ c. ⌜ Counted
-        (keptAt rules s 0 (now (part .entry)))
-        (now (part .entry))
-        (now (part .exit))
-        0
-        (s * rules)
-        (keptAt rules s 0 (now (part .entry)))
-        (s * rules)
-        c ⌝ }
+// Group by group, of rows whose first is that of position q.
+fn keep_groups(part: &mut [u64], rules: usize, q: usize, rows: usize, s: usize) -> usize
+    requires { ⌜ (1 ≤ rules) × (q + rows ≤ s) × (length (now part) ≡ rows * rules) ⌝ }
+    ensures { λ c. ⌜ KeptRows rules s q (now (part .entry)) (now (part .exit)) (rows * rules) c ⌝ }
 {
     let mut c: usize = 0;
-    let mut q: usize = 0;
-    while q < s {
-        let rows = block_rows(s - q);
-        let from = q * rules;
-        let to = from + rows * rules;
-        c += keep_block(&mut part[from..to], rules, q, rows, s);
-        q += rows;
+    let mut i: usize = 0;
+    while i < rows {
+        let next = at_most(rows - i, GROUP);
+        let from = i * rules;
+        let to = from + next * rules;
+        c += keep_group(&mut part[from..to], rules, q + i, next, s);
+        i += next;
     }
     c
 }
 
-// The rows of the next block where so many are left.
-fn block_rows(left: usize) -> usize
-    requires { ⌜ 1 ≤ left ⌝ }
+// A block of rows, as a group. Where not every word stays, the groups in it are looked at one by one.
+fn keep_block(part: &mut [u64], rules: usize, q: usize, rows: usize, s: usize) -> usize
+    requires { ⌜ (1 ≤ rules) × (1 ≤ rows) × (q + rows ≤ s) × (length (now part) ≡ rows * rules) ⌝ }
+    ensures { λ c. ⌜ KeptRows rules s q (now (part .entry)) (now (part .exit)) (rows * rules) c ⌝ }
+{
+    let seen = super::scan::scan_words(part, s - (q + rows - 1));
+    let every = seen.every;
+    if every {
+        return seen.held;
+    }
+    keep_groups(part, rules, q, rows, s)
+}
+
+// All rows of positions before s, block by block.
+pub fn keep_front(part: &mut [u64], rules: usize, s: usize) -> usize
+    requires { ⌜ (1 ≤ rules) × (length (now part) ≡ s * rules) ⌝ }
+    ensures { λ c. ⌜ KeptRows rules s 0 (now (part .entry)) (now (part .exit)) (s * rules) c ⌝ }
+{
+    let mut c: usize = 0;
+    let mut q: usize = 0;
+    while q < s {
+        let next = at_most(s - q, BLOCK);
+        let from = q * rules;
+        let to = from + next * rules;
+        c += keep_block(&mut part[from..to], rules, q, next, s);
+        q += next;
+    }
+    c
+}
+
+// The rows of a block and of a group in it.
+const BLOCK: usize = 64;
+
+const GROUP: usize = 4;
+
+// So many rows as are left, and at most `most`.
+fn at_most(left: usize, most: usize) -> usize
+    requires { ⌜ (1 ≤ left) × (1 ≤ most) ⌝ }
     ensures { λ r. ⌜ (1 ≤ r) × (r ≤ left) ⌝ }
 {
-    if left < BLOCK {
+    if left < most {
         return left;
     }
-    BLOCK
+    most
 }

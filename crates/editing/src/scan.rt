@@ -3,11 +3,11 @@ ghost use Prim.Native.Nat.{_+_, _^_, _-_, _<_};
 ghost use mathlib.Core.Path.{_≡_};
 ghost use Rattle.editing.specs.Words.{Scanned, Lowered};
 
-// Of a stretch of words: the bits that any of them has, how many are held, whether every other word is 0 and none is the held bit alone.
+// Of a stretch of words: how many are held, and whether it was seen that every word stays: that each is 0 or held, and that no held word
+// examined more than the limit. Where it was not seen, the words have to be looked at one by one.
 pub struct Scan {
-    pub any: u64,
     pub held: usize,
-    pub clean: bool,
+    pub every: bool,
 }
 
 // One less, and every bit for 0: the held bit is set for 0 and for a held word with another bit, and for no word that is not held.
@@ -20,8 +20,9 @@ fn lowered(word: u64) -> u64
     word - 1
 }
 
-pub fn scan_words(part: &[u64]) -> Scan
-    ensures { λ r. ⌜ Scanned (now (part .entry)) r ⌝ }
+// The bits that any word has bound the examined fields. The held bit of `all` is set where each word is 0 or held.
+pub fn scan_words(part: &[u64], limit: usize) -> Scan
+    ensures { λ r. ⌜ Scanned (now (part .entry)) limit r ⌝ }
 {
     let mut any: u64 = 0;
     let mut all: u64 = 0xFFFF_FFFF_FFFF_FFFF;
@@ -34,9 +35,9 @@ pub fn scan_words(part: &[u64]) -> Scan
         held = held + super::words::held_bit(word);
         i += 1;
     }
-    Scan {
-        any,
-        held,
-        clean: 0x8000_0000_0000_0000 <= all,
+    if all < 0x8000_0000_0000_0000 {
+        return Scan { held, every: false };
     }
+    let every = records::examined_of(any) <= limit;
+    Scan { held, every }
 }

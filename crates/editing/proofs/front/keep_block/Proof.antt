@@ -1,24 +1,21 @@
--- `front::keep_block` meets its contract: a clean scan within the bound leaves nothing to drop. Assumes nothing.
+-- `front::keep_block` meets its contract: where every word stays, nothing is to be stored. Assumes nothing.
 use Rattle.editing.proofs.Rows.{nothing-dropped}
 use native.Mathlib.Omega.{arith}
 use borrow.Author.Needs.{needs}
 use Rattle.editing.proofs.front.keep_block.Statement.{statement}
 use Rattle.editing.proofs.front.keep_block.Tie as tie
 
+add-scan-words : tie.Need-add-scan-words
+add-scan-words c = search needs
+
+sub-scan-words : tie.Need-sub-scan-words
+sub-scan-words c = search needs
+
+sub-scan-words-2 : tie.Need-sub-scan-words-2
+sub-scan-words-2 c = search needs
+
 scan-words-requires : tie.Need-scan-words-requires
 scan-words-requires c κs = search needs
-
-examined-of-requires : tie.Need-examined-of-requires
-examined-of-requires c κs = search needs
-
-add-if2 : tie.Need-add-if2
-add-if2 c = search needs
-
-sub-if2 : tie.Need-sub-if2
-sub-if2 c = search needs
-
-sub-if2-2 : tie.Need-sub-if2-2
-sub-if2-2 c = search needs
 
 same-length : tie.Need-same-length
 same-length c = search needs
@@ -26,19 +23,18 @@ same-length c = search needs
 returns : tie.Need-returns
 returns c =
     nothing-dropped
-    (c .before .before .before .before .before .before .args .rules)
-    (c .before .before .before .before .before .before .args .s)
-    (c .before .before .before .before .before .before .args .q)
-    (c .before .before .before .before .before .before .args .rows)
+    (c .before .before .before .before .args .rules)
+    (c .before .before .before .before .args .s)
+    (c .before .before .before .before .args .q)
+    (c .before .before .before .before .args .rows)
     (omega arith)
     (omega arith)
-    (c .before .before .before .before .before .before .pre .3)
-    (c .before .before .before .scan-words .ensures)
-    (c .before .before .if1 .taken)
-    (omega (arith, c .before .examined-of .ensures .0, c .if2 .taken))
+    (c .before .before .before .before .pre .3)
+    (c .before .scan-words .ensures)
+    (c .if1 .taken)
 
-keep-rows-requires : tie.Need-keep-rows-requires
-keep-rows-requires c κs = search needs
+keep-groups-requires : tie.Need-keep-groups-requires
+keep-groups-requires c κs = search needs
 
 same-length-2 : tie.Need-same-length-2
 same-length-2 c = search needs
@@ -50,13 +46,12 @@ pub keep-block-spec : {M : Type 1} → statement M
 keep-block-spec =
     tie.close
     (tie.spec
+    add-scan-words
+    sub-scan-words
+    sub-scan-words-2
     scan-words-requires
-    examined-of-requires
-    add-if2
-    sub-if2
-    sub-if2-2
     same-length
     returns
-    keep-rows-requires
+    keep-groups-requires
     same-length-2
     returns-2)

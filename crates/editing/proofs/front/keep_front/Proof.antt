@@ -1,8 +1,8 @@
 -- `front::keep_front` meets its contract: the rows before q are done. Assumes nothing.
 use Rattle.editing.proofs.Slots.{rows-room}
-use Rattle.editing.proofs.Rows.{block-done, counts-fit}
+use Rattle.editing.proofs.Rows.{part-done, counts-fit}
 use Rattle.editing.proofs.Turns.{counted-all}
-use Rattle.editing.specs.Words.{Counted, keptAt}
+use Rattle.editing.specs.Words.{KeptRows}
 use Rattle.buffers.proofs.Parts.{mid-long}
 use Rattle.buffers.proofs.Fill.{empty}
 use lib.ListN.{length}
@@ -14,8 +14,7 @@ use Rattle.editing.proofs.front.keep_front.Statement.{statement}
 use Rattle.editing.proofs.front.keep_front.Tie as tie
 
 abbrev Inv-loop : tie.InvT-loop
-Inv-loop part₀ rules s c₀ q₀ part c q =
-    (q ≤ s) × Counted (keptAt rules s 0 part₀) part₀ part 0 (q * rules) (keptAt rules s 0 part₀) (q * rules) c
+Inv-loop part₀ rules s c₀ q₀ part c q = (q ≤ s) × KeptRows rules s 0 part₀ part (q * rules) c
 
 abbrev μ-loop : tie.MeasureT-loop
 μ-loop part₀ rules s c₀ q₀ part c q = s - q
@@ -23,23 +22,23 @@ abbrev μ-loop : tie.MeasureT-loop
 loop-holds : tie.Need-loop-holds Inv-loop μ-loop
 loop-holds c = (omega arith, counted-all (record { filled = empty refl; counted = refl }) (omega arith))
 
-sub-block-rows : tie.Need-sub-block-rows Inv-loop μ-loop
-sub-block-rows c = search needs
+sub-at-most : tie.Need-sub-at-most Inv-loop μ-loop
+sub-at-most c = search needs
 
-block-rows-requires : tie.Need-block-rows-requires Inv-loop μ-loop
-block-rows-requires c κs = search needs
+at-most-requires : tie.Need-at-most-requires Inv-loop μ-loop
+at-most-requires c κs = search needs
 
 mul-from : tie.Need-mul-from Inv-loop μ-loop
-mul-from c = omega (arith, rows-room (c .before .before .before .before .args .rules) (c .before .before .loop .q) (c .block-rows .result) (c .before .before .before .before .args .s) (omega arith))
+mul-from c = omega (arith, rows-room (c .before .before .before .before .args .rules) (c .before .before .loop .q) (c .at-most .result) (c .before .before .before .before .args .s) (omega arith))
 
 mul-to : tie.Need-mul-to Inv-loop μ-loop
-mul-to c = omega (arith, rows-room (c .before .before .before .before .args .rules) (c .before .before .loop .q) (c .block-rows .result) (c .before .before .before .before .args .s) (omega arith))
+mul-to c = omega (arith, rows-room (c .before .before .before .before .args .rules) (c .before .before .loop .q) (c .at-most .result) (c .before .before .before .before .args .s) (omega arith))
 
 add-to : tie.Need-add-to Inv-loop μ-loop
-add-to c = omega (arith, rows-room (c .before .before .before .before .args .rules) (c .before .before .loop .q) (c .block-rows .result) (c .before .before .before .before .args .s) (omega arith))
+add-to c = omega (arith, rows-room (c .before .before .before .before .args .rules) (c .before .before .loop .q) (c .at-most .result) (c .before .before .before .before .args .s) (omega arith))
 
 mul-keep-block : tie.Need-mul-keep-block Inv-loop μ-loop
-mul-keep-block c = omega (arith, rows-room (c .before .before .before .before .args .rules) (c .before .before .loop .q) (c .block-rows .result) (c .before .before .before .before .args .s) (omega arith))
+mul-keep-block c = omega (arith, rows-room (c .before .before .before .before .args .rules) (c .before .before .loop .q) (c .at-most .result) (c .before .before .before .before .args .s) (omega arith))
 
 sub-keep-block : tie.Need-sub-keep-block Inv-loop μ-loop
 sub-keep-block c = search needs
@@ -49,23 +48,23 @@ part-keep-block-start c = search needs
 
 part-keep-block-end : tie.Need-part-keep-block-end Inv-loop μ-loop
 part-keep-block-end c =
-    omega (arith, c .before .before .loop .inv .1 .filled .long, rows-room (c .before .before .before .before .args .rules) (c .before .before .loop .q) (c .block-rows .result) (c .before .before .before .before .args .s) (omega arith))
+    omega (arith, c .before .before .loop .inv .1 .filled .long, rows-room (c .before .before .before .before .args .rules) (c .before .before .loop .q) (c .at-most .result) (c .before .before .before .before .args .s) (omega arith))
 
 keep-block-requires : tie.Need-keep-block-requires Inv-loop μ-loop
 keep-block-requires c κs =
-    let room = rows-room (c .before .before .before .before .before .args .rules) (c .before .before .before .loop .q) (c .before .block-rows .result) (c .before .before .before .before .before .args .s) (omega arith) in
+    let room = rows-room (c .before .before .before .before .before .args .rules) (c .before .before .before .loop .q) (c .before .at-most .result) (c .before .before .before .before .before .args .s) (omega arith) in
     let long = c .before .before .before .loop .inv .1 .filled .long in
     let w =
     mid-long
     (c .before .before .before .loop .q * c .before .before .before .before .before .args .rules)
-    (c .before .before .before .loop .q * c .before .before .before .before .before .args .rules + c .before .block-rows .result * c .before .before .before .before .before .args .rules - c .before .before .before .loop .q * c .before .before .before .before .before .args .rules)
+    (c .before .before .before .loop .q * c .before .before .before .before .before .args .rules + c .before .at-most .result * c .before .before .before .before .before .args .rules - c .before .before .before .loop .q * c .before .before .before .before .before .args .rules)
     (c .before .before .before .loop .part)
     (omega arith) in
     (omega arith, omega arith, omega arith, omega arith)
 
 add-c : tie.Need-add-c Inv-loop μ-loop
 add-c c =
-    let room = rows-room (c .before .before .before .before .before .before .before .before .args .rules) (c .before .before .before .before .before .before .loop .q) (c .before .before .before .before .block-rows .result) (c .before .before .before .before .before .before .before .before .args .s) (omega arith) in
+    let room = rows-room (c .before .before .before .before .before .before .before .before .args .rules) (c .before .before .before .before .before .before .loop .q) (c .before .before .before .before .at-most .result) (c .before .before .before .before .before .before .before .before .args .s) (omega arith) in
     let few = counts-fit (c .before .before .before .before .before .before .loop .inv .1) (c .before .before .keep-block .ensures) in
     omega arith
 
@@ -77,14 +76,17 @@ loop-less c = omega arith
 
 loop-again : tie.Need-loop-again Inv-loop μ-loop
 loop-again c =
-    let room = rows-room (c .before .before .before .before .before .before .before .before .args .rules) (c .before .before .before .before .before .before .loop .q) (c .before .before .before .before .block-rows .result) (c .before .before .before .before .before .before .before .before .args .s) (omega arith) in (
+    let room = rows-room (c .before .before .before .before .before .before .before .before .args .rules) (c .before .before .before .before .before .before .loop .q) (c .before .before .before .before .at-most .result) (c .before .before .before .before .before .before .before .before .args .s) (omega arith) in (
       omega arith,
-      block-done
+      part-done
           (c .before .before .before .before .before .before .before .before .args .rules)
           (c .before .before .before .before .before .before .before .before .args .s)
+          0
           (c .before .before .before .before .before .before .loop .q)
-          (c .before .before .before .before .block-rows .result)
-          (c .before .before .before .before .before .before .loop .q * c .before .before .before .before .before .before .before .before .args .rules + c .before .before .before .before .block-rows .result * c .before .before .before .before .before .before .before .before .args .rules - c .before .before .before .before .before .before .loop .q * c .before .before .before .before .before .before .before .before .args .rules)
+          (c .before .before .before .before .before .before .loop .q)
+          (c .before .before .before .before .at-most .result)
+          (c .before .before .before .before .before .before .loop .q * c .before .before .before .before .before .before .before .before .args .rules + c .before .before .before .before .at-most .result * c .before .before .before .before .before .before .before .before .args .rules - c .before .before .before .before .before .before .loop .q * c .before .before .before .before .before .before .before .before .args .rules)
+          (omega arith)
           (omega arith)
           (omega arith)
           (omega arith)
@@ -107,8 +109,8 @@ keep-front-spec =
     Inv-loop
     μ-loop
     loop-holds
-    sub-block-rows
-    block-rows-requires
+    sub-at-most
+    at-most-requires
     mul-from
     mul-to
     add-to

@@ -1,21 +1,19 @@
-use mathlib.Core.Path.{_≡_, subst}
 -- `scan::scan_words` meets its contract, by the law of one turn. Assumes nothing.
-use Rattle.editing.proofs.ScanLaw.{Seen, nothing-seen, seen-more}
+use Rattle.editing.proofs.ScanLaw.{Seen, nothing-seen, seen-more, told-nothing, told}
 use Rattle.editing.proofs.Held.{held-most}
 use Rattle.buffers.specs.Filled.{at}
-use borrow.Author.Tests.{leb-true}
 use lib.ListN.{length}
 use native.Mathlib.Omega.{arith}
-use Prim.Native.Nat.{ℕ, _≤_, _<_, _-_, _^_}
+use Prim.Native.Nat.{ℕ, _≤_, _-_}
 use borrow.Author.Needs.{needs}
 use Rattle.editing.proofs.scan.scan_words.Statement.{statement}
 use Rattle.editing.proofs.scan.scan_words.Tie as tie
 
 abbrev Inv-loop : tie.InvT-loop
-Inv-loop part any₀ all₀ held₀ i₀ any all held i = (i ≤ length part) × Seen part any all held i
+Inv-loop part limit any₀ all₀ held₀ i₀ any all held i = (i ≤ length part) × Seen part any all held i
 
 abbrev μ-loop : tie.MeasureT-loop
-μ-loop part any₀ all₀ held₀ i₀ any all held i = length part - i
+μ-loop part limit any₀ all₀ held₀ i₀ any all held i = length part - i
 
 loop-holds : tie.Need-loop-holds Inv-loop μ-loop
 loop-holds c = (omega arith, nothing-seen)
@@ -46,10 +44,13 @@ loop-again : tie.Need-loop-again Inv-loop μ-loop
 loop-again c = (omega arith, seen-more (c .before .before .before .before .loop .inv .1) (c .before .lowered .ensures) (c .held-bit .ensures .0))
 
 returns : tie.Need-returns Inv-loop μ-loop
-returns c =
-    let end : c .before .loop .i ≡ length (c .before .before .before .args .part .now) = omega arith in
-    let S = subst (λ (i : ℕ). Seen (c .before .before .before .args .part .now) (c .before .loop .any) (c .before .loop .all) (c .before .loop .held) i) end (c .before .loop .inv .1) in
-    record { bound = S .bound; counted = S .counted; empty = λ clean. S .empty (leb-true (2 ^ 63) _ clean) }
+returns c = told-nothing (c .before .before .before .before .args .limit) (c .before .before .loop .inv .1) (omega arith)
+
+examined-of-requires : tie.Need-examined-of-requires Inv-loop μ-loop
+examined-of-requires c κs = search needs
+
+returns-2 : tie.Need-returns-2 Inv-loop μ-loop
+returns-2 c = told (c .before .before .before .before .before .args .limit) (c .before .before .before .loop .inv .1) (omega arith) _ (omega arith) (c .examined-of .ensures .0)
 
 pub scan-words-spec : {M : Type 1} → statement M
 scan-words-spec =
@@ -66,4 +67,6 @@ scan-words-spec =
     add-i
     loop-less
     loop-again
-    returns)
+    returns
+    examined-of-requires
+    returns-2)
