@@ -1,11 +1,11 @@
 -- `bytes::clear` meets its contract: up to i the bytes are 0. Assumes nothing.
+use Prim.Native.Nat.{ℕ, _≤_, _-_}
+use native.Mathlib.Omega.{arith}
+use mathlib.Core.Path.{refl}
+use lib.ListN.{length}
+use borrow.Author.Needs.{needs}
 use Rattle.buffers.proofs.Fill.{none, up, all-same}
 use Rattle.buffers.specs.Filled.{Filled}
-use lib.ListN.{length}
-use mathlib.Core.Path.{refl}
-use native.Mathlib.Omega.{arith}
-use Prim.Native.Nat.{ℕ, _≤_, _-_}
-use borrow.Author.Needs.{needs}
 use Rattle.buffers.proofs.bytes.clear.Statement.{statement}
 use Rattle.buffers.proofs.bytes.clear.Tie as tie
 

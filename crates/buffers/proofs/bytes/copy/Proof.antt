@@ -1,11 +1,11 @@
 -- `bytes::copy` meets its contract: up to i the bytes are the text's. Assumes nothing.
+use Prim.Native.Nat.{_≤_, _-_}
+use native.Mathlib.Omega.{arith}
+use mathlib.Core.Path.{refl}
+use lib.ListN.{length}
+use borrow.Author.Needs.{needs}
 use Rattle.buffers.proofs.Fill.{none, up, fit}
 use Rattle.buffers.specs.Filled.{Filled, at}
-use lib.ListN.{length}
-use mathlib.Core.Path.{refl}
-use native.Mathlib.Omega.{arith}
-use Prim.Native.Nat.{_≤_, _-_}
-use borrow.Author.Needs.{needs}
 use Rattle.buffers.proofs.bytes.copy.Statement.{statement}
 use Rattle.buffers.proofs.bytes.copy.Tie as tie
 

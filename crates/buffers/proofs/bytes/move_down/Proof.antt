@@ -1,11 +1,10 @@
 -- `bytes::move_down` meets its contract: up to i the bytes are moved; what is read lies at or past what was stored. Assumes nothing.
+use Prim.Native.Nat.{ℕ, _≤_, _-_, _+_}
+use native.Mathlib.Omega.{arith}
+use mathlib.Core.Path.{_≡_, refl, ap, _∙_}
+use borrow.Author.Needs.{needs}
 use Rattle.buffers.proofs.Fill.{empty, up, fit}
 use Rattle.buffers.specs.Filled.{Filled, at}
-use lib.ListN.{length}
-use mathlib.Core.Path.{_≡_, refl, ap, _∙_}
-use native.Mathlib.Omega.{arith}
-use Prim.Native.Nat.{ℕ, _≤_, _-_, _+_}
-use borrow.Author.Needs.{needs}
 use Rattle.buffers.proofs.bytes.move_down.Statement.{statement}
 use Rattle.buffers.proofs.bytes.move_down.Tie as tie
 

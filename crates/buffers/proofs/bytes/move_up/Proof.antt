@@ -1,11 +1,10 @@
 -- `bytes::move_up` meets its contract: from i on the bytes are moved; what is read lies before what was stored. Assumes nothing.
+use Prim.Native.Nat.{ℕ, _≤_, _-_, _+_}
+use native.Mathlib.Omega.{arith}
+use mathlib.Core.Path.{_≡_, refl, ap, _∙_}
+use borrow.Author.Needs.{needs}
 use Rattle.buffers.proofs.Fill.{none, down, fit}
 use Rattle.buffers.specs.Filled.{Filled, at}
-use lib.ListN.{length}
-use mathlib.Core.Path.{_≡_, refl, ap, _∙_}
-use native.Mathlib.Omega.{arith}
-use Prim.Native.Nat.{ℕ, _≤_, _-_, _+_}
-use borrow.Author.Needs.{needs}
 use Rattle.buffers.proofs.bytes.move_up.Statement.{statement}
 use Rattle.buffers.proofs.bytes.move_up.Tie as tie
 

@@ -1,8 +1,8 @@
 -- `back::carry` meets its contract: up, down or in place. Assumes nothing.
-use Rattle.editing.specs.Words.{Carried}
-use mathlib.Core.Path.{sym, subst}
 use Prim.Native.Nat.{ℕ}
+use mathlib.Core.Path.{sym, subst}
 use borrow.Author.Needs.{needs}
+use Rattle.editing.specs.Words.{Carried}
 use Rattle.editing.proofs.back.carry.Statement.{statement}
 use Rattle.editing.proofs.back.carry.Tie as tie
 

@@ -1,12 +1,11 @@
-use mathlib.Core.Path.{_≡_, sym, subst}
 -- `back::carry_up` meets its contract: all but the first i words are carried, and c of those are held. Assumes nothing.
+use Prim.Native.Nat.{ℕ, _≤_, _-_, _+_}
+use native.Mathlib.Omega.{arith}
+use mathlib.Core.Path.{_≡_, sym, subst}
+use borrow.Author.Needs.{needs}
+use Rattle.buffers.specs.Filled.{at}
 use Rattle.editing.proofs.Turns.{Left, none-left, carried-up, all-carried}
 use Rattle.editing.proofs.Held.{held-most}
-use Rattle.buffers.specs.Filled.{at}
-use lib.ListN.{length}
-use native.Mathlib.Omega.{arith}
-use Prim.Native.Nat.{ℕ, _≤_, _-_, _+_}
-use borrow.Author.Needs.{needs}
 use Rattle.editing.proofs.back.carry_up.Statement.{statement}
 use Rattle.editing.proofs.back.carry_up.Tie as tie
 

@@ -1,7 +1,7 @@
 -- `back::edit_back` meets its contract, by the law of the back. Assumes nothing.
-use Rattle.editing.proofs.BackLaw.{back-done, count-fits}
 use native.Mathlib.Omega.{arith}
 use borrow.Author.Needs.{needs}
+use Rattle.editing.proofs.BackLaw.{back-done, count-fits}
 use Rattle.editing.proofs.back.edit_back.Statement.{statement}
 use Rattle.editing.proofs.back.edit_back.Tie as tie
 

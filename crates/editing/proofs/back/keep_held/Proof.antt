@@ -1,14 +1,13 @@
 -- `back::keep_held` meets its contract: the first i words are kept or zeroed, and c of them are held. Assumes nothing.
-use Rattle.editing.proofs.Turns.{carried-down, carried-all}
-use Rattle.editing.proofs.Held.{held-most}
-use Rattle.editing.specs.Words.{Carried}
+use Prim.Native.Nat.{_≤_, _-_, _+_}
+use native.Mathlib.Omega.{arith}
+use mathlib.Core.Path.{refl}
+use borrow.Author.Needs.{needs}
 use Rattle.buffers.proofs.Fill.{empty}
 use Rattle.buffers.specs.Filled.{at}
-use lib.ListN.{length}
-use mathlib.Core.Path.{refl}
-use native.Mathlib.Omega.{arith}
-use Prim.Native.Nat.{ℕ, _≤_, _-_, _+_}
-use borrow.Author.Needs.{needs}
+use Rattle.editing.specs.Words.{Carried}
+use Rattle.editing.proofs.Turns.{carried-down, carried-all}
+use Rattle.editing.proofs.Held.{held-most}
 use Rattle.editing.proofs.back.keep_held.Statement.{statement}
 use Rattle.editing.proofs.back.keep_held.Tie as tie
 

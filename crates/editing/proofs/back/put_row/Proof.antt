@@ -1,14 +1,13 @@
-use mathlib.Core.Path.{refl, ap, _∙_}
 -- `back::put_row` meets its contract: the first words are those of the row where it is held. Assumes nothing.
-use Rattle.editing.proofs.Turns.{put-over, put-all}
-use Rattle.editing.proofs.Held.{held-most, bit-over}
-use Rattle.editing.specs.Words.{Put, heldBit}
+use Prim.Native.Nat.{_≤_, _-_}
+use native.Mathlib.Omega.{arith}
+use mathlib.Core.Path.{refl, ap, _∙_}
+use borrow.Author.Needs.{needs}
 use Rattle.buffers.proofs.Fill.{none}
 use Rattle.buffers.specs.Filled.{at}
-use lib.ListN.{length}
-use native.Mathlib.Omega.{arith}
-use Prim.Native.Nat.{ℕ, _≤_, _-_, _+_}
-use borrow.Author.Needs.{needs}
+use Rattle.editing.specs.Words.{Put, heldBit}
+use Rattle.editing.proofs.Turns.{put-over, put-all}
+use Rattle.editing.proofs.Held.{held-most, bit-over}
 use Rattle.editing.proofs.back.put_row.Statement.{statement}
 use Rattle.editing.proofs.back.put_row.Tie as tie
 

@@ -1,12 +1,12 @@
 -- `back::staying_row` meets its contract: the first words of the row are those that stay. Assumes nothing.
-use Rattle.editing.specs.Words.{keptWord}
+use Prim.Native.Nat.{_≤_, _-_}
+use native.Mathlib.Omega.{arith}
+use mathlib.Core.Path.{_≡_, refl}
+use lib.ListN.{length}
+use borrow.Author.Needs.{needs}
 use Rattle.buffers.proofs.Fill.{none, up}
 use Rattle.buffers.specs.Filled.{Filled, at}
-use lib.ListN.{length, length-replicate, replicate}
-use mathlib.Core.Path.{_≡_, refl, _∙_}
-use native.Mathlib.Omega.{arith}
-use Prim.Native.Nat.{ℕ, _≤_, _<_, _-_, _+_}
-use borrow.Author.Needs.{needs}
+use Rattle.editing.specs.Words.{keptWord}
 use Rattle.editing.proofs.back.staying_row.Statement.{statement}
 use Rattle.editing.proofs.back.staying_row.Tie as tie
 

@@ -1,7 +1,7 @@
 -- `front::keep_group` meets its contract: where every word stays, nothing is to be stored. Assumes nothing.
-use Rattle.editing.proofs.Rows.{nothing-dropped}
 use native.Mathlib.Omega.{arith}
 use borrow.Author.Needs.{needs}
+use Rattle.editing.proofs.Rows.{nothing-dropped}
 use Rattle.editing.proofs.front.keep_group.Statement.{statement}
 use Rattle.editing.proofs.front.keep_group.Tie as tie
 

@@ -1,14 +1,14 @@
 -- `front::keep_row` meets its contract: the first i words are kept or zeroed, and c of them are held. Assumes nothing.
-use Rattle.editing.proofs.Turns.{in-place, counted-all}
-use Rattle.editing.proofs.Held.{held-most}
-use Rattle.editing.specs.Words.{Counted, keptWord}
+use Prim.Native.Nat.{_≤_, _-_}
+use native.Mathlib.Omega.{arith}
+use mathlib.Core.Path.{refl, ap, _∙_}
+use lib.ListN.{length}
+use borrow.Author.Needs.{needs}
 use Rattle.buffers.proofs.Fill.{none}
 use Rattle.buffers.specs.Filled.{at}
-use lib.ListN.{length}
-use mathlib.Core.Path.{refl, ap, _∙_}
-use native.Mathlib.Omega.{arith}
-use Prim.Native.Nat.{ℕ, _≤_, _-_, _+_}
-use borrow.Author.Needs.{needs}
+use Rattle.editing.specs.Words.{Counted, keptWord}
+use Rattle.editing.proofs.Turns.{in-place, counted-all}
+use Rattle.editing.proofs.Held.{held-most}
 use Rattle.editing.proofs.front.keep_row.Statement.{statement}
 use Rattle.editing.proofs.front.keep_row.Tie as tie
 

@@ -1,15 +1,14 @@
 -- `front::keep_rows` meets its contract: the first i rows are done. Assumes nothing.
+use Prim.Native.Nat.{ℕ, _≤_, _-_, _+_, _*_}
+use native.Mathlib.Omega.{arith}
+use mathlib.Core.Path.{_≡_, refl, ap}
+use borrow.Author.Needs.{needs}
+use Rattle.buffers.proofs.Parts.{mid-long}
+use Rattle.buffers.proofs.Fill.{empty}
+use Rattle.editing.specs.Words.{Counted, keptAt}
 use Rattle.editing.proofs.Slots.{row-room}
 use Rattle.editing.proofs.Rows.{row-done, counts-fit}
 use Rattle.editing.proofs.Turns.{counted-all}
-use Rattle.editing.specs.Words.{Counted, keptAt}
-use Rattle.buffers.proofs.Parts.{mid-long}
-use Rattle.buffers.proofs.Fill.{empty}
-use lib.ListN.{length}
-use mathlib.Core.Path.{_≡_, refl, ap}
-use native.Mathlib.Omega.{arith}
-use Prim.Native.Nat.{ℕ, _≤_, _-_, _+_, _*_}
-use borrow.Author.Needs.{needs}
 use Rattle.editing.proofs.front.keep_rows.Statement.{statement}
 use Rattle.editing.proofs.front.keep_rows.Tie as tie
 

@@ -1,11 +1,11 @@
 -- `scan::scan_words` meets its contract, by the law of one turn. Assumes nothing.
+use Prim.Native.Nat.{_≤_, _-_}
+use native.Mathlib.Omega.{arith}
+use lib.ListN.{length}
+use borrow.Author.Needs.{needs}
+use Rattle.buffers.specs.Filled.{at}
 use Rattle.editing.proofs.ScanLaw.{Seen, nothing-seen, seen-more, told-nothing, told}
 use Rattle.editing.proofs.Held.{held-most}
-use Rattle.buffers.specs.Filled.{at}
-use lib.ListN.{length}
-use native.Mathlib.Omega.{arith}
-use Prim.Native.Nat.{ℕ, _≤_, _-_}
-use borrow.Author.Needs.{needs}
 use Rattle.editing.proofs.scan.scan_words.Statement.{statement}
 use Rattle.editing.proofs.scan.scan_words.Tie as tie
 

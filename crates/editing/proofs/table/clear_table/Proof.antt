@@ -1,8 +1,8 @@
 -- `table::clear_table` meets its contract. Assumes nothing.
-use Rattle.editing.proofs.OpenLaw.{cleared-is}
 use Prim.Native.Nat.{_+_, _-_, _*_}
 use native.Mathlib.Omega.{arith}
 use borrow.Author.Needs.{needs}
+use Rattle.editing.proofs.OpenLaw.{cleared-is}
 use Rattle.editing.proofs.table.clear_table.Statement.{statement}
 use Rattle.editing.proofs.table.clear_table.Tie as tie
 

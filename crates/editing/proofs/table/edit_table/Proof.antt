@@ -1,8 +1,8 @@
 -- `table::edit_table` meets its contract, by the law of the edited table. Assumes nothing.
-use Rattle.editing.proofs.TableLaw.{slots-fit, back-room, table-is, standing-is, few-standing}
+use Prim.Native.Nat.{_-_}
 use native.Mathlib.Omega.{arith}
-use Prim.Native.Nat.{ℕ, _+_, _-_, _*_}
 use borrow.Author.Needs.{needs}
+use Rattle.editing.proofs.TableLaw.{slots-fit, back-room, table-is, standing-is, few-standing}
 use Rattle.editing.proofs.table.edit_table.Statement.{statement}
 use Rattle.editing.proofs.table.edit_table.Tie as tie
 

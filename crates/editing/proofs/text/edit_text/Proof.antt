@@ -1,7 +1,7 @@
 -- `text::edit_text` meets its contract, by the law of the edited text. Assumes nothing.
-use Rattle.editing.proofs.TextLaw.{edit-is, new-is}
 use mathlib.Core.Path.{sym}
 use borrow.Author.Needs.{needs}
+use Rattle.editing.proofs.TextLaw.{edit-is, new-is}
 use Rattle.editing.proofs.text.edit_text.Statement.{statement}
 use Rattle.editing.proofs.text.edit_text.Tie as tie
 

@@ -1,6 +1,6 @@
 -- `text::fill` meets its contract, by the law of the opened text. Assumes nothing.
-use Rattle.editing.proofs.TextLaw.{fill-is}
 use borrow.Author.Needs.{needs}
+use Rattle.editing.proofs.TextLaw.{fill-is}
 use Rattle.editing.proofs.text.fill.Statement.{statement}
 use Rattle.editing.proofs.text.fill.Tie as tie
 

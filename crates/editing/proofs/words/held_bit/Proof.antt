@@ -1,8 +1,7 @@
-use Rattle.editing.proofs.Held.{bit-is}
 -- `words::held_bit` meets its contract. Assumes nothing.
 use native.Mathlib.Omega.{arith}
 use Rattle.editing.proofs.Held.{bit-is}
-use borrow.Author.Needs.{needs}
+use Rattle.editing.proofs.Held.{bit-is}
 use Rattle.editing.proofs.words.held_bit.Statement.{statement}
 use Rattle.editing.proofs.words.held_bit.Tie as tie
 

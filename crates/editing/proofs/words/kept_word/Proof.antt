@@ -1,11 +1,8 @@
 -- `words::kept_word` meets its contract. Assumes nothing.
-use Rattle.editing.proofs.Kept.{kept, kept-not, kept-empty}
-use Rattle.editing.specs.Words.{keptWord}
-use Rattle.records.specs.Words.{examinedOf}
-use borrow.Author.Tests.{le-leb, lt-leb}
 use native.Mathlib.Omega.{arith}
 use mathlib.Core.Path.{sym, _∙_}
 use borrow.Author.Needs.{needs}
+use Rattle.editing.proofs.Kept.{kept, kept-not, kept-empty}
 use Rattle.editing.proofs.words.kept_word.Statement.{statement}
 use Rattle.editing.proofs.words.kept_word.Tie as tie
 

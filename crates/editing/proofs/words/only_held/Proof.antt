@@ -1,7 +1,7 @@
 -- `words::only_held` meets its contract. Assumes nothing.
-use Rattle.editing.proofs.Held.{pick-by}
 use mathlib.Core.Path.{sym, _∙_}
 use borrow.Author.Needs.{needs}
+use Rattle.editing.proofs.Held.{pick-by}
 use Rattle.editing.proofs.words.only_held.Statement.{statement}
 use Rattle.editing.proofs.words.only_held.Tie as tie
 
