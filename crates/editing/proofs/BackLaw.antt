@@ -1,13 +1,11 @@
 -- Theorem `back-is`: a row taken out, words carried, zeros before and behind them, and the row put over the rest are the back of an edit.
 -- Assumes nothing.
-use Prim.Native.Nat.{ℕ, zero, suc, _+_, _-_, _*_, _≤_, _<_}
+use Prim.Native.Nat.{ℕ, zero, suc, _+_, _-_, _≤_, _<_}
 use native.Mathlib.Omega.{arith}
 use mathlib.Core.Path.{_≡_, refl, sym, ap, _∙_}
-use mathlib.Core.Bool.{Bool, true, false, _&&_}
 use mathlib.Core.Logic.{⊎-elim}
 use mathlib.Core.List.{List}
 use lib.ListN.{length, replicate}
-use lib.Dec.{leb, ltb}
 use borrow.Author.Tests.{le-leb, lt-leb, lt-ltb, le-ltb}
 use Rattle.buffers.specs.Filled.{Filled, at}
 use borrow.Rule.Slice.PartMut.{midOf, putMid}
@@ -15,7 +13,7 @@ use Rattle.buffers.proofs.Fill.{cut, fit}
 use Rattle.buffers.proofs.Parts.{part-zeros}
 use Rattle.records.specs.Words.{isHeld}
 use Rattle.editing.specs.Table.{pick}
-use Rattle.editing.specs.Words.{heldBit, onlyHeld, keptWord, heldTo, Carried, RowOf, Put, BackFits, cameWord, Back}
+use Rattle.editing.specs.Words.{onlyHeld, keptWord, heldTo, Carried, RowOf, Put, BackFits, cameWord, Back}
 use Rattle.editing.proofs.Held.{held-add, held-same, held-none, held-most, bit-only}
 
 held-only : (f : ℕ → ℕ) (n : ℕ) → heldTo (λ j. onlyHeld (f j)) n ≡ heldTo f n

@@ -1,18 +1,17 @@
 -- Held words and their count: one word's bit, and the count of words one after the other. Assumes nothing.
-use Prim.Native.Nat.{ℕ, zero, suc, _+_, _-_, _*_, _/_, _^_, _≤_, _<_}
+use Prim.Native.Nat.{ℕ, zero, suc, _+_, _-_, _/_, _^_, _≤_, _<_}
 use native.Mathlib.Omega.{arith}
 use native.Mathlib.Nat.{add-zero, add-suc}
 use native.Mathlib.Numerals.{add-one}
-use mathlib.Core.Path.{_≡_, refl, sym, ap, ap₂, _∙_}
-use mathlib.Core.Bool.{Bool, true, false, _&&_, _||_}
+use mathlib.Core.Path.{_≡_, refl, sym, ap, _∙_}
+use mathlib.Core.Bool.{Bool, true, false}
 use mathlib.Core.List.{List, [], _∷_}
-use lib.ListN.{length, getD}
-use lib.Dec.{leb}
-use borrow.Author.Tests.{leb-true, leb-false, le-leb, lt-leb}
+use lib.ListN.{length}
+use borrow.Author.Tests.{leb-true, leb-false}
 use Rattle.buffers.specs.Filled.{at}
-use Rattle.records.specs.Words.{isHeld, examinedOf}
-use Rattle.editing.specs.Table.{pick, heldIn, tabulate}
-use Rattle.editing.specs.Words.{heldBit, onlyHeld, keptWord, heldTo}
+use Rattle.records.specs.Words.{isHeld}
+use Rattle.editing.specs.Table.{pick, heldIn}
+use Rattle.editing.specs.Words.{heldBit, onlyHeld, heldTo}
 
 -- A choice whose test is known.
 pub pick-by : {t b : Bool} (x y : ℕ) → t ≡ b → pick t x y ≡ pick b x y

@@ -1,10 +1,8 @@
 -- Which words an edit keeps at their place before s, word by word and row by row. Assumes nothing.
-use Prim.Native.Nat.{ℕ, _+_, _-_, _*_, _/_, _^_, _≤_, _<_}
-use native.Mathlib.Omega.{arith}
-use mathlib.Core.Path.{_≡_, refl, sym, ap, _∙_}
+use Prim.Native.Nat.{ℕ, _-_, _≤_, _<_}
+use mathlib.Core.Path.{_≡_, refl}
 use mathlib.Core.Bool.{Bool, true, false, _&&_}
-use lib.Dec.{leb}
-use borrow.Author.Tests.{le-leb, lt-leb, leb-true, leb-false}
+use borrow.Author.Tests.{le-leb, lt-leb}
 use Rattle.records.specs.Words.{isHeld, examinedOf}
 use Rattle.editing.specs.Table.{pick}
 use Rattle.editing.specs.Words.{keptWord}

@@ -7,8 +7,8 @@ use native.Mathlib.Omega.{arith}
 use native.Mathlib.Nat.{mul-comm}
 use mathlib.Core.Path.{_≡_, refl, sym, ap, ap₂, _∙_}
 use mathlib.Core.Bool.{Bool, true, false, _&&_, _||_, true≢false}
-use mathlib.Core.List.{List, _++_}
-use lib.ListN.{length, drop}
+use mathlib.Core.List.{List}
+use lib.ListN.{drop}
 use lib.Dec.{leb}
 use borrow.Author.Tests.{leb-true}
 use Rattle.buffers.specs.Filled.{at}

@@ -1,6 +1,6 @@
 -- What the lent buffers hold from call to call: a text and then zeros stay so over an edit, the words after the table stay, and the table keeps
 -- its size. Assumes nothing.
-use Prim.Native.Nat.{ℕ, _+_, _-_, _*_, _/_, _%_, _≤_, _<_}
+use Prim.Native.Nat.{ℕ, _+_, _-_, _/_, _%_, _≤_, _<_}
 use native.Mathlib.Omega.{arith}
 use mathlib.Core.Path.{_≡_, refl, sym, ap, ap₂, _∙_}
 use mathlib.Core.Bool.{Bool, true, false, _&&_, _||_}
@@ -11,7 +11,7 @@ use lib.Dec.{leb}
 use borrow.Author.Tests.{leb-true}
 use Rattle.buffers.proofs.Parts.{joined-first}
 use Rattle.editing.specs.Text.{EditFits, newLength, textAfter, opened, edited}
-use Rattle.editing.specs.Table.{slotOf, wordOf, tableSize, TableLent, wordAfter, tabulate, wordsAfter, tableAfter, clearedTable}
+use Rattle.editing.specs.Table.{slotOf, wordOf, tableSize, TableLent, wordAfter, wordsAfter, tableAfter, clearedTable}
 use Rattle.editing.specs.Pairs.{standsAfter}
 use Rattle.editing.proofs.Slots.{row-room}
 use Rattle.editing.proofs.TableLaw.{tabulate-long}

@@ -3,15 +3,15 @@
 use Prim.Native.Nat.{ℕ, _+_, _-_, _*_, _/_, _≤_, _<_}
 use native.Mathlib.Omega.{arith}
 use native.Mathlib.Nat.{mul-add-div-right, div-eq-of-lt, div-lt-iff-lt-mul}
-use mathlib.Core.Path.{_≡_, refl, sym, ap, ap₂, _∙_, subst}
+use mathlib.Core.Path.{_≡_, refl, sym, ap, ap₂, _∙_}
 use mathlib.Core.Bool.{Bool, true, false}
 use mathlib.Core.List.{List}
 use lib.ListN.{length}
 use borrow.Rule.Slice.PartMut.{midOf, putMid}
-use Rattle.buffers.specs.Filled.{Filled, at}
+use Rattle.buffers.specs.Filled.{at}
 use Rattle.buffers.proofs.Fill.{none, kept, more, fit}
 use Rattle.buffers.proofs.Parts.{mid-at, mid-long, part-filled}
-use Rattle.records.specs.Words.{isHeld, examinedOf}
+use Rattle.records.specs.Words.{isHeld}
 use Rattle.editing.specs.declared.scan.Scan.{Scan}
 use Rattle.editing.specs.Words.{keptWord, keptAt, heldTo, Counted, KeptRows, Scanned}
 use Rattle.editing.proofs.Held.{held-add, held-same, held-most}

@@ -1,18 +1,16 @@
 -- One turn of the scan: the field of a word is at most the field of a word that has its bits, and a clean scan has seen no word that is
 -- neither held nor 0. Assumes nothing.
-use Prim.Native.Nat.{ℕ, _+_, _-_, _*_, _/_, _%_, _^_, _≤_, _<_}
+use Prim.Native.Nat.{ℕ, _+_, _-_, _/_, _%_, _^_, _≤_, _<_}
 use native.Mathlib.Omega.{arith}
 use mathlib.Core.Path.{_≡_, refl, sym, ap, _∙_}
 use mathlib.Core.Bool.{true, false, true≢false}
-use mathlib.Core.Logic.{⊎-elim}
 use mathlib.Core.List.{List}
 use lib.ListN.{length}
-use lib.Bits.{bitOr, bitAnd, or-add-and, and-le-l, and-le-r, or-comm, or-shr, or-mod}
+use lib.Bits.{bitOr, bitAnd, or-add-and, and-le-l, and-le-r, or-shr, or-mod}
 use borrow.Author.Count.{below-more}
 use lib.Dec.{leb}
 use borrow.Author.Tests.{leb-true, leb-false}
 use Rattle.buffers.specs.Filled.{at}
-use Rattle.grammar.specs.Image.{field}
 use Rattle.records.specs.Words.{isHeld, examinedOf}
 use Rattle.editing.specs.Words.{heldBit, heldTo, Lowered, Scanned}
 use Rattle.editing.proofs.Held.{held-more}

@@ -1,8 +1,8 @@
 -- Slots and rows: the arithmetic of position × rules + rule. Assumes nothing.
 use Prim.Native.Nat.{ℕ, _+_, _-_, _*_, _/_, _%_, _≤_, _<_}
 use native.Mathlib.Omega.{arith}
-use native.Mathlib.Nat.{mul-le-mul-right, mul-add-div-right, div-eq-of-lt, div-lt-iff-lt-mul, div-add-mod', mod-lt, add-zero}
-use mathlib.Core.Path.{_≡_, refl, sym, ap, _∙_}
+use native.Mathlib.Nat.{mul-le-mul-right, div-lt-iff-lt-mul, div-add-mod', mod-lt}
+use mathlib.Core.Path.{_≡_}
 use mathlib.Core.Logic.{⊎-elim}
 use lib.Arith.{digits-mod, digits-div}
 use Rattle.buffers.proofs.Fill.{cut}

@@ -6,22 +6,22 @@ use native.Mathlib.Nat.{mul-le-mul-right, mod-lt}
 use mathlib.Core.Path.{_≡_, refl, sym, ap, ap₂, _∙_, subst}
 use mathlib.Core.Bool.{Bool, true, false, _&&_}
 use mathlib.Core.Logic.{⊎-elim}
-use mathlib.Core.List.{List, [], _∷_, _++_}
-use lib.ListN.{length, getD, drop, length-append, length-drop}
+use mathlib.Core.List.{List, _++_}
+use lib.ListN.{length, drop, length-append, length-drop}
 use lib.Seq.{getD-drop, ext-getD}
 use lib.Dec.{leb, ltb}
-use borrow.Author.Tests.{le-leb, lt-leb, lt-ltb, le-ltb, leb-true, leb-false, ltb-true, ltb-false}
+use borrow.Author.Tests.{le-leb, lt-leb, lt-ltb, le-ltb, leb-true}
 use borrow.Rule.Slice.PartMut.{midOf, putMid}
-use Rattle.buffers.specs.Filled.{Filled, at}
+use Rattle.buffers.specs.Filled.{at}
 use Rattle.buffers.proofs.Fill.{cut}
 use Rattle.buffers.proofs.Parts.{mid-at, mid-long, put-long, put-before, put-inside, put-past, joined-first, joined-second}
 use Rattle.records.specs.Words.{isHeld, examinedOf}
 use Rattle.editing.specs.Text.{EditFits, newLength}
 use Rattle.editing.specs.Table.{pick, slotOf, wordOf, tableSize, TableLent, stays, comes, cameFrom, wordAfter, tabulate, wordsAfter, tableAfter, heldIn}
-use Rattle.editing.specs.Words.{heldBit, onlyHeld, keptWord, heldTo, keptAt, Counted, cameWord, BackFits, Back}
+use Rattle.editing.specs.Words.{onlyHeld, keptWord, heldTo, keptAt, Counted, cameWord, BackFits, Back}
 use Rattle.editing.proofs.TextLaw.{new-is}
-use Rattle.editing.proofs.Held.{pick-by, held-add, held-same, held-list, held-most}
-use Rattle.editing.proofs.Slots.{row-room, room, position-of, rule-of, slot-is, row-below}
+use Rattle.editing.proofs.Held.{held-add, held-same, held-list, held-most}
+use Rattle.editing.proofs.Slots.{row-room, room, position-of, slot-is, row-below}
 
 -- A tabulated list.
 pub tabulate-long : (f : ℕ → ℕ) (n : ℕ) → length (tabulate f n) ≡ n

@@ -5,8 +5,8 @@ use native.Mathlib.Omega.{arith}
 use mathlib.Core.Path.{_≡_, refl, sym, ap, _∙_}
 use mathlib.Core.Logic.{⊎-elim}
 use mathlib.Core.List.{List, _++_}
-use lib.ListN.{length, getD, take, drop, replicate, length-append, length-drop, length-replicate, getD-replicate, List·getD-append}
-use lib.Seq.{getD-take, getD-drop, getD-append-add, length-take-le, ext-getD}
+use lib.ListN.{length, take, drop, replicate, length-append, length-drop, length-replicate, getD-replicate}
+use lib.Seq.{getD-take, getD-drop, length-take-le, ext-getD}
 use borrow.Rule.Slice.PartMut.{midOf, putMid}
 use Rattle.buffers.specs.Filled.{Filled, at}
 use Rattle.buffers.proofs.Fill.{cut}

@@ -1,19 +1,15 @@
 -- One turn of each loop over words: what is filled and how many are held, one word further. Assumes nothing.
-use Prim.Native.Nat.{ℕ, _+_, _-_, _*_, _/_, _^_, _≤_, _<_}
+use Prim.Native.Nat.{ℕ, _+_, _-_, _≤_, _<_}
 use native.Mathlib.Omega.{arith}
 use mathlib.Core.Path.{_≡_, refl, sym, ap, _∙_}
-use mathlib.Core.Bool.{Bool, true, false}
-use mathlib.Core.Logic.{⊎-elim}
 use mathlib.Core.List.{List}
 use lib.ListN.{length, set}
-use lib.Bits.{bitOr, bitAnd, or-add-and, and-le-l, and-le-r, or-comm, or-shr, or-mod}
 use Rattle.buffers.specs.Filled.{Filled, at}
-use Rattle.buffers.proofs.Fill.{cut, none, empty, up, down, fit}
-use Rattle.grammar.specs.Image.{field}
-use Rattle.records.specs.Words.{isHeld, examinedOf}
+use Rattle.buffers.proofs.Fill.{none, up, down, fit}
+use Rattle.records.specs.Words.{isHeld}
 use Rattle.editing.specs.Table.{pick}
-use Rattle.editing.specs.Words.{heldBit, onlyHeld, keptWord, heldTo, Counted, Carried, Put, Lowered}
-use Rattle.editing.proofs.Held.{held-more, held-most, held-same, bit-only, bit-over}
+use Rattle.editing.specs.Words.{heldBit, onlyHeld, heldTo, Counted, Carried, Put}
+use Rattle.editing.proofs.Held.{held-more, held-same, bit-over}
 
 -- A word carried down: it is read at or past what was stored.
 pub carried-down :

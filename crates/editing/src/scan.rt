@@ -1,6 +1,5 @@
 // What there is in a stretch of words, in one pass that stores nothing.
-ghost use Prim.Native.Nat.{_+_, _^_, _-_, _<_};
-ghost use mathlib.Core.Path.{_≡_};
+ghost use Prim.Native.Nat.{_+_, _-_, _<_};
 ghost use Rattle.editing.specs.Words.{Scanned, Lowered};
 
 // Of a stretch of words: how many are held, and whether it was seen that every word stays: that each is 0 or held, and that no held word
