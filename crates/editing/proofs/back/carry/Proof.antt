@@ -26,7 +26,10 @@ same-length-2 c = search needs
 
 returns-2 : tie.Need-returns-2
 returns-2 c =
-    subst (λ (from : ℕ). Carried (c .before .before .before .before .before .before .before .args .part .now) (c .before .before .keep-held .last .0) from (c .before .before .before .before .before .before .before .args .to) (c .before .before .before .before .before .before .before .args .count) (c .before .before .keep-held .result)) (sym (c .before .before .before .before .if2 .taken)) (c .before .before .keep-held .ensures)
+    let at-keep-held = c .before .before in
+    let at-if2 = at-keep-held .before .before in
+    let start = at-if2 .before .before .before in
+    subst (λ (from : ℕ). Carried (start .args .part .now) (at-keep-held .keep-held .last .0) from (start .args .to) (start .args .count) (at-keep-held .keep-held .result)) (sym (at-if2 .if2 .taken)) (at-keep-held .keep-held .ensures)
 
 same-length-3 : tie.Need-same-length-3
 same-length-3 c = search needs

@@ -35,8 +35,10 @@ held-bit-requires c κs = search needs
 
 add-c : tie.Need-add-c Inv-loop μ-loop
 add-c c =
+    let at-loop = c .before .before .before in
+    let start = at-loop .before .before in
     omega
-    (arith, c .before .before .before .loop .inv .1 .filled .long, c .before .before .before .loop .inv .1 .counted, c .held-bit .ensures .1, held-most (λ j. at (c .before .before .before .before .before .args .part .now) (c .before .before .before .before .before .args .from + j)) (c .before .before .before .before .before .args .count))
+    (arith, at-loop .loop .inv .1 .filled .long, at-loop .loop .inv .1 .counted, c .held-bit .ensures .1, held-most (λ j. at (start .args .part .now) (start .args .from + j)) (start .args .count))
 
 only-held-requires : tie.Need-only-held-requires Inv-loop μ-loop
 only-held-requires c κs = search needs
@@ -55,12 +57,14 @@ loop-less c = search needs
 
 loop-again : tie.Need-loop-again Inv-loop μ-loop
 loop-again c =
-    let i = c .before .before .before .before .loop .i in
+    let at-loop = c .before .before .before .before in
+    let start = at-loop .before .before in
+    let i = at-loop .loop .i in
     let more : i - 1 + 1 ≡ i = omega arith in (
       omega arith,
       carried-up
           (i - 1)
-          (subst (λ (x : ℕ). Left (c .before .before .before .before .before .before .args .part .now) (c .before .before .before .before .loop .part) (c .before .before .before .before .before .before .args .from) (c .before .before .before .before .before .before .args .to) (c .before .before .before .before .before .before .args .count) x (c .before .before .before .before .loop .c)) (sym more) (c .before .before .before .before .loop .inv .1))
+          (subst (λ (x : ℕ). Left (start .args .part .now) (at-loop .loop .part) (start .args .from) (start .args .to) (start .args .count) x (at-loop .loop .c)) (sym more) (at-loop .loop .inv .1))
           (omega arith)
           (omega arith)
           (omega arith)
@@ -73,9 +77,10 @@ same-length c = c .before .loop .inv .1 .filled .long
 
 returns : tie.Need-returns Inv-loop μ-loop
 returns c =
+    let start = c .before .before .before in
     let none : c .before .loop .i ≡ 0 = omega arith in
     all-carried
-    (subst (λ (x : ℕ). Left (c .before .before .before .args .part .now) (c .before .loop .part) (c .before .before .before .args .from) (c .before .before .before .args .to) (c .before .before .before .args .count) x (c .before .loop .c)) none (c .before .loop .inv .1))
+    (subst (λ (x : ℕ). Left (start .args .part .now) (c .before .loop .part) (start .args .from) (start .args .to) (start .args .count) x (c .before .loop .c)) none (c .before .loop .inv .1))
 
 pub carry-up-spec : {M : Type 1} → statement M
 carry-up-spec =

@@ -46,22 +46,28 @@ put-row-requires c κs = search needs
 
 add-result : tie.Need-add-result
 add-result c =
+    let at-put-row = c .before .before in
+    let at-clear2 = at-put-row .before .before .before .before .before in
+    let at-clear = at-clear2 .before .before .before .before in
+    let at-carry = at-clear .before .before .before .before in
+    let at-staying-row = at-carry .before .before in
+    let start = at-staying-row .before .before .before in
     let B =
     back-done
-    (c .before .before .before .before .before .before .before .before .before .before .before .before .before .before .before .before .before .before .before .before .args .rules)
-    (c .before .before .before .before .before .before .before .before .before .before .before .before .before .before .before .before .before .before .before .before .args .gone)
-    (c .before .before .before .before .before .before .before .before .before .before .before .before .before .before .before .before .before .before .before .before .args .new)
-    (c .before .before .before .before .before .before .before .before .before .before .before .before .before .before .before .before .before .before .before .before .args .tail)
-    (c .before .before .before .before .before .before .before .before .before .before .before .before .before .before .before .before .before .before .before .before .args .part .now)
-    (c .before .before .before .before .before .before .before .before .before .before .before .before .before .before .before .carry .last .0)
-    (c .before .before .before .before .before .before .before .before .before .before .before .clear .last .0)
-    (c .before .before .before .before .before .before .before .clear2 .last .0)
-    (c .before .before .before .before .before .before .before .before .before .before .before .before .before .before .before .before .before .before .before .before .pre)
-    (c .before .before .before .before .before .before .before .before .before .before .before .before .before .before .before .before .before .staying-row .ensures)
-    (c .before .before .before .before .before .before .before .before .before .before .before .before .before .before .before .carry .ensures)
-    (c .before .before .before .before .before .before .before .before .before .before .before .clear .ensures)
-    (c .before .before .before .before .before .before .before .clear2 .ensures)
-    (c .before .before .put-row .ensures) in
+    (start .args .rules)
+    (start .args .gone)
+    (start .args .new)
+    (start .args .tail)
+    (start .args .part .now)
+    (at-carry .carry .last .0)
+    (at-clear .clear .last .0)
+    (at-clear2 .clear2 .last .0)
+    (start .pre)
+    (at-staying-row .staying-row .ensures)
+    (at-carry .carry .ensures)
+    (at-clear .clear .ensures)
+    (at-clear2 .clear2 .ensures)
+    (at-put-row .put-row .ensures) in
     let few = count-fits B in
     omega arith
 
@@ -70,21 +76,27 @@ same-length c = search needs
 
 returns : tie.Need-returns
 returns c =
+    let at-put-row = c .before .before in
+    let at-clear2 = at-put-row .before .before .before .before .before in
+    let at-clear = at-clear2 .before .before .before .before in
+    let at-carry = at-clear .before .before .before .before in
+    let at-staying-row = at-carry .before .before in
+    let start = at-staying-row .before .before .before in
     back-done
-    (c .before .before .before .before .before .before .before .before .before .before .before .before .before .before .before .before .before .before .before .before .args .rules)
-    (c .before .before .before .before .before .before .before .before .before .before .before .before .before .before .before .before .before .before .before .before .args .gone)
-    (c .before .before .before .before .before .before .before .before .before .before .before .before .before .before .before .before .before .before .before .before .args .new)
-    (c .before .before .before .before .before .before .before .before .before .before .before .before .before .before .before .before .before .before .before .before .args .tail)
-    (c .before .before .before .before .before .before .before .before .before .before .before .before .before .before .before .before .before .before .before .before .args .part .now)
-    (c .before .before .before .before .before .before .before .before .before .before .before .before .before .before .before .carry .last .0)
-    (c .before .before .before .before .before .before .before .before .before .before .before .clear .last .0)
-    (c .before .before .before .before .before .before .before .clear2 .last .0)
-    (c .before .before .before .before .before .before .before .before .before .before .before .before .before .before .before .before .before .before .before .before .pre)
-    (c .before .before .before .before .before .before .before .before .before .before .before .before .before .before .before .before .before .staying-row .ensures)
-    (c .before .before .before .before .before .before .before .before .before .before .before .before .before .before .before .carry .ensures)
-    (c .before .before .before .before .before .before .before .before .before .before .before .clear .ensures)
-    (c .before .before .before .before .before .before .before .clear2 .ensures)
-    (c .before .before .put-row .ensures)
+    (start .args .rules)
+    (start .args .gone)
+    (start .args .new)
+    (start .args .tail)
+    (start .args .part .now)
+    (at-carry .carry .last .0)
+    (at-clear .clear .last .0)
+    (at-clear2 .clear2 .last .0)
+    (start .pre)
+    (at-staying-row .staying-row .ensures)
+    (at-carry .carry .ensures)
+    (at-clear .clear .ensures)
+    (at-clear2 .clear2 .ensures)
+    (at-put-row .put-row .ensures)
 
 pub edit-back-spec : {M : Type 1} → statement M
 edit-back-spec =

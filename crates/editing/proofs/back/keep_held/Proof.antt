@@ -34,8 +34,10 @@ held-bit-requires c κs = search needs
 
 add-c : tie.Need-add-c Inv-loop μ-loop
 add-c c =
+    let at-loop = c .before .before .before in
+    let start = at-loop .before .before in
     omega
-    (arith, c .before .before .before .loop .inv .1 .filled .long, c .before .before .before .loop .inv .1 .counted, c .held-bit .ensures .1, held-most (λ j. at (c .before .before .before .before .before .args .part .now) (c .before .before .before .before .before .args .to + j)) (c .before .before .before .loop .i))
+    (arith, at-loop .loop .inv .1 .filled .long, at-loop .loop .inv .1 .counted, c .held-bit .ensures .1, held-most (λ j. at (start .args .part .now) (start .args .to + j)) (at-loop .loop .i))
 
 only-held-requires : tie.Need-only-held-requires Inv-loop μ-loop
 only-held-requires c κs = search needs
@@ -57,7 +59,8 @@ loop-less c = search needs
 
 loop-again : tie.Need-loop-again Inv-loop μ-loop
 loop-again c =
-    (omega arith, carried-down (c .before .before .before .before .loop .inv .1) (omega arith) (omega arith) (c .before .held-bit .ensures .0) (c .only-held .ensures))
+    let at-loop = c .before .before .before .before in
+    (omega arith, carried-down (at-loop .loop .inv .1) (omega arith) (omega arith) (c .before .held-bit .ensures .0) (c .only-held .ensures))
 
 same-length : tie.Need-same-length Inv-loop μ-loop
 same-length c = c .before .loop .inv .1 .filled .long

@@ -40,16 +40,20 @@ held-bit-requires c κs = search needs
 
 add-c : tie.Need-add-c Inv-loop μ-loop
 add-c c =
+    let at-loop = c .before .before .before .before .before in
     omega
-    (arith, c .before .before .before .before .before .loop .inv .1 .filled .long, c .before .before .before .before .before .loop .inv .1 .counted, c .held-bit .ensures .1, held-most (at (c .before .before .before .before .before .loop .part)) (c .before .before .before .before .before .loop .rule))
+    (arith, at-loop .loop .inv .1 .filled .long, at-loop .loop .inv .1 .counted, c .held-bit .ensures .1, held-most (at (at-loop .loop .part)) (at-loop .loop .rule))
 
 held-bit-requires-2 : tie.Need-held-bit-requires-2 Inv-loop μ-loop
 held-bit-requires-2 c κs = search needs
 
 sub-c : tie.Need-sub-c Inv-loop μ-loop
 sub-c c =
-    let above = bit-over (at (c .before .before .before .before .before .before .before .before .args .row .now) (c .before .before .before .before .before .before .loop .rule)) (at (c .before .before .before .before .before .before .loop .part) (c .before .before .before .before .before .before .loop .rule)) in
-    omega (arith, c .before .held-bit .ensures .0 ∙ ap heldBit (c .before .before .first-held .ensures), c .held-bit2 .ensures .0)
+    let at-first-held = c .before .before in
+    let at-loop = at-first-held .before .before .before .before in
+    let start = at-loop .before .before in
+    let above = bit-over (at (start .args .row .now) (at-loop .loop .rule)) (at (at-loop .loop .part) (at-loop .loop .rule)) in
+    omega (arith, c .before .held-bit .ensures .0 ∙ ap heldBit (at-first-held .first-held .ensures), c .held-bit2 .ensures .0)
 
 mul-part : tie.Need-mul-part Inv-loop μ-loop
 mul-part c = omega (arith, c .before .before .before .before .before .before .loop .inv .1 .filled .long)
@@ -65,8 +69,10 @@ loop-less c = search needs
 
 loop-again : tie.Need-loop-again Inv-loop μ-loop
 loop-again c =
-    let m = c .before .before .before .before .before .before .loop .inv .1 .filled .long in
-    (omega arith, put-over (c .before .before .before .before .before .before .loop .inv .1) (omega arith) (c .before .before .first-held .ensures) (c .before .held-bit .ensures .0) (c .held-bit2 .ensures .0))
+    let at-first-held = c .before .before in
+    let at-loop = at-first-held .before .before .before .before in
+    let m = at-loop .loop .inv .1 .filled .long in
+    (omega arith, put-over (at-loop .loop .inv .1) (omega arith) (at-first-held .first-held .ensures) (c .before .held-bit .ensures .0) (c .held-bit2 .ensures .0))
 
 same-length : tie.Need-same-length Inv-loop μ-loop
 same-length c = c .before .loop .inv .1 .filled .long

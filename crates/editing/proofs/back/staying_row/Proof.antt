@@ -43,9 +43,10 @@ loop-less c = search needs
 
 loop-again : tie.Need-loop-again Inv-loop μ-loop
 loop-again c =
-    let m = c .before .before .before .loop .inv .2 .long in
-    let l = c .before .before .before .loop .inv .1 in
-    (omega arith, c .before .before .before .loop .inv .1, up (c .before .before .before .loop .inv .2) (omega arith) (omega arith) (c .kept-word .ensures))
+    let at-loop = c .before .before .before in
+    let m = at-loop .loop .inv .2 .long in
+    let l = at-loop .loop .inv .1 in
+    (omega arith, at-loop .loop .inv .1, up (at-loop .loop .inv .2) (omega arith) (omega arith) (c .kept-word .ensures))
 
 returns : tie.Need-returns Inv-loop μ-loop
 returns c = record { stay = λ rule h. c .before .loop .inv .2 .inside rule (omega arith) (omega arith) }

@@ -28,16 +28,28 @@ at-most-requires : tie.Need-at-most-requires Inv-loop μ-loop
 at-most-requires c κs = search needs
 
 mul-from : tie.Need-mul-from Inv-loop μ-loop
-mul-from c = omega (arith, rows-room (c .before .before .before .before .args .rules) (c .before .before .loop .q) (c .at-most .result) (c .before .before .before .before .args .s) (omega arith))
+mul-from c =
+    let at-loop = c .before .before in
+    let start = at-loop .before .before in
+    omega (arith, rows-room (start .args .rules) (at-loop .loop .q) (c .at-most .result) (start .args .s) (omega arith))
 
 mul-to : tie.Need-mul-to Inv-loop μ-loop
-mul-to c = omega (arith, rows-room (c .before .before .before .before .args .rules) (c .before .before .loop .q) (c .at-most .result) (c .before .before .before .before .args .s) (omega arith))
+mul-to c =
+    let at-loop = c .before .before in
+    let start = at-loop .before .before in
+    omega (arith, rows-room (start .args .rules) (at-loop .loop .q) (c .at-most .result) (start .args .s) (omega arith))
 
 add-to : tie.Need-add-to Inv-loop μ-loop
-add-to c = omega (arith, rows-room (c .before .before .before .before .args .rules) (c .before .before .loop .q) (c .at-most .result) (c .before .before .before .before .args .s) (omega arith))
+add-to c =
+    let at-loop = c .before .before in
+    let start = at-loop .before .before in
+    omega (arith, rows-room (start .args .rules) (at-loop .loop .q) (c .at-most .result) (start .args .s) (omega arith))
 
 mul-keep-block : tie.Need-mul-keep-block Inv-loop μ-loop
-mul-keep-block c = omega (arith, rows-room (c .before .before .before .before .args .rules) (c .before .before .loop .q) (c .at-most .result) (c .before .before .before .before .args .s) (omega arith))
+mul-keep-block c =
+    let at-loop = c .before .before in
+    let start = at-loop .before .before in
+    omega (arith, rows-room (start .args .rules) (at-loop .loop .q) (c .at-most .result) (start .args .s) (omega arith))
 
 sub-keep-block : tie.Need-sub-keep-block Inv-loop μ-loop
 sub-keep-block c = search needs
@@ -47,24 +59,32 @@ part-keep-block-start c = search needs
 
 part-keep-block-end : tie.Need-part-keep-block-end Inv-loop μ-loop
 part-keep-block-end c =
-    omega (arith, c .before .before .loop .inv .1 .filled .long, rows-room (c .before .before .before .before .args .rules) (c .before .before .loop .q) (c .at-most .result) (c .before .before .before .before .args .s) (omega arith))
+    let at-loop = c .before .before in
+    let start = at-loop .before .before in
+    omega (arith, at-loop .loop .inv .1 .filled .long, rows-room (start .args .rules) (at-loop .loop .q) (c .at-most .result) (start .args .s) (omega arith))
 
 keep-block-requires : tie.Need-keep-block-requires Inv-loop μ-loop
 keep-block-requires c κs =
-    let room = rows-room (c .before .before .before .before .before .args .rules) (c .before .before .before .loop .q) (c .before .at-most .result) (c .before .before .before .before .before .args .s) (omega arith) in
-    let long = c .before .before .before .loop .inv .1 .filled .long in
+    let at-loop = c .before .before .before in
+    let start = at-loop .before .before in
+    let room = rows-room (start .args .rules) (at-loop .loop .q) (c .before .at-most .result) (start .args .s) (omega arith) in
+    let long = at-loop .loop .inv .1 .filled .long in
     let w =
     mid-long
-    (c .before .before .before .loop .q * c .before .before .before .before .before .args .rules)
-    (c .before .before .before .loop .q * c .before .before .before .before .before .args .rules + c .before .at-most .result * c .before .before .before .before .before .args .rules - c .before .before .before .loop .q * c .before .before .before .before .before .args .rules)
-    (c .before .before .before .loop .part)
+    (at-loop .loop .q * start .args .rules)
+    (at-loop .loop .q * start .args .rules + c .before .at-most .result * start .args .rules - at-loop .loop .q * start .args .rules)
+    (at-loop .loop .part)
     (omega arith) in
     (omega arith, omega arith, omega arith, omega arith)
 
 add-c : tie.Need-add-c Inv-loop μ-loop
 add-c c =
-    let room = rows-room (c .before .before .before .before .before .before .before .before .args .rules) (c .before .before .before .before .before .before .loop .q) (c .before .before .before .before .at-most .result) (c .before .before .before .before .before .before .before .before .args .s) (omega arith) in
-    let few = counts-fit (c .before .before .before .before .before .before .loop .inv .1) (c .before .before .keep-block .ensures) in
+    let at-keep-block = c .before .before in
+    let at-at-most = at-keep-block .before .before in
+    let at-loop = at-at-most .before .before in
+    let start = at-loop .before .before in
+    let room = rows-room (start .args .rules) (at-loop .loop .q) (at-at-most .at-most .result) (start .args .s) (omega arith) in
+    let few = counts-fit (at-loop .loop .inv .1) (at-keep-block .keep-block .ensures) in
     omega arith
 
 add-q : tie.Need-add-q Inv-loop μ-loop
@@ -75,22 +95,26 @@ loop-less c = omega arith
 
 loop-again : tie.Need-loop-again Inv-loop μ-loop
 loop-again c =
-    let room = rows-room (c .before .before .before .before .before .before .before .before .args .rules) (c .before .before .before .before .before .before .loop .q) (c .before .before .before .before .at-most .result) (c .before .before .before .before .before .before .before .before .args .s) (omega arith) in (
+    let at-keep-block = c .before .before in
+    let at-at-most = at-keep-block .before .before in
+    let at-loop = at-at-most .before .before in
+    let start = at-loop .before .before in
+    let room = rows-room (start .args .rules) (at-loop .loop .q) (at-at-most .at-most .result) (start .args .s) (omega arith) in (
       omega arith,
       part-done
-          (c .before .before .before .before .before .before .before .before .args .rules)
-          (c .before .before .before .before .before .before .before .before .args .s)
+          (start .args .rules)
+          (start .args .s)
           0
-          (c .before .before .before .before .before .before .loop .q)
-          (c .before .before .before .before .before .before .loop .q)
-          (c .before .before .before .before .at-most .result)
-          (c .before .before .before .before .before .before .loop .q * c .before .before .before .before .before .before .before .before .args .rules + c .before .before .before .before .at-most .result * c .before .before .before .before .before .before .before .before .args .rules - c .before .before .before .before .before .before .loop .q * c .before .before .before .before .before .before .before .before .args .rules)
+          (at-loop .loop .q)
+          (at-loop .loop .q)
+          (at-at-most .at-most .result)
+          (at-loop .loop .q * start .args .rules + at-at-most .at-most .result * start .args .rules - at-loop .loop .q * start .args .rules)
           (omega arith)
           (omega arith)
           (omega arith)
           (omega arith)
-          (c .before .before .before .before .before .before .loop .inv .1)
-          (c .before .before .keep-block .ensures),
+          (at-loop .loop .inv .1)
+          (at-keep-block .keep-block .ensures),
     )
 
 same-length : tie.Need-same-length Inv-loop μ-loop

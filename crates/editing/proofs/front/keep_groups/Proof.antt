@@ -28,16 +28,28 @@ at-most-requires : tie.Need-at-most-requires Inv-loop μ-loop
 at-most-requires c κs = search needs
 
 mul-from : tie.Need-mul-from Inv-loop μ-loop
-mul-from c = omega (arith, rows-room (c .before .before .before .before .args .rules) (c .before .before .loop .i) (c .at-most .result) (c .before .before .before .before .args .rows) (omega arith))
+mul-from c =
+    let at-loop = c .before .before in
+    let start = at-loop .before .before in
+    omega (arith, rows-room (start .args .rules) (at-loop .loop .i) (c .at-most .result) (start .args .rows) (omega arith))
 
 mul-to : tie.Need-mul-to Inv-loop μ-loop
-mul-to c = omega (arith, rows-room (c .before .before .before .before .args .rules) (c .before .before .loop .i) (c .at-most .result) (c .before .before .before .before .args .rows) (omega arith))
+mul-to c =
+    let at-loop = c .before .before in
+    let start = at-loop .before .before in
+    omega (arith, rows-room (start .args .rules) (at-loop .loop .i) (c .at-most .result) (start .args .rows) (omega arith))
 
 add-to : tie.Need-add-to Inv-loop μ-loop
-add-to c = omega (arith, rows-room (c .before .before .before .before .args .rules) (c .before .before .loop .i) (c .at-most .result) (c .before .before .before .before .args .rows) (omega arith))
+add-to c =
+    let at-loop = c .before .before in
+    let start = at-loop .before .before in
+    omega (arith, rows-room (start .args .rules) (at-loop .loop .i) (c .at-most .result) (start .args .rows) (omega arith))
 
 mul-keep-group : tie.Need-mul-keep-group Inv-loop μ-loop
-mul-keep-group c = omega (arith, rows-room (c .before .before .before .before .args .rules) (c .before .before .loop .i) (c .at-most .result) (c .before .before .before .before .args .rows) (omega arith))
+mul-keep-group c =
+    let at-loop = c .before .before in
+    let start = at-loop .before .before in
+    omega (arith, rows-room (start .args .rules) (at-loop .loop .i) (c .at-most .result) (start .args .rows) (omega arith))
 
 sub-keep-group : tie.Need-sub-keep-group Inv-loop μ-loop
 sub-keep-group c = search needs
@@ -47,27 +59,35 @@ part-keep-group-start c = search needs
 
 part-keep-group-end : tie.Need-part-keep-group-end Inv-loop μ-loop
 part-keep-group-end c =
-    omega (arith, c .before .before .loop .inv .1 .filled .long, rows-room (c .before .before .before .before .args .rules) (c .before .before .loop .i) (c .at-most .result) (c .before .before .before .before .args .rows) (omega arith))
+    let at-loop = c .before .before in
+    let start = at-loop .before .before in
+    omega (arith, at-loop .loop .inv .1 .filled .long, rows-room (start .args .rules) (at-loop .loop .i) (c .at-most .result) (start .args .rows) (omega arith))
 
 add-keep-group : tie.Need-add-keep-group Inv-loop μ-loop
 add-keep-group c = search needs
 
 keep-group-requires : tie.Need-keep-group-requires Inv-loop μ-loop
 keep-group-requires c κs =
-    let room = rows-room (c .before .before .before .before .before .args .rules) (c .before .before .before .loop .i) (c .before .at-most .result) (c .before .before .before .before .before .args .rows) (omega arith) in
-    let long = c .before .before .before .loop .inv .1 .filled .long in
+    let at-loop = c .before .before .before in
+    let start = at-loop .before .before in
+    let room = rows-room (start .args .rules) (at-loop .loop .i) (c .before .at-most .result) (start .args .rows) (omega arith) in
+    let long = at-loop .loop .inv .1 .filled .long in
     let w =
     mid-long
-    (c .before .before .before .loop .i * c .before .before .before .before .before .args .rules)
-    (c .before .before .before .loop .i * c .before .before .before .before .before .args .rules + c .before .at-most .result * c .before .before .before .before .before .args .rules - c .before .before .before .loop .i * c .before .before .before .before .before .args .rules)
-    (c .before .before .before .loop .part)
+    (at-loop .loop .i * start .args .rules)
+    (at-loop .loop .i * start .args .rules + c .before .at-most .result * start .args .rules - at-loop .loop .i * start .args .rules)
+    (at-loop .loop .part)
     (omega arith) in
     (omega arith, omega arith, omega arith, omega arith)
 
 add-c : tie.Need-add-c Inv-loop μ-loop
 add-c c =
-    let room = rows-room (c .before .before .before .before .before .before .before .before .args .rules) (c .before .before .before .before .before .before .loop .i) (c .before .before .before .before .at-most .result) (c .before .before .before .before .before .before .before .before .args .rows) (omega arith) in
-    let few = counts-fit (c .before .before .before .before .before .before .loop .inv .1) (c .before .before .keep-group .ensures) in
+    let at-keep-group = c .before .before in
+    let at-at-most = at-keep-group .before .before in
+    let at-loop = at-at-most .before .before in
+    let start = at-loop .before .before in
+    let room = rows-room (start .args .rules) (at-loop .loop .i) (at-at-most .at-most .result) (start .args .rows) (omega arith) in
+    let few = counts-fit (at-loop .loop .inv .1) (at-keep-group .keep-group .ensures) in
     omega arith
 
 add-i : tie.Need-add-i Inv-loop μ-loop
@@ -78,22 +98,26 @@ loop-less c = omega arith
 
 loop-again : tie.Need-loop-again Inv-loop μ-loop
 loop-again c =
-    let room = rows-room (c .before .before .before .before .before .before .before .before .args .rules) (c .before .before .before .before .before .before .loop .i) (c .before .before .before .before .at-most .result) (c .before .before .before .before .before .before .before .before .args .rows) (omega arith) in (
+    let at-keep-group = c .before .before in
+    let at-at-most = at-keep-group .before .before in
+    let at-loop = at-at-most .before .before in
+    let start = at-loop .before .before in
+    let room = rows-room (start .args .rules) (at-loop .loop .i) (at-at-most .at-most .result) (start .args .rows) (omega arith) in (
       omega arith,
       part-done
-          (c .before .before .before .before .before .before .before .before .args .rules)
-          (c .before .before .before .before .before .before .before .before .args .s)
-          (c .before .before .before .before .before .before .before .before .args .q)
-          (c .before .before .before .before .before .before .before .before .args .q + c .before .before .before .before .before .before .loop .i)
-          (c .before .before .before .before .before .before .loop .i)
-          (c .before .before .before .before .at-most .result)
-          (c .before .before .before .before .before .before .loop .i * c .before .before .before .before .before .before .before .before .args .rules + c .before .before .before .before .at-most .result * c .before .before .before .before .before .before .before .before .args .rules - c .before .before .before .before .before .before .loop .i * c .before .before .before .before .before .before .before .before .args .rules)
+          (start .args .rules)
+          (start .args .s)
+          (start .args .q)
+          (start .args .q + at-loop .loop .i)
+          (at-loop .loop .i)
+          (at-at-most .at-most .result)
+          (at-loop .loop .i * start .args .rules + at-at-most .at-most .result * start .args .rules - at-loop .loop .i * start .args .rules)
           (omega arith)
           refl
           (omega arith)
           (omega arith)
-          (c .before .before .before .before .before .before .loop .inv .1)
-          (c .before .before .keep-group .ensures),
+          (at-loop .loop .inv .1)
+          (at-keep-group .keep-group .ensures),
     )
 
 same-length : tie.Need-same-length Inv-loop μ-loop

@@ -36,8 +36,10 @@ held-bit-requires c κs = search needs
 
 add-c : tie.Need-add-c Inv-loop μ-loop
 add-c c =
+    let at-loop = c .before .before .before .before in
+    let start = at-loop .before .before in
     omega
-    (arith, c .before .before .before .before .loop .inv .1 .filled .long, c .before .before .before .before .loop .inv .1 .counted, c .held-bit .ensures .1, held-most (λ j. keptWord (c .before .before .before .before .before .before .args .limit) (at (c .before .before .before .before .before .before .args .row .now) j)) (c .before .before .before .before .loop .i))
+    (arith, at-loop .loop .inv .1 .filled .long, at-loop .loop .inv .1 .counted, c .held-bit .ensures .1, held-most (λ j. keptWord (start .args .limit) (at (start .args .row .now) j)) (at-loop .loop .i))
 
 mul-row : tie.Need-mul-row Inv-loop μ-loop
 mul-row c = search needs
@@ -53,9 +55,11 @@ loop-less c = omega (arith, c .before .before .before .before .loop .inv .1 .fil
 
 loop-again : tie.Need-loop-again Inv-loop μ-loop
 loop-again c =
-    let m = c .before .before .before .before .loop .inv .1 .filled .long in
-    let word = c .before .kept-word .ensures ∙ ap (keptWord (c .before .before .before .before .before .before .args .limit)) (c .before .before .before .before .loop .inv .1 .filled .past (c .before .before .before .before .loop .i) (omega arith)) in
-    (omega arith, in-place (c .before .before .before .before .loop .inv .1) (omega arith) word (c .held-bit .ensures .0))
+    let at-loop = c .before .before .before .before in
+    let start = at-loop .before .before in
+    let m = at-loop .loop .inv .1 .filled .long in
+    let word = c .before .kept-word .ensures ∙ ap (keptWord (start .args .limit)) (at-loop .loop .inv .1 .filled .past (at-loop .loop .i) (omega arith)) in
+    (omega arith, in-place (at-loop .loop .inv .1) (omega arith) word (c .held-bit .ensures .0))
 
 same-length : tie.Need-same-length Inv-loop μ-loop
 same-length c = c .before .loop .inv .1 .filled .long

@@ -23,13 +23,19 @@ loop-holds : tie.Need-loop-holds Inv-loop μ-loop
 loop-holds c = (omega arith, counted-all (record { filled = empty refl; counted = refl }) (omega arith))
 
 mul-from : tie.Need-mul-from Inv-loop μ-loop
-mul-from c = omega (arith, row-room (c .before .before .before .args .rules) (c .before .loop .i) (c .before .before .before .args .rows) (omega arith))
+mul-from c =
+    let start = c .before .before .before in
+    omega (arith, row-room (start .args .rules) (c .before .loop .i) (start .args .rows) (omega arith))
 
 add-to : tie.Need-add-to Inv-loop μ-loop
-add-to c = omega (arith, row-room (c .before .before .before .args .rules) (c .before .loop .i) (c .before .before .before .args .rows) (omega arith))
+add-to c =
+    let start = c .before .before .before in
+    omega (arith, row-room (start .args .rules) (c .before .loop .i) (start .args .rows) (omega arith))
 
 mul-keep-row : tie.Need-mul-keep-row Inv-loop μ-loop
-mul-keep-row c = omega (arith, row-room (c .before .before .before .args .rules) (c .before .loop .i) (c .before .before .before .args .rows) (omega arith))
+mul-keep-row c =
+    let start = c .before .before .before in
+    omega (arith, row-room (start .args .rules) (c .before .loop .i) (start .args .rows) (omega arith))
 
 sub-keep-row : tie.Need-sub-keep-row Inv-loop μ-loop
 sub-keep-row c = search needs
@@ -38,7 +44,9 @@ part-keep-row-start : tie.Need-part-keep-row-start Inv-loop μ-loop
 part-keep-row-start c = search needs
 
 part-keep-row-end : tie.Need-part-keep-row-end Inv-loop μ-loop
-part-keep-row-end c = omega (arith, c .before .loop .inv .1 .filled .long, row-room (c .before .before .before .args .rules) (c .before .loop .i) (c .before .before .before .args .rows) (omega arith))
+part-keep-row-end c =
+    let start = c .before .before .before in
+    omega (arith, c .before .loop .inv .1 .filled .long, row-room (start .args .rules) (c .before .loop .i) (start .args .rows) (omega arith))
 
 add-keep-row : tie.Need-add-keep-row Inv-loop μ-loop
 add-keep-row c = search needs
@@ -51,10 +59,13 @@ keep-row-requires c κs = search needs
 
 add-c : tie.Need-add-c Inv-loop μ-loop
 add-c c =
-    let room = row-room (c .before .before .before .before .before .before .before .args .rules) (c .before .before .before .before .before .loop .i) (c .before .before .before .before .before .before .before .args .rows) (omega arith) in
-    let long = c .before .before .before .before .before .loop .inv .1 .filled .long in
-    let w = mid-long (c .before .before .before .before .before .loop .i * c .before .before .before .before .before .before .before .args .rules) (c .before .before .before .before .before .loop .i * c .before .before .before .before .before .before .before .args .rules + c .before .before .before .before .before .before .before .args .rules - c .before .before .before .before .before .loop .i * c .before .before .before .before .before .before .before .args .rules) (c .before .before .before .before .before .loop .part) (omega arith) in
-    let few = counts-fit (c .before .before .before .before .before .loop .inv .1) (c .before .before .keep-row .ensures) in
+    let at-keep-row = c .before .before in
+    let at-loop = at-keep-row .before .before .before in
+    let start = at-loop .before .before in
+    let room = row-room (start .args .rules) (at-loop .loop .i) (start .args .rows) (omega arith) in
+    let long = at-loop .loop .inv .1 .filled .long in
+    let w = mid-long (at-loop .loop .i * start .args .rules) (at-loop .loop .i * start .args .rules + start .args .rules - at-loop .loop .i * start .args .rules) (at-loop .loop .part) (omega arith) in
+    let few = counts-fit (at-loop .loop .inv .1) (at-keep-row .keep-row .ensures) in
     omega arith
 
 add-i : tie.Need-add-i Inv-loop μ-loop
@@ -65,20 +76,23 @@ loop-less c = omega arith
 
 loop-again : tie.Need-loop-again Inv-loop μ-loop
 loop-again c =
-    let room = row-room (c .before .before .before .before .before .before .before .args .rules) (c .before .before .before .before .before .loop .i) (c .before .before .before .before .before .before .before .args .rows) (omega arith) in (
+    let at-keep-row = c .before .before in
+    let at-loop = at-keep-row .before .before .before in
+    let start = at-loop .before .before in
+    let room = row-room (start .args .rules) (at-loop .loop .i) (start .args .rows) (omega arith) in (
       omega arith,
       row-done
-          (c .before .before .before .before .before .before .before .args .rules)
-          (c .before .before .before .before .before .before .before .args .s)
-          (c .before .before .before .before .before .before .before .args .q)
-          (c .before .before .before .before .before .loop .i)
-          (c .before .before .before .before .before .loop .i * c .before .before .before .before .before .before .before .args .rules + c .before .before .before .before .before .before .before .args .rules - c .before .before .before .before .before .loop .i * c .before .before .before .before .before .before .before .args .rules)
+          (start .args .rules)
+          (start .args .s)
+          (start .args .q)
+          (at-loop .loop .i)
+          (at-loop .loop .i * start .args .rules + start .args .rules - at-loop .loop .i * start .args .rules)
           (omega arith)
           (omega arith)
           refl
           (omega arith)
-          (c .before .before .before .before .before .loop .inv .1)
-          (c .before .before .keep-row .ensures),
+          (at-loop .loop .inv .1)
+          (at-keep-row .keep-row .ensures),
     )
 
 same-length : tie.Need-same-length Inv-loop μ-loop

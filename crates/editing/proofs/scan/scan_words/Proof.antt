@@ -32,7 +32,9 @@ held-bit-requires c κs = search needs
 
 add-held : tie.Need-add-held Inv-loop μ-loop
 add-held c =
-    omega (arith, c .before .before .before .before .loop .inv .1 .counted, c .held-bit .ensures .1, held-most (at (c .before .before .before .before .before .before .args .part .now)) (c .before .before .before .before .loop .i))
+    let at-loop = c .before .before .before .before in
+    let start = at-loop .before .before in
+    omega (arith, at-loop .loop .inv .1 .counted, c .held-bit .ensures .1, held-most (at (start .args .part .now)) (at-loop .loop .i))
 
 add-i : tie.Need-add-i Inv-loop μ-loop
 add-i c = search needs
@@ -41,7 +43,9 @@ loop-less : tie.Need-loop-less Inv-loop μ-loop
 loop-less c = search needs
 
 loop-again : tie.Need-loop-again Inv-loop μ-loop
-loop-again c = (omega arith, seen-more (c .before .before .before .before .loop .inv .1) (c .before .lowered .ensures) (c .held-bit .ensures .0))
+loop-again c =
+    let at-loop = c .before .before .before .before in
+    (omega arith, seen-more (at-loop .loop .inv .1) (c .before .lowered .ensures) (c .held-bit .ensures .0))
 
 returns : tie.Need-returns Inv-loop μ-loop
 returns c = told-nothing (c .before .before .before .before .args .limit) (c .before .before .loop .inv .1) (omega arith)
@@ -50,7 +54,10 @@ examined-of-requires : tie.Need-examined-of-requires Inv-loop μ-loop
 examined-of-requires c κs = search needs
 
 returns-2 : tie.Need-returns-2 Inv-loop μ-loop
-returns-2 c = told (c .before .before .before .before .before .args .limit) (c .before .before .before .loop .inv .1) (omega arith) _ (omega arith) (c .examined-of .ensures .0)
+returns-2 c =
+    let at-loop = c .before .before .before in
+    let start = at-loop .before .before in
+    told (start .args .limit) (at-loop .loop .inv .1) (omega arith) _ (omega arith) (c .examined-of .ensures .0)
 
 pub scan-words-spec : {M : Type 1} → statement M
 scan-words-spec =

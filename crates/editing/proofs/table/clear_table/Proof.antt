@@ -29,7 +29,9 @@ same-length c = search needs
 
 returns : tie.Need-returns
 returns c =
-    cleared-is (c .before .before .before .before .before .args .table .now) _ (c .before .before .before .before .before .args .rules * (c .before .before .before .before .before .args .cap + 1)) (c .before .before .before .before .before .args .rules * (c .before .before .before .before .before .args .cap + 1) - 0) (omega arith) (c .before .before .before .before .before .pre .whole) (c .before .before .clear .ensures)
+    let at-clear = c .before .before in
+    let start = at-clear .before .before .before in
+    cleared-is (start .args .table .now) _ (start .args .rules * (start .args .cap + 1)) (start .args .rules * (start .args .cap + 1) - 0) (omega arith) (start .pre .whole) (at-clear .clear .ensures)
 
 pub clear-table-spec : {M : Type 1} → statement M
 clear-table-spec =

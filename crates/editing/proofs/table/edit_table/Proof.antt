@@ -31,7 +31,9 @@ sub-gone : tie.Need-sub-gone
 sub-gone c = search needs
 
 mul-gone : tie.Need-mul-gone
-mul-gone c = let F = slots-fit (c .before .before .before .before .before .args .rules) (c .before .before .before .before .before .pre .1) in omega arith
+mul-gone c =
+    let start = c .before .before .before .before .before in
+    let F = slots-fit (start .args .rules) (start .pre .1) in omega arith
 
 sub-tail : tie.Need-sub-tail
 sub-tail c = search needs
@@ -40,37 +42,57 @@ add-tail : tie.Need-add-tail
 add-tail c = search needs
 
 mul-tail : tie.Need-mul-tail
-mul-tail c = let F = slots-fit (c .before .before .before .before .before .args .rules) (c .before .before .before .before .before .pre .1) in omega arith
+mul-tail c =
+    let start = c .before .before .before .before .before in
+    let F = slots-fit (start .args .rules) (start .pre .1) in omega arith
 
 mul-edit-back : tie.Need-mul-edit-back
-mul-edit-back c = let F = slots-fit (c .before .before .before .before .before .args .rules) (c .before .before .before .before .before .pre .1) in omega arith
+mul-edit-back c =
+    let start = c .before .before .before .before .before in
+    let F = slots-fit (start .args .rules) (start .pre .1) in omega arith
 
 sub-edit-back : tie.Need-sub-edit-back
-sub-edit-back c = let F = slots-fit (c .before .before .before .before .before .args .rules) (c .before .before .before .before .before .pre .1) in omega arith
+sub-edit-back c =
+    let start = c .before .before .before .before .before in
+    let F = slots-fit (start .args .rules) (start .pre .1) in omega arith
 
 part-edit-back-start : tie.Need-part-edit-back-start
-part-edit-back-start c = let F = slots-fit (c .before .before .before .before .before .args .rules) (c .before .before .before .before .before .pre .1) in omega arith
+part-edit-back-start c =
+    let start = c .before .before .before .before .before in
+    let F = slots-fit (start .args .rules) (start .pre .1) in omega arith
 
 part-edit-back-end : tie.Need-part-edit-back-end
 part-edit-back-end c = search needs
 
 mul-edit-back-2 : tie.Need-mul-edit-back-2
-mul-edit-back-2 c = let F = slots-fit (c .before .before .before .before .before .before .args .rules) (c .before .before .before .before .before .before .pre .1) in omega arith
+mul-edit-back-2 c =
+    let start = c .before .before .before .before .before .before in
+    let F = slots-fit (start .args .rules) (start .pre .1) in omega arith
 
 edit-back-requires : tie.Need-edit-back-requires
-edit-back-requires c κs = back-room (c .before .before .before .keep-front .last .0) (c .before .before .before .before .before .before .pre .0) (c .before .before .before .before .before .before .pre .1) (c .before .before .before .keep-front .ensures .filled .long)
+edit-back-requires c κs =
+    let at-keep-front = c .before .before .before in
+    let start = at-keep-front .before .before .before in
+    back-room (at-keep-front .keep-front .last .0) (start .pre .0) (start .pre .1) (at-keep-front .keep-front .ensures .filled .long)
 
 add-result : tie.Need-add-result
 add-result c =
-    let few = few-standing (c .before .before .before .before .before .before .before .before .before .pre .0) (c .before .before .before .before .before .before .before .before .before .pre .1) (c .before .before .before .before .before .before .keep-front .ensures) (c .before .before .edit-back .ensures) in
-    let whole = c .before .before .before .before .before .before .before .before .before .pre .0 .whole in
+    let at-edit-back = c .before .before in
+    let at-keep-front = at-edit-back .before .before .before .before in
+    let start = at-keep-front .before .before .before in
+    let few = few-standing (start .pre .0) (start .pre .1) (at-keep-front .keep-front .ensures) (at-edit-back .edit-back .ensures) in
+    let whole = start .pre .0 .whole in
     omega arith
 
 same-length : tie.Need-same-length
 same-length c = search needs
 
 returns : tie.Need-returns
-returns c = (standing-is (c .before .before .before .before .before .before .before .before .before .pre .0) (c .before .before .before .before .before .before .before .before .before .pre .1) (c .before .before .before .before .before .before .keep-front .ensures) (c .before .before .edit-back .ensures), table-is (c .before .before .before .before .before .before .before .before .before .pre .0) (c .before .before .before .before .before .before .before .before .before .pre .1) (c .before .before .before .before .before .before .keep-front .ensures) (c .before .before .edit-back .ensures))
+returns c =
+    let at-edit-back = c .before .before in
+    let at-keep-front = at-edit-back .before .before .before .before in
+    let start = at-keep-front .before .before .before in
+    (standing-is (start .pre .0) (start .pre .1) (at-keep-front .keep-front .ensures) (at-edit-back .edit-back .ensures), table-is (start .pre .0) (start .pre .1) (at-keep-front .keep-front .ensures) (at-edit-back .edit-back .ensures))
 
 pub edit-table-spec : {M : Type 1} → statement M
 edit-table-spec =

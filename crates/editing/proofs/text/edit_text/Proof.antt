@@ -52,9 +52,25 @@ same-length c = search needs
 
 returns : tie.Need-returns
 returns c =
-    let start = c .before .before .before .before .before .before .before .before .before .before .before .before .before .before .args in (
-      sym (new-is (start .n) (start .s) (start .e) _ (c .before .before .before .before .before .before .before .before .before .before .before .before .before .before .pre .ordered) (c .before .before .before .before .before .before .before .before .before .before .before .before .before .before .pre .within)),
-      edit-is (start .text .now) (start .replacement .now) (start .n) (start .s) (start .e) (c .before .before .before .before .before .before .before .before .before .before .before .before .before .before .pre) _ _ _ (c .before .before .before .before .before .before .before .before .before .shift .ensures) (c .before .before .before .before .before .before .copy .ensures) (c .before .before .clear .ensures),
+    let at-clear = c .before .before in
+    let at-copy = at-clear .before .before .before .before in
+    let at-shift = at-copy .before .before .before in
+    let start = at-shift .before .before .before .before .before in
+    let at = start .args in (
+      sym (new-is (at .n) (at .s) (at .e) _ (start .pre .ordered) (start .pre .within)),
+      edit-is
+          (at .text .now)
+          (at .replacement .now)
+          (at .n)
+          (at .s)
+          (at .e)
+          (start .pre)
+          _
+          _
+          _
+          (at-shift .shift .ensures)
+          (at-copy .copy .ensures)
+          (at-clear .clear .ensures),
     )
 
 pub edit-text-spec : {M : Type 1} → statement M

@@ -23,7 +23,11 @@ same-length : tie.Need-same-length
 same-length c = search needs
 
 returns : tie.Need-returns
-returns c = fill-is (c .before .before .before .before .before .before .before .before .before .before .args .buffer .now) (c .before .before .before .before .before .before .before .before .before .before .args .text .now) _ _ (c .before .before .before .before .before .before .before .before .before .before .pre) (c .before .before .before .before .before .before .copy .ensures) (c .before .before .clear .ensures)
+returns c =
+    let at-clear = c .before .before in
+    let at-copy = at-clear .before .before .before .before in
+    let start = at-copy .before .before .before .before in
+    fill-is (start .args .buffer .now) (start .args .text .now) _ _ (start .pre) (at-copy .copy .ensures) (at-clear .clear .ensures)
 
 pub fill-spec : {M : Type 1} → statement M
 fill-spec =

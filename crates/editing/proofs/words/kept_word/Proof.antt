@@ -14,16 +14,22 @@ examined-of-requires c κs = search needs
 
 returns : tie.Need-returns
 returns c =
+    let at-if1 = c .before .before in
+    let at-is-held = at-if1 .before in
+    let start = at-is-held .before in
     sym
-    (kept (c .before .before .before .before .args .limit) (c .before .before .before .before .args .word) (sym (c .before .before .before .is-held .ensures) ∙ c .before .before .if1 .taken) (omega (arith, c .before .examined-of .ensures .0, c .if2 .taken)))
+    (kept (start .args .limit) (start .args .word) (sym (at-is-held .is-held .ensures) ∙ at-if1 .if1 .taken) (omega (arith, c .before .examined-of .ensures .0, c .if2 .taken)))
 
 returns-2 : tie.Need-returns-2
 returns-2 c =
+    let start = c .before .before .before .before in
     sym
-    (kept-not (c .before .before .before .before .args .limit) (c .before .before .before .before .args .word) (omega (arith, c .before .examined-of .ensures .0, c .if2 .left)))
+    (kept-not (start .args .limit) (start .args .word) (omega (arith, c .before .examined-of .ensures .0, c .if2 .left)))
 
 returns-3 : tie.Need-returns-3
-returns-3 c = sym (kept-empty (c .before .before .args .limit) (c .before .before .args .word) (sym (c .before .is-held .ensures) ∙ c .if1 .left))
+returns-3 c =
+    let start = c .before .before in
+    sym (kept-empty (start .args .limit) (start .args .word) (sym (c .before .is-held .ensures) ∙ c .if1 .left))
 
 pub kept-word-spec : {M : Type 1} → statement M
 kept-word-spec =
