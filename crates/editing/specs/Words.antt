@@ -31,7 +31,7 @@ heldTo f (suc n) = heldTo f n + heldBit (f n)
 abbrev pub keptAt : (rules s q : ℕ) → List ℕ → ℕ → ℕ
 keptAt rules s q words j = keptWord (s - (q + j / rules)) (at words j)
 
--- A loop filled a stretch of words, and c of the words f 0, f 1, .. are held, of as many as `count`.
+-- A loop filled the words from lo up to hi by f, and c of the words held 0, held 1, .. are held, of as many as `count`.
 pub record Counted (f : ℕ → ℕ) (old new : List ℕ) (lo hi : ℕ) (held : ℕ → ℕ) (count c : ℕ) : Type 0 where
   pub filled : Filled f old new lo hi
   pub counted : c ≡ heldTo held count
@@ -54,7 +54,7 @@ pub record Put (row old new : List ℕ) (rules c : ℕ) : Type 0 where
   pub filled : Filled (λ j. pick (isHeld (at row j)) (at row j) (at old j)) old new 0 rules
   pub counted : c + heldTo (at old) rules ≡ heldTo (at new) rules
 
--- One less, and the greatest word for 0.
+-- r has the held bit only where the word is 0 or held.
 pub record Lowered (word r : ℕ) : Type 0 where
   pub above : 2 ^ 63 ≤ r → word < 2 ^ 63 → word ≡ 0
 

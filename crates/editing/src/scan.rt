@@ -1,5 +1,4 @@
 // What there is in a stretch of words, in one pass that stores nothing.
-ghost use Prim.Native.Nat.{_+_, _-_, _<_};
 ghost use Rattle.editing.specs.Words.{Scanned, Lowered};
 
 // Of a stretch of words: how many are held, and whether it was seen that every word stays: that each is 0 or held, and that no held word
@@ -19,7 +18,7 @@ fn lowered(word: u64) -> u64
     word - 1
 }
 
-// The bits that any word has bound the examined fields. The held bit of `all` is set where each word is 0 or held.
+// The bits that any word has bound the examined fields. Where the held bit of `all` is left, each word is 0 or held.
 pub fn scan_words(part: &[u64], limit: usize) -> Scan
     ensures { λ r. ⌜ Scanned (now (part .entry)) limit r ⌝ }
 {
