@@ -22,7 +22,7 @@ use Rattle.editing.specs.Pairs.{standsAfter}
 use Rattle.editing.specs.Words.{heldBit, heldTo}
 use Rattle.editing.proofs.Held.{pick-by, held-add, held-same, held-list}
 use Rattle.editing.proofs.Slots.{row-room, position-of, rule-of}
-use Rattle.editing.proofs.TableLaw.{tabulate-long, tabulate-at, was-inside}
+use Rattle.editing.proofs.Cases.{tabulate-long, tabulate-at, was-inside}
 
 and-first : (a b : Bool) → (a && b) ≡ true → a ≡ true
 and-first true b e = refl

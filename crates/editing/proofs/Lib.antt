@@ -8,6 +8,7 @@ pub mod ScanLaw
 pub mod Rows
 pub mod Slots
 pub mod BackLaw
+pub mod Cases
 pub mod TableLaw
 pub mod Ledger
 pub mod Loans

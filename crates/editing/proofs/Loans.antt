@@ -14,7 +14,7 @@ use Rattle.editing.specs.Text.{EditFits, newLength, textAfter, opened, e
 use Rattle.editing.specs.Table.{slotOf, wordOf, tableSize, TableLent, wordAfter, wordsAfter, tableAfter, clearedTable}
 use Rattle.editing.specs.Pairs.{standsAfter}
 use Rattle.editing.proofs.Slots.{row-room}
-use Rattle.editing.proofs.TableLaw.{tabulate-long}
+use Rattle.editing.proofs.Cases.{tabulate-long}
 
 module _ (cap s e : ℕ) (text r : List ℕ) (fits : EditFits cap (length text) s e (length r)) where
   pub edited-long : length (edited text s e r) ≡ newLength (length text) s e (length r)

@@ -1,130 +1,27 @@
 -- Theorems `table-is` and `standing-is`: the front kept row by row and the back carried are the table after an edit, pair by pair, and as
 -- many words are held as the two counts say. Assumes nothing.
-use Prim.Native.Nat.{ℕ, zero, suc, _+_, _-_, _*_, _/_, _%_, _≤_, _<_}
+use Prim.Native.Nat.{ℕ, _+_, _-_, _*_, _/_, _%_, _≤_, _<_}
 use native.Mathlib.Omega.{arith}
-use native.Mathlib.Nat.{mul-le-mul-right, mod-lt}
-use mathlib.Core.Path.{_≡_, refl, sym, ap, ap₂, _∙_, subst}
-use mathlib.Core.Bool.{Bool, true, false, _&&_}
+use native.Mathlib.Nat.{mod-lt}
+use mathlib.Core.Path.{_≡_, sym, ap, ap₂, _∙_, subst}
 use mathlib.Core.Logic.{⊎-elim}
 use mathlib.Core.List.{List, _++_}
 use lib.ListN.{length, drop, length-append, length-drop}
 use lib.Seq.{getD-drop, ext-getD}
 use lib.Dec.{leb, ltb}
-use borrow.Author.Tests.{le-leb, lt-leb, lt-ltb, le-ltb, leb-true}
+use borrow.Author.Tests.{leb-true}
 use borrow.Rule.Slice.PartMut.{midOf, putMid}
 use Rattle.buffers.specs.Filled.{at}
 use Rattle.buffers.proofs.Fill.{cut}
 use Rattle.buffers.proofs.Parts.{mid-at, mid-long, put-long, put-before, put-inside, put-past, joined-first, joined-second}
-use Rattle.records.specs.Words.{isHeld, examinedOf}
+use Rattle.records.specs.Words.{isHeld}
 use Rattle.editing.specs.Text.{EditFits, newLength}
 use Rattle.editing.specs.Table.{pick, slotOf, wordOf, tableSize, TableLent, stays, comes, cameFrom, wordAfter, tabulate, wordsAfter, tableAfter, heldIn}
-use Rattle.editing.specs.Words.{onlyHeld, keptWord, heldTo, keptAt, Counted, cameWord, BackFits, Back}
+use Rattle.editing.specs.Words.{keptWord, heldTo, keptAt, Counted, cameWord, BackFits, Back}
 use Rattle.editing.proofs.TextLaw.{new-is}
 use Rattle.editing.proofs.Held.{held-add, held-same, held-list, held-most}
 use Rattle.editing.proofs.Slots.{row-room, room, position-of, slot-is, row-below}
-
--- A tabulated list.
-pub tabulate-long : (f : ℕ → ℕ) (n : ℕ) → length (tabulate f n) ≡ n
-tabulate-long f zero = refl
-tabulate-long f (suc n) = ap suc (tabulate-long (λ j. f (suc j)) n)
-
-pub tabulate-at : (f : ℕ → ℕ) (n j : ℕ) → j < n → at (tabulate f n) j ≡ f j
-tabulate-at f zero j h = absurd (omega arith)
-tabulate-at f (suc n) zero h = refl
-tabulate-at f (suc n) (suc j) h = tabulate-at (λ i. f (suc i)) n j (omega arith)
-
--- "q + examined ≤ s", said of what is left before s.
-same-test : (s q x : ℕ) → q ≤ s → leb x (s - q) ≡ leb (q + x) s
-same-test s q x h = ⊎-elim
-    (λ (p : s < q + x). lt-leb x (s - q) (omega arith) ∙ sym (lt-leb (q + x) s p))
-    (λ (p : q + x ≤ s). le-leb x (s - q) (omega arith) ∙ sym (le-leb (q + x) s p))
-    (cut s (q + x))
-
--- A word before s stays or is 0: the second case is behind the edit.
-kept-is :
-    (n s e k q w u : ℕ) → q < s → keptWord (s - q) w ≡ pick (stays s q w) w (pick (comes n s e k q u) u 0)
-unfolding keptWord
-kept-is n s e k q w u h =
-    simp (le-leb q s (omega arith), lt-leb (s + k) q (omega arith), same-test s q (examinedOf w) (omega arith))
-
--- A word at s stays where it examined nothing.
-stays-is : (s w y : ℕ) → pick (isHeld (keptWord 0 w)) (keptWord 0 w) y ≡ pick (stays s s w) w y
-unfolding keptWord
-stays-is s w y =
-    go (isHeld w) (leb (examinedOf w) 0) refl refl
-    ∙ ap
-    (λ (b : Bool). pick b w y)
-    (ap₂ _&&_ (sym (le-leb s s (omega arith))) (ap (λ (t : Bool). isHeld w && t) test))
-  where
-    test : leb (examinedOf w) 0 ≡ leb (s + examinedOf w) s
-    test = ap (leb (examinedOf w)) (let z : 0 ≡ s - s = omega arith in z) ∙ same-test s s (examinedOf w) (omega arith)
-
-    go :
-        (a b : Bool) → isHeld w ≡ a → leb (examinedOf w) 0 ≡ b
-        → pick (isHeld (pick (isHeld w && leb (examinedOf w) 0) w 0)) (pick (isHeld w && leb (examinedOf w) 0) w 0) y
-        ≡ pick (isHeld w && leb (examinedOf w) 0) w y
-    go true true p q = simp (p, q)
-    go true false p q = simp (p, q)
-    go false b p q = simp p
-
--- A word past s cannot stay.
-comes-only : (s q w y : ℕ) → s < q → y ≡ pick (stays s q w) w y
-comes-only s q w y h = simp (lt-leb q s h)
-
--- The word that came, slot by slot and pair by pair.
-came-is :
-    (a b c d : Bool) (u v : ℕ) → a ≡ c → b ≡ d → (c ≡ true → d ≡ true → v ≡ u) → pick (a && b) (onlyHeld v) 0 ≡ pick (c && (d && isHeld u)) u 0
-came-is a b c d u v p q w = ap₂ (λ (x y : Bool). pick (x && y) (onlyHeld v) 0) p q ∙ go c d w
-  where
-    go : (x y : Bool) → (x ≡ true → y ≡ true → v ≡ u) → pick (x && y) (onlyHeld v) 0 ≡ pick (x && (y && isHeld u)) u 0
-    go false y h = refl
-    go true false h = refl
-    go true true h = ap onlyHeld (h refl refl)
-
-module _ (R s k rule : ℕ) (below : rule < R) where
-  -- Which slots lie behind the new words.
-  from-new : (d : ℕ) → leb (k * R) (d * R + rule) ≡ leb (s + k) (s + d)
-  from-new d = ⊎-elim
-      (λ (p : d < k).
-      let m = row-room R d k p in
-      lt-leb (k * R) (d * R + rule) (omega arith) ∙ sym (lt-leb (s + k) (s + d) (omega arith)))
-      (λ (p : k ≤ d).
-      let m : k * R ≤ d * R = mul-le-mul-right R p in
-      le-leb (k * R) (d * R + rule) (omega arith) ∙ sym (le-leb (s + k) (s + d) (omega arith)))
-      (cut d k)
-
-  -- And before the end of the carried ones.
-  to-end : (d t m : ℕ) → m ≡ s + k + t → ltb (d * R + rule) (k * R + (t + 1) * R) ≡ leb (s + d) m
-  to-end d t m e = ⊎-elim
-      (λ (p : d < k + (t + 1)).
-      let l = row-room R d (k + (t + 1)) p in
-      lt-ltb (d * R + rule) (k * R + (t + 1) * R) (omega arith) ∙ sym (le-leb (s + d) m (omega arith)))
-      (λ (p : k + (t + 1) ≤ d).
-      let l : (k + (t + 1)) * R ≤ d * R = mul-le-mul-right R p in
-      le-ltb (d * R + rule) (k * R + (t + 1) * R) (omega arith) ∙ sym (lt-leb (s + d) m (omega arith)))
-      (cut d (k + (t + 1)))
-
-  moved : (i g : ℕ) → s * R + (g * R + ((k + i) * R + rule - k * R)) ≡ (s + i + g) * R + rule
-  moved i g =
-      let e : (k + i) * R + rule - k * R ≡ i * R + rule = omega arith in
-      ap (λ (x : ℕ). s * R + (g * R + x)) e ∙ (let o : s * R + (g * R + (i * R + rule)) ≡ (s + i + g) * R + rule = omega arith in o)
-
-  -- Where a carried word was.
-  came-from : (d e : ℕ) → k ≤ d → s * R + ((e - s) * R + (d * R + rule - k * R)) ≡ slotOf R rule (cameFrom s e k (s + d))
-  came-from d e h =
-      let i : ℕ = d - k in
-      let a : d ≡ k + i = omega arith in
-      ap (λ (x : ℕ). s * R + ((e - s) * R + (x * R + rule - k * R))) a
-      ∙ moved i (e - s)
-      ∙ ap (λ (x : ℕ). x * R + rule) (let o : s + i + (e - s) ≡ s + d - k + (e - s) = omega arith in o)
-
--- A position that a carried pair had is in the old text.
-pub was-inside :
-    (n s e k i cap : ℕ) → s + k ≤ s + i → s + i ≤ newLength n s e k → s ≤ e → e ≤ n → n ≤ cap → cameFrom s e k (s + i) < cap + 1
-was-inside n s e k i cap x y a b l = omega arith
-
-below-rest : (a i j size : ℕ) → a + i ≡ j → j < size → i < size - a
-below-rest a i j size e h = omega arith
+use Rattle.editing.proofs.Cases.{tabulate-long, tabulate-at, kept-is, stays-is, comes-only, came-is, from-new, to-end, came-from, was-inside, below-rest}
 
 -- The end of the rows before s, and the words from there on, lie in the table.
 front-room : (R cap s : ℕ) → s ≤ cap → s * R ≤ tableSize R cap
