@@ -5,6 +5,7 @@
 //! images and texts.
 
 pub mod big_images;
+pub mod calls;
 pub mod expr;
 pub mod generate;
 pub mod image_check;

@@ -36,6 +36,13 @@ pub fn guarded(rng: &mut Rng, rules: usize, nodes: usize) -> Grammar {
     }
 }
 
+/// Makes the rule with the most nodes the start rule; many of the others are a single leaf.
+pub fn start_with_the_biggest(grammar: &mut Grammar) {
+    let rules = 0..grammar.rules.len();
+    let biggest = rules.max_by_key(|&rule| grammar.rules[rule].nodes());
+    grammar.start = biggest.expect("a grammar has a rule") as u8;
+}
+
 /// Writes the body of one rule.
 struct Writer<'a> {
     rng: &'a mut Rng,

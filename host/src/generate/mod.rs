@@ -1,18 +1,28 @@
-//! Grammars of a stated number of rules and nodes, texts for them, and changes in both.
+//! Grammars of a stated number of rules and nodes, texts for them, changes in both, and calls.
 
+mod brackets;
+mod calls;
 mod change;
+mod empties;
 mod every;
 mod fields;
 mod guarded;
 mod letters;
+mod shapes;
+mod small;
 mod texts;
 mod wild;
 
+pub use brackets::brackets_of_nesting;
+pub use calls::Typist;
 pub use change::change_one_node;
+pub use empties::add_empty_rules;
 pub use every::each_grammar;
 pub use fields::{change_field, set_bits, set_root};
-pub use guarded::guarded;
+pub use guarded::{guarded, start_with_the_biggest};
 pub use letters::{fold_to_letters, letter, some_letters};
+pub use shapes::{Shape, SHAPES};
+pub use small::small_grammar;
 pub use texts::{damage, text_of};
 pub use wild::{wild, Taste, TASTES};
 

@@ -6,10 +6,13 @@
 //! begins. That is why the reach minus the own position is the examined length of the paper's rules.
 //!
 //! What a rule gave at a position is kept, together with the work that an evaluation without
-//! records has there.
+//! records has there. After the start pair's evaluation exactly the reached pairs are kept.
 
+use super::pair_map::PairMap;
 use crate::expr::{Expr, Grammar};
-use std::collections::HashMap;
+
+/// A rule and a position.
+pub type Pair = (u8, usize);
 
 /// What an evaluation gave.
 #[derive(Clone, Copy, Debug, PartialEq, Eq)]
@@ -24,20 +27,29 @@ pub struct Found {
 
 /// The start pair's evaluation by an accepted grammar; nothing where it has more than `most_work`.
 pub fn evaluate_start(grammar: &Grammar, text: &[u8], most_work: u64) -> Option<Found> {
-    let machine = Machine {
-        rules: &grammar.rules,
-        text,
-        kept: HashMap::new(),
-        open: vec![],
-    };
-    machine.run(grammar.start, most_work)
+    let kept = &mut PairMap::default();
+    Machine::new(grammar, text, kept).run((grammar.start, 0), most_work)
+}
+
+/// A pair's evaluation on a text. `kept` has what pairs gave on this text, and gains what is
+/// evaluated: the pair itself and the pairs that are called meanwhile.
+pub fn evaluate_pair(
+    grammar: &Grammar,
+    text: &[u8],
+    kept: &mut PairMap<Found>,
+    pair: Pair,
+) -> Found {
+    if let Some(found) = kept.get(&pair) {
+        return *found;
+    }
+    let found = Machine::new(grammar, text, kept).run(pair, u64::MAX);
+    found.expect("the work is not bounded")
 }
 
 struct Machine<'g> {
     rules: &'g [Expr],
     text: &'g [u8],
-    /// By rule and position.
-    kept: HashMap<(u8, usize), Found>,
+    kept: &'g mut PairMap<Found>,
     open: Vec<Open<'g>>,
 }
 
@@ -61,9 +73,18 @@ enum Next<'g> {
 }
 
 impl<'g> Machine<'g> {
-    fn run(mut self, start: u8, most_work: u64) -> Option<Found> {
+    fn new(grammar: &'g Grammar, text: &'g [u8], kept: &'g mut PairMap<Found>) -> Machine<'g> {
+        Machine {
+            rules: &grammar.rules,
+            text,
+            kept,
+            open: vec![],
+        }
+    }
+
+    fn run(mut self, pair: Pair, most_work: u64) -> Option<Found> {
         let mut begun = 0;
-        let mut next = Next::Begin(self.body(start), 0);
+        let mut next = Next::Begin(self.body(pair.0), pair.1);
         loop {
             next = match next {
                 Next::Begin(..) if begun == most_work => return None,
@@ -73,7 +94,10 @@ impl<'g> Machine<'g> {
                 }
                 Next::HandOn(part) => match self.open.pop() {
                     Some(open) => self.go_on(open.with(&part), part),
-                    None => return (part.work <= most_work).then_some(part),
+                    None => {
+                        self.kept.insert(pair, part);
+                        return (part.work <= most_work).then_some(part);
+                    }
                 },
             }
         }

@@ -7,12 +7,21 @@
 //! The recogniser works on the trees with a stack of its own and keeps what each rule gave at each
 //! position; it reads at any depth. `recursive` is a second one, which follows the paper's sentences
 //! without keeping anything.
+//!
+//! The ledger is the paper's plain ledger over that recogniser. `lent` and `lent_reading` say what
+//! single calls do with any lent words, true or not.
 
+mod evaluation;
 mod header;
+pub mod ledger;
+pub mod lent;
+pub mod lent_reading;
 pub mod machine;
 mod occurrences;
 mod outcomes;
+pub mod pair_map;
 mod reading;
+pub mod record;
 pub mod recursive;
 mod rings;
 mod top_bits;

@@ -1,6 +1,6 @@
 //! A plain reading from what the machine found: questions 8 and 14, and whole, part or nothing.
 
-use super::machine::evaluate_start;
+use super::machine::{evaluate_start, Found};
 use super::Refusal;
 use crate::expr::Grammar;
 use crate::plain_reading::{Outcome, Reading};
@@ -22,16 +22,20 @@ pub fn read(grammar: &Grammar, text: &[u8], most_work: u64) -> Option<Result<Rea
     if found.nesting > MOST_NESTING {
         return Some(Err(14));
     }
-    let outcome = match found.end {
-        None => Outcome::Nothing,
-        Some(end) if end < text.len() => Outcome::Part,
-        Some(_) => Outcome::Whole,
-    };
+    Some(Ok(of_start(&found, text.len())))
+}
+
+/// The reading that the start pair's evaluation on a text of `n` bytes is.
+pub fn of_start(found: &Found, n: usize) -> Reading {
     // The start pair begins at position 0, so that positions are lengths.
-    Some(Ok(Reading {
-        outcome,
+    Reading {
+        outcome: match found.end {
+            None => Outcome::Nothing,
+            Some(end) if end < n => Outcome::Part,
+            Some(_) => Outcome::Whole,
+        },
         length: found.end.unwrap_or(0),
         examined: found.reach,
         nesting: found.nesting,
-    }))
+    }
 }

@@ -3,7 +3,9 @@
 use super::subject::Subject;
 use super::tally::Tally;
 use bannelgo_host::expr::Grammar;
-use bannelgo_host::generate::{damage, fold_to_letters, guarded, some_letters, text_of};
+use bannelgo_host::generate::{
+    damage, fold_to_letters, guarded, some_letters, start_with_the_biggest, text_of,
+};
 use bannelgo_host::numbering::Numbering;
 use bannelgo_host::rng::Rng;
 
@@ -34,13 +36,6 @@ pub fn bytes(seed: u64) -> Tally {
         compare_texts(&mut tally, rng, &grammar, 60);
     }
     tally
-}
-
-/// Makes the rule with the most nodes the start rule; many of the others are a single leaf.
-fn start_with_the_biggest(grammar: &mut Grammar) {
-    let rules = 0..grammar.rules.len();
-    let biggest = rules.max_by_key(|&rule| grammar.rules[rule].nodes());
-    grammar.start = biggest.expect("a grammar has a rule") as u8;
 }
 
 /// The empty text, texts that probably match, their beginnings, damaged ones and any letters.

@@ -1,0 +1,101 @@
+//! Calls on an open sheet: keys close together, readings and look-ups, and some that are refused.
+
+use super::letters::some_letters;
+use super::texts::text_of;
+use crate::calls::Call;
+use crate::expr::Grammar;
+use crate::rng::Rng;
+
+/// Makes calls one after the other. Most edits are near the one before.
+#[derive(Default)]
+pub struct Typist {
+    cursor: usize,
+}
+
+impl Typist {
+    /// A call on a sheet that has this text and room for `cap` bytes.
+    pub fn call(&mut self, rng: &mut Rng, grammar: &Grammar, text: &[u8], cap: usize) -> Call {
+        match rng.below(20) {
+            0..=7 => self.edit(rng, grammar, text, cap),
+            8..=14 => Call::Read,
+            15..=18 => look_up(rng, grammar, text.len()),
+            _ => refused(rng, grammar, text.len(), cap),
+        }
+    }
+
+    /// An edit that fits, if only by taking in less.
+    fn edit(&mut self, rng: &mut Rng, grammar: &Grammar, text: &[u8], cap: usize) -> Call {
+        let n = text.len();
+        let start = self.place(rng, n);
+        let removed = match rng.below(8) {
+            0..=3 => 0,
+            4 | 5 => 1,
+            6 => rng.below(n - start + 1),
+            _ => n - start,
+        };
+        let end = start + removed.min(n - start);
+        let mut replacement = match rng.below(8) {
+            0 | 1 => vec![],
+            2..=4 => some_letters(rng, 1),
+            5 => some_letters(rng, 4),
+            6 => text[start..end].to_vec(),
+            _ => text_of(rng, grammar, 20),
+        };
+        replacement.truncate(cap - (n - (end - start)));
+        self.cursor = start + replacement.len();
+        Call::Edit {
+            start,
+            end,
+            replacement,
+        }
+    }
+
+    fn place(&self, rng: &mut Rng, n: usize) -> usize {
+        match rng.below(8) {
+            0 => 0,
+            1 => n,
+            2 | 3 => rng.below(n + 1),
+            4 => self.cursor.saturating_sub(rng.below(3)).min(n),
+            _ => (self.cursor + rng.below(3)).min(n),
+        }
+    }
+}
+
+fn look_up(rng: &mut Rng, grammar: &Grammar, n: usize) -> Call {
+    Call::LookUp {
+        rule: rng.below(grammar.rules.len()),
+        position: rng.below(n + 1),
+    }
+}
+
+/// A call that fails question 9, 10 or 11, some by one and some by far.
+fn refused(rng: &mut Rng, grammar: &Grammar, n: usize, cap: usize) -> Call {
+    let far = *rng.pick(&[1, 2, 1_000, usize::MAX / 64, usize::MAX - n - cap - 64]);
+    let edit = |start, end, length: usize| Call::Edit {
+        start,
+        end,
+        replacement: vec![b'a'; length],
+    };
+    let start = rng.below(n + 1);
+    let too_long = cap - n + 1 + rng.below(3);
+    let rules = grammar.rules.len();
+    match rng.below(8) {
+        0 => edit(start, n + far, rng.below(cap + 3)),
+        1 => edit(n + far, n + far, rng.below(2)),
+        2 => edit(start + far, start, rng.below(2)),
+        3 => edit(start, start, too_long),
+        4 => edit(start, n, too_long + n - start),
+        5 => Call::LookUp {
+            rule: rules - 1 + far,
+            position: start,
+        },
+        6 => Call::LookUp {
+            rule: rng.below(rules),
+            position: n + far,
+        },
+        _ => Call::LookUp {
+            rule: rules - 1 + far,
+            position: n + far,
+        },
+    }
+}
