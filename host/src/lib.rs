@@ -11,6 +11,7 @@ pub mod generate;
 pub mod image_check;
 pub mod image_words;
 pub mod numbering;
+pub mod packrat;
 pub mod plain_reading;
 pub mod questions;
 pub mod raw;

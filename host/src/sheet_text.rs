@@ -1,4 +1,4 @@
-//! Texts that the grammar in `sheet` matches whole.
+//! Texts that the grammars in `sheet` match whole, and keys that are typed into them.
 
 /// What a planner types: a title, comments, and gaps with a colour, two times and values.
 pub const PLANNERS_SHEET: &str = "\
@@ -18,6 +18,18 @@ const COLOURS: [&str; 5] = ["amber", "red", "grey", "green", "light_blue"];
 
 /// A sheet of exactly so many bytes, at least 15 of them. The last line is a comment that fills up.
 pub fn long_sheet(bytes: usize) -> Vec<u8> {
+    sheet_with(bytes, line)
+}
+
+/// The same for the grammars for typing: each day has a heading and 40 lines.
+pub fn long_sheet_of_days(bytes: usize) -> Vec<u8> {
+    sheet_with(bytes, |number| match number % 41 {
+        0 => format!("@ Day {}\n", number / 41 + 1),
+        _ => line(number),
+    })
+}
+
+fn sheet_with(bytes: usize, line: impl Fn(usize) -> String) -> Vec<u8> {
     let mut text = TITLE.to_string();
     for number in 0.. {
         let line = line(number);
@@ -48,4 +60,28 @@ fn entry(number: usize) -> String {
         "{colour}; {hour:02}:{minute:02}:00 / {:02}:{minute:02}:00; {whole}.{hundredths:02}, ?, -{whole}\n",
         hour + 1
     )
+}
+
+/// What is typed at the end of a line: an entry, a comment and an entry that stays unfinished.
+const TYPED: &str =
+    "\namber; 06:15:00 / 07:00:00; 12.4, ?\n# copied from week 10\nred; 16:15:00 / 17";
+
+/// The keys of a planner, one byte each, without end.
+pub fn keys() -> impl Iterator<Item = u8> {
+    TYPED.bytes().cycle()
+}
+
+/// The end of a line, in front of its newline: the first one at or after a place.
+pub fn end_of_line(text: &[u8], place: usize) -> usize {
+    let newline = text[place..].iter().position(|&byte| byte == b'\n');
+    place + newline.expect("a sheet ends with a newline")
+}
+
+/// Where the keys are typed: the end of the first day's heading, of a line in the middle, of the last line.
+pub fn typing_places(text: &[u8]) -> [(&'static str, usize); 3] {
+    [
+        ("start", end_of_line(text, TITLE.len())),
+        ("middle", end_of_line(text, text.len() / 2)),
+        ("end", end_of_line(text, text.len() - 1)),
+    ]
 }
