@@ -1,85 +1,22 @@
-//! Checks the paper's sample images and reads sample texts with the proved library, and prints what
-//! it says.
+//! Plain readings of sample texts.
 
-use bannelgo_host::image_check::check_image;
+use crate::lines::{print_line, print_lines};
 use bannelgo_host::numbering::{image_of, Numbering};
 use bannelgo_host::plain_reading::{plain_reading, Reading, Refusal};
-use bannelgo_host::questions::question_in_words;
-use bannelgo_host::reference::{self, read_grammar};
-use bannelgo_host::samples::{Sample, D2, M10, SAMPLES};
+use bannelgo_host::reference;
+use bannelgo_host::samples::{D2, M10};
 use bannelgo_host::sheet::sheet;
 use bannelgo_host::sheet_text::PLANNERS_SHEET;
-use std::process::ExitCode;
 
-fn main() -> ExitCode {
-    println!("Bannelgo's gap-sheet reader: the image check");
-    for sample in &SAMPLES {
-        print_sample(sample);
-    }
+/// Prints the texts and answers how many got another reading than the reference's.
+pub fn print() -> usize {
     println!("\nBannelgo's gap-sheet reader: plain readings");
     let texts = sample_texts();
     for text in &texts {
         text.print();
     }
-    let wrong_images = SAMPLES
-        .iter()
-        .filter(|sample| check_image(sample.image).number() != sample.number);
-    let wrong_readings = texts.iter().filter(|text| text.read() != text.expected());
-    match wrong_images.count() + wrong_readings.count() {
-        0 => ExitCode::SUCCESS,
-        count => {
-            eprintln!("{count} samples got another answer than expected");
-            ExitCode::FAILURE
-        }
-    }
-}
-
-fn print_line(name: &str, label: &str, text: &str) {
-    let line = format!("{name:<7}{label:<10}{text}");
-    println!("{}", line.trim_end());
-}
-
-/// The first line after the label, the others below it.
-fn print_lines<'a>(name: &str, label: &str, lines: impl Iterator<Item = &'a str>) {
-    for (place, line) in lines.enumerate() {
-        match place {
-            0 => print_line(name, label, line),
-            _ => print_line("", "", line),
-        }
-    }
-}
-
-fn print_sample(sample: &Sample) {
-    let answer = check_image(sample.image);
-    println!();
-    print_line(sample.name, "about", sample.about);
-    print_line("", "bytes", &sample.image.len().to_string());
-    let grammar = grammar_lines(sample.image);
-    print_lines("", "grammar", grammar.iter().map(String::as_str));
-    print_line("", "number", &answer.number().to_string());
-    let label = if answer.accepted() {
-        "accepted"
-    } else {
-        "fails"
-    };
-    print_line("", label, answer.in_words());
-    if answer.number() != sample.number {
-        let expected = format!("{}: {}", sample.number, question_in_words(sample.number));
-        print_line("", "expected", &expected);
-    }
-}
-
-/// A line for each rule. The grammar is read from the image's own bytes.
-fn grammar_lines(image: &[u8]) -> Vec<String> {
-    match read_grammar(image) {
-        Err(number) => vec![format!("none can be read: {}", question_in_words(number))],
-        Ok(grammar) => {
-            let rules = grammar.rules.iter().enumerate();
-            rules
-                .map(|(rule, body)| format!("rule {rule} = {body}"))
-                .collect()
-        }
-    }
+    let wrong = texts.iter().filter(|text| text.read() != text.expected());
+    wrong.count()
 }
 
 /// A text and the image that it is read by.
