@@ -16,6 +16,7 @@ use Rattle.reading.specs.Model.{Out, Evaluator, pairM, ruleM, kindM, nod
 use Rattle.reading.specs.Loaded.{wordB, wordNode, rulesIn, LoadedWord, Loaded, nodeW, wordM}
 use Rattle.reading.specs.Gives.{Gives}
 use Rattle.reading.specs.Plain.{StartWord}
+use Rattle.reading.specs.Session.{StartOver}
 use Rattle.reading.proofs.Rules.{node-goes, rule-refused, rule-stored}
 
 module _ (w : ℕ) {f : image.Node} (s : WordFields w f) where
@@ -104,3 +105,17 @@ module _ (img text : List ℕ) {ws : List ℕ} (l : Loaded img ws) (short : leng
                 rule-stored (rules img) (root img (start img)) text (nodeM img text 4096) 4096 (start img) 0 [] 0 {word = 0} refl short (omega arith) refl body
                 (ltb-false word 16 e);
           }
+
+-- The same for a pair.
+pub loaded-pair :
+    (img text : List ℕ) {ws : List ℕ} (l : Loaded img ws) (left r at : ℕ) (t : List ℕ) (c : ℕ)
+    → pairM (rulesIn ws) (root img r) text (nodeW ws text left) left r at t c ≡ ruleM img text (nodeM img text left) left r at t c
+loaded-pair img text l left r at t c =
+    λ k. pairM (l .rules-are k) (root img r) text (λ j p u d. loaded-run img text l left j p u d k) left r at t c
+
+pub start-over-given :
+    (img text : List ℕ) {ws : List ℕ} (l : Loaded img ws) (t : List ℕ) (c : ℕ) {word d : ℕ} {u : List ℕ}
+    → Gives (length text) 0 4096 (pairM (rulesIn ws) (root img (start img)) text (nodeW ws text 4096) 4096 (start img) 0 t c) word u d
+    → StartOver img text t c word u d
+start-over-given img text l t c {word} {d} {u} g =
+    subst (λ (o : Out). Gives (length text) 0 4096 o word u d) (loaded-pair img text l 4096 (start img) 0 t c) g

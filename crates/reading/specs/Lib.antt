@@ -2,6 +2,7 @@
 pub mod Plain
 pub mod Model
 pub mod Gives
+pub mod Session
 pub mod Loaded
 pub mod Code
 pub mod Over

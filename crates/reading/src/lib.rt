@@ -6,4 +6,5 @@ mod evaluate;
 mod loaded;
 mod memo;
 pub mod plain;
+pub mod session;
 mod terminals;

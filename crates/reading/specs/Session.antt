@@ -1,0 +1,11 @@
+-- The start pair over lent records: its word, or the number of a refusal, and the table and the count that the run leaves.
+use Prim.Native.Nat.{ℕ}
+use mathlib.Core.List.{List}
+use lib.ListN.{length}
+use Rattle.grammar.specs.Image.{start}
+use Rattle.reading.specs.Model.{nodeM, ruleM}
+use Rattle.reading.specs.Gives.{Gives}
+
+abbrev pub StartOver : (img text table : List ℕ) (count word : ℕ) (after : List ℕ) (counted : ℕ) → Type 0
+StartOver img text table count word after counted =
+    Gives (length text) 0 4096 (ruleM img text (nodeM img text 4096) 4096 (start img) 0 table count) word after counted
