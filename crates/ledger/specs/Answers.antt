@@ -1,0 +1,43 @@
+-- The paper's number and values for each case of each answer. The number of an answered call is 0; a refusal has its number and no
+-- values. The values of an answered reading are made here; those of the other calls are what their constructors hold.
+use Prim.Native.Nat.{ℕ}
+use mathlib.Core.Bool.{Bool}
+use lib.Dec.{eqb}
+use Rattle.grammar.specs.declared.Evaluation.{Evaluation}
+use Rattle.reading.specs.Plain.{outcomeOf}
+use Rattle.ledger.specs.declared.OpenAnswer.{OpenAnswer}
+use Rattle.ledger.specs.declared.EditAnswer.{EditAnswer}
+use Rattle.ledger.specs.declared.LookUpAnswer.{LookUpAnswer}
+use Rattle.ledger.specs.declared.ReadAnswer.{ReadAnswer}
+use Rattle.ledger.specs.declared.SheetReading.{SheetReading}
+
+-- "The answer is the text's length n."
+abbrev pub openNumber : OpenAnswer → ℕ
+openNumber (OpenAnswer.Opened n) = 0
+openNumber (OpenAnswer.Refused k) = k
+
+-- "The answer gives the new length and the number of pairs standing."
+abbrev pub editNumber : EditAnswer → ℕ
+editNumber (EditAnswer.Edited x) = 0
+editNumber (EditAnswer.Refused k) = k
+
+-- "Look-up: gives the true word of a held pair, else 0."
+abbrev pub lookUpNumber : LookUpAnswer → ℕ
+lookUpNumber (LookUpAnswer.Word w) = 0
+lookUpNumber (LookUpAnswer.Refused k) = k
+
+abbrev pub readNumber : ReadAnswer → ℕ
+readNumber (ReadAnswer.Read x) = 0
+readNumber (ReadAnswer.Refused k) = k
+
+-- "Reading: the answer is the start pair's evaluation, as whole, part or none": of a text of n bytes, the evaluation z and so many
+-- evaluations. `outcomeOf` is whole where z matched and its length is n, part where it matched with another, and nothing where it failed.
+abbrev pub sheetReading : (n : ℕ) → Evaluation → (evaluations : ℕ) → SheetReading
+sheetReading n z count =
+    record {
+      outcome = outcomeOf (z .matched) (eqb (z .length) n);
+      length = z .length;
+      examined = z .examined;
+      nesting = z .nesting;
+      evaluations = count;
+    }

@@ -1,0 +1,150 @@
+-- The plain ledger: "a text and a set of pairs, the ones held. It is fed the image, cap and what each call itself brings [..], and nothing
+-- that the program keeps or answers." Its state has the image too, which no call changes yet.
+use Prim.Native.Nat.{ℕ, _+_, _≤_, _<_}
+use mathlib.Core.Path.{_≡_}
+use mathlib.Core.Bool.{Bool, true, false, not, _&&_, _||_}
+use mathlib.Core.List.{List, [], _∷_, _++_}
+use mathlib.Core.Logic.{_↔_}
+use lib.ListN.{length, take, drop}
+use lib.Dec.{leb, ltb}
+use Rattle.grammar.specs.declared.Evaluation.{Evaluation}
+use Rattle.grammar.specs.Image.{rules, start}
+use Rattle.grammar.specs.Questions.{Accepted}
+use Rattle.grammar.specs.Evaluates.{Fresh, a-pair}
+use Rattle.evaluation.specs.Calls.{Reached}
+use Rattle.evaluation.specs.Counts.{countPairs}
+use Rattle.records.specs.Words.{wordOf}
+use Rattle.editing.specs.Text.{newLength}
+use Rattle.editing.specs.Table.{pick}
+use Rattle.editing.specs.Pairs.{standsAfter}
+use Rattle.ledger.specs.declared.EditAnswer.{EditAnswer}
+use Rattle.ledger.specs.declared.EditedSheet.{EditedSheet}
+use Rattle.ledger.specs.declared.LookUpAnswer.{LookUpAnswer}
+use Rattle.ledger.specs.declared.ReadAnswer.{ReadAnswer}
+use Rattle.ledger.specs.declared.SheetReading.{SheetReading}
+use Rattle.ledger.specs.Answers.{sheetReading}
+
+-- What the ledger knows of a text: the evaluation of each pair by Ford's rules without records, and which pairs are reached. Any
+-- functions that give these will do; Evaluations.antt of proofs/ has such functions, and shows that all give the same.
+pub record Evaluations : Type 0 where
+  pub value : (img text : List ℕ) (rule position : ℕ) → Evaluation
+  pub value-is :
+      (img text : List ℕ) → Accepted img → (rule position : ℕ) → rule < rules img → position ≤ length text
+      → Fresh img text (a-pair rule) position (value img text rule position)
+  pub reached : (img text : List ℕ) (rule position : ℕ) → Bool
+  pub reached-is :
+      (img text : List ℕ) → Accepted img → (rule position : ℕ)
+      → (reached img text rule position ≡ true) ↔ Reached img text (record { rule = rule; position = position })
+
+-- What each call itself brings: "s, e and r; rule and position".
+pub data Call : Type 0 where
+  edit : (s e : ℕ) (r : List ℕ) → Call
+  reading : Call
+  look-up : (rule position : ℕ) → Call
+
+pub data Reply : Type 0 where
+  edits : EditAnswer → Reply
+  reads : ReadAnswer → Reply
+  finds : LookUpAnswer → Reply
+
+pub record Ledger : Type 0 where
+  pub image : List ℕ
+  pub text : List ℕ
+  pub held : (rule position : ℕ) → Bool
+
+-- "Open: copies the text, [..]; the set is empty."
+abbrev pub openedLedger : (img text : List ℕ) → Ledger
+openedLedger img text = record { image = img; text = text; held = λ r q. false }
+
+-- What a call answers and what it leaves.
+pub record Turn : Type 0 where
+  pub reply : Reply
+  pub left : Ledger
+
+-- "It asks questions 9 to 11, 14 [..] of its own text".
+abbrev pub passes9 : Ledger → (s e : ℕ) → Bool
+passes9 l s e = leb s e && leb e (length (l .text))
+
+abbrev pub passes10 : (cap : ℕ) → Ledger → (s e : ℕ) → (r : List ℕ) → Bool
+passes10 cap l s e r = leb (newLength (length (l .text)) s e (length r)) cap
+
+abbrev pub passes11 : Ledger → (rule position : ℕ) → Bool
+passes11 l rule position = ltb rule (rules (l .image)) && leb position (length (l .text))
+
+-- "bytes s to e − 1 give way to r"
+abbrev pub editedText : Ledger → (s e : ℕ) → List ℕ → List ℕ
+editedText l s e r = take s (l .text) ++ (r ++ drop e (l .text))
+
+-- How many pairs of a text pass a test.
+abbrev pub pairsOf : (img text : List ℕ) → (ℕ → ℕ → Bool) → ℕ
+pairsOf img text test = countPairs (rules img) (length text + 1) test
+
+module _ (ev : Evaluations) where
+  abbrev pub passes14 : Ledger → Bool
+  passes14 l = leb (ev .value (l .image) (l .text) (start (l .image)) 0 .nesting) 4096
+
+  -- The pairs that stand after an edit. "Examined is the fresh one on the old text".
+  abbrev pub standing : Ledger → (s e : ℕ) → List ℕ → (rule q : ℕ) → Bool
+  standing l s e r rule q =
+      standsAfter (l .held rule) (λ p. ev .value (l .image) (l .text) rule p .examined) (length (l .text)) s e (length r) q
+
+  -- "a call that fails one gets that number", and "changes nothing". "The answer gives the new length and the number of pairs standing."
+  abbrev pub editTurn : (passes9 passes10 : Bool) → Ledger → (s e : ℕ) → List ℕ → Turn
+  editTurn false b l s e r = record { reply = edits (EditAnswer.Refused 9); left = l }
+  editTurn true false l s e r = record { reply = edits (EditAnswer.Refused 10); left = l }
+  editTurn true true l s e r =
+      record {
+        reply =
+            edits
+            (EditAnswer.Edited
+            (record {
+              length = length (editedText l s e r);
+              standing = pairsOf (l .image) (editedText l s e r) (standing l s e r);
+            }));
+        left = record { image = l .image; text = editedText l s e r; held = standing l s e r };
+      }
+
+  -- "Reading: the answer is the start pair's evaluation, as whole, part or none [..]. The set gains every reached pair. Evaluations counts
+  -- reached pairs not held before. A reading refused with 14 empties the set."
+  abbrev pub readTurn : (passes14 : Bool) → Ledger → Turn
+  readTurn false l = record { reply = reads (ReadAnswer.Refused 14); left = openedLedger (l .image) (l .text) }
+  readTurn true l =
+      record {
+        reply =
+            reads
+            (ReadAnswer.Read
+            (sheetReading (length (l .text)) (ev .value (l .image) (l .text) (start (l .image)) 0)
+            (pairsOf (l .image) (l .text) (λ rule q. ev .reached (l .image) (l .text) rule q && not (l .held rule q)))));
+        left =
+            record {
+              image = l .image;
+              text = l .text;
+              held = λ rule q. l .held rule q || ev .reached (l .image) (l .text) rule q;
+            };
+      }
+
+  -- "Look-up: gives the true word of a held pair, else 0."
+  abbrev pub lookUpTurn : (passes11 : Bool) → Ledger → (rule position : ℕ) → Turn
+  lookUpTurn false l rule position = record { reply = finds (LookUpAnswer.Refused 11); left = l }
+  lookUpTurn true l rule position =
+      record {
+        reply =
+            finds
+            (LookUpAnswer.Word
+            (pick (l .held rule position) (wordOf (ev .value (l .image) (l .text) rule position)) 0));
+        left = l;
+      }
+
+  unfoldable pub turn : (cap : ℕ) → Ledger → Call → Turn
+  turn cap l (edit s e r) = editTurn (passes9 l s e) (passes10 cap l s e r) l s e r
+  turn cap l reading = readTurn (passes14 l) l
+  turn cap l (look-up rule position) = lookUpTurn (passes11 l rule position) l rule position
+
+  -- A list of calls: every reply along it, and what is left.
+  unfoldable pub replies : (cap : ℕ) → Ledger → List Call → List Reply
+  replies cap l [] = []
+  replies cap l (c ∷ cs) = turn cap l c .reply ∷ replies cap (turn cap l c .left) cs
+
+  unfoldable pub leftBy : (cap : ℕ) → Ledger → List Call → Ledger
+  leftBy cap l [] = l
+  leftBy cap l (c ∷ cs) = leftBy cap (turn cap l c .left) cs

@@ -1,0 +1,40 @@
+// The sheet's calls and the plain ledger: what each call answers, the promise of each, and demand 3 over every list of calls.
+// This crate has the types of the answers, definitions (specs/) and theorems (proofs/), and no code that runs.
+use reading::plain::Outcome;
+
+// "The answer is the text's length n."
+pub enum OpenAnswer {
+    Opened(usize),
+    Refused(u8),
+}
+
+// "The answer gives the new length and the number of pairs standing."
+pub struct EditedSheet {
+    pub length: usize,
+    pub standing: usize,
+}
+
+pub enum EditAnswer {
+    Edited(EditedSheet),
+    Refused(u8),
+}
+
+// "it also gives length, examined length and nesting, and in a session evaluations"
+pub struct SheetReading {
+    pub outcome: Outcome,
+    pub length: usize,
+    pub examined: usize,
+    pub nesting: usize,
+    pub evaluations: u64,
+}
+
+pub enum ReadAnswer {
+    Read(SheetReading),
+    Refused(u8),
+}
+
+// "The program gives the slot's word whole."
+pub enum LookUpAnswer {
+    Word(u64),
+    Refused(u8),
+}
