@@ -1,1 +1,4 @@
 -- The theorems about the calls and the ledger.
+pub mod Tables
+pub mod Asked
+pub mod SheetReads

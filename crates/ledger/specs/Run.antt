@@ -1,0 +1,24 @@
+-- For the function that reads: the answer and the words that it makes of a run of the evaluator over the lent words. The promise does not
+-- cite these; proofs/SheetReads.antt shows that they keep it.
+use Prim.Native.Nat.{ℕ}
+use mathlib.Core.List.{List}
+use lib.ListN.{take}
+use Rattle.grammar.specs.Image.{rules, start}
+use Rattle.reading.specs.Model.{Answer, answered, refused, Out, out, ruleM, nodeM}
+use Rattle.editing.specs.Table.{clearedTable}
+use Rattle.ledger.specs.declared.ReadAnswer.{ReadAnswer}
+use Rattle.ledger.specs.Answers.{sheetReading}
+
+-- The run of the start pair over the words W, on a text.
+abbrev pub startRun : (img text W : List ℕ) → Out
+startRun img text W = ruleM img text (nodeM img text 4096) 4096 (start img) 0 W 0
+
+-- An answered run is reported, of a text of n bytes, with the count of evaluated pairs; a refused one gives its number.
+abbrev pub answerOf : (n : ℕ) → Out → ReadAnswer
+answerOf n (out (answered z) t count) = ReadAnswer.Read (sheetReading n z count)
+answerOf n (out (refused k) t count) = ReadAnswer.Refused k
+
+-- The words that the run left; those of a refused run with the table zeroed.
+abbrev pub wordsOf : (img : List ℕ) (cap : ℕ) → Out → List ℕ
+wordsOf img cap (out (answered z) t count) = t
+wordsOf img cap (out (refused k) t count) = clearedTable (rules img) cap t
