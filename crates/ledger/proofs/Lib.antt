@@ -2,3 +2,6 @@
 pub mod Tables
 pub mod Asked
 pub mod SheetReads
+pub mod Fresh
+pub mod Inv
+pub mod StepRead

@@ -6,6 +6,7 @@ use mathlib.Core.Bool.{true}
 use mathlib.Core.List.{List, [], _∷_}
 use lib.ListN.{length, drop}
 use Rattle.grammar.specs.Image.{rules}
+use Rattle.grammar.specs.Questions.{Accepted}
 use Rattle.records.specs.Words.{wordOf}
 use Rattle.reading.specs.Over.{wordAt}
 use Rattle.reading.specs.True.{IsTrue}
@@ -19,7 +20,7 @@ use Rattle.ledger.specs.declared.ReadAnswer.{ReadAnswer}
 use Rattle.ledger.specs.Promises.{OpenPromise, EditPromise, LookUpPromise}
 use Rattle.ledger.specs.Reading.{ReadPromise}
 use Rattle.ledger.specs.Ledger.{Evaluations, Call, Reply, edit, reading, look-up, edits, reads, finds}
-use Rattle.ledger.specs.Ledger.{Ledger, openedLedger, replies, leftBy}
+use Rattle.ledger.specs.Ledger.{Ledger, openedLedger, valueIn, replies, leftBy}
 
 -- What a call is lent: the image, the text buffer, the text's length and the words.
 pub data Loan : Type 0 where
@@ -62,19 +63,22 @@ pub record Agrees (ev : Evaluations) (cap : ℕ) (rest : List ℕ) (l : Ledger) 
   pub bytes-are : B ≡ opened cap (l .text)
   pub words-are :
       (rule q : ℕ) → rule < rules (l .image) → q ≤ cap
-      → wordAt (l .image) W rule q ≡ pick (l .held rule q) (wordOf (ev .value (l .image) (l .text) rule q)) 0
+      → wordAt (l .image) W rule q ≡ pick (l .held rule q) (wordOf (valueIn ev l rule q)) 0
   pub held-in : (rule q : ℕ) → l .held rule q ≡ true → (rule < rules (l .image)) × (q ≤ length (l .text))
   pub true-words : (rule q : ℕ) → l .held rule q ≡ true → IsTrue (l .image) (l .text) rule q (wordAt (l .image) W rule q)
   pub after-table : drop (tableSize (rules (l .image)) cap) W ≡ rest
 
 -- From an accepted opening on, for every list of calls that kept their promises, refused ones too: every reply along the list is the
--- ledger's, and what is left agrees with the ledger. The ledger's replies have no number but 9, 10, 11 and 14.
+-- ledger's, and what is left agrees with the ledger. The ledger's replies have no number but 9, 10, 11 and 14. That the image is accepted
+-- is no condition: an accepted opening says so (proofs/Demand.antt, `opened-image`); the ledger has it for its evaluations.
 abbrev pub Demand3 : Type 0
 Demand3 =
     (img text B₀ W₀ B W : List ℕ) (n : ℕ)
     → OpenPromise img text B₀ W₀ (OpenAnswer.Opened n) B W
-    → (ev : Evaluations) (calls : List Call) (answers : List Reply) (img′ B′ W′ : List ℕ) (n′ : ℕ)
+    → (accepted : Accepted img) (ev : Evaluations)
+    → (calls : List Call) (answers : List Reply) (img′ B′ W′ : List ℕ) (n′ : ℕ)
     → Trace (loan img B n W) calls answers (loan img′ B′ n′ W′)
-    → (answers ≡ replies ev (length B₀) (openedLedger img text) calls)
-    × (img′ ≡ leftBy ev (length B₀) (openedLedger img text) calls .image)
-    × Agrees ev (length B₀) (drop (tableSize (rules img) (length B₀)) W₀) (leftBy ev (length B₀) (openedLedger img text) calls) B′ n′ W′
+    → (answers ≡ replies ev (length B₀) (openedLedger img accepted text) calls)
+    × (img′ ≡ leftBy ev (length B₀) (openedLedger img accepted text) calls .image)
+    × Agrees ev (length B₀) (drop (tableSize (rules img) (length B₀)) W₀)
+    (leftBy ev (length B₀) (openedLedger img accepted text) calls) B′ n′ W′

@@ -1,5 +1,5 @@
 -- The plain ledger: "a text and a set of pairs, the ones held. It is fed the image, cap and what each call itself brings [..], and nothing
--- that the program keeps or answers." Its state has the image too, which no call changes yet.
+-- that the program keeps or answers." Its state has the image too, which these calls do not change.
 use Prim.Native.Nat.{ℕ, _+_, _≤_, _<_}
 use mathlib.Core.Path.{_≡_}
 use mathlib.Core.Bool.{Bool, true, false, not, _&&_, _||_}
@@ -24,17 +24,19 @@ use Rattle.ledger.specs.declared.ReadAnswer.{ReadAnswer}
 use Rattle.ledger.specs.declared.SheetReading.{SheetReading}
 use Rattle.ledger.specs.Answers.{sheetReading}
 
--- What the ledger knows of a text: the evaluation of each pair by Ford's rules without records, and which pairs are reached. Any
--- functions that give these will do; Evaluations.antt of proofs/ has such functions, and shows that all give the same.
+-- What the ledger knows of a text by an accepted image: the evaluation of each pair by Ford's rules without records, and which pairs are
+-- reached. Any functions that give these will do; proofs/Fresh.antt has such functions, and shows that all give the same.
 pub record Evaluations : Type 0 where
-  pub value : (img text : List ℕ) (rule position : ℕ) → Evaluation
+  pub value : (img : List ℕ) → Accepted img → (text : List ℕ) (rule position : ℕ) → Evaluation
   pub value-is :
-      (img text : List ℕ) → Accepted img → (rule position : ℕ) → rule < rules img → position ≤ length text
-      → Fresh img text (a-pair rule) position (value img text rule position)
-  pub reached : (img text : List ℕ) (rule position : ℕ) → Bool
+      (img : List ℕ) (accepted : Accepted img) (text : List ℕ) (rule position : ℕ)
+      → rule < rules img
+      → position ≤ length text
+      → Fresh img text (a-pair rule) position (value img accepted text rule position)
+  pub reached : (img : List ℕ) → Accepted img → (text : List ℕ) (rule position : ℕ) → Bool
   pub reached-is :
-      (img text : List ℕ) → Accepted img → (rule position : ℕ)
-      → (reached img text rule position ≡ true) ↔ Reached img text (record { rule = rule; position = position })
+      (img : List ℕ) (accepted : Accepted img) (text : List ℕ) (rule position : ℕ)
+      → (reached img accepted text rule position ≡ true) ↔ Reached img text (record { rule = rule; position = position })
 
 -- What each call itself brings: "s, e and r; rule and position".
 pub data Call : Type 0 where
@@ -49,12 +51,20 @@ pub data Reply : Type 0 where
 
 pub record Ledger : Type 0 where
   pub image : List ℕ
+  pub accepted : Accepted image
   pub text : List ℕ
   pub held : (rule position : ℕ) → Bool
 
 -- "Open: copies the text, [..]; the set is empty."
-abbrev pub openedLedger : (img text : List ℕ) → Ledger
-openedLedger img text = record { image = img; text = text; held = λ r q. false }
+abbrev pub openedLedger : (img : List ℕ) → Accepted img → (text : List ℕ) → Ledger
+openedLedger img accepted text = record { image = img; accepted = accepted; text = text; held = λ rule q. false }
+
+-- The evaluation of a pair of the ledger's text, and whether the pair is reached.
+abbrev pub valueIn : Evaluations → Ledger → (rule position : ℕ) → Evaluation
+valueIn ev l = ev .value (l .image) (l .accepted) (l .text)
+
+abbrev pub reachedIn : Evaluations → Ledger → (rule position : ℕ) → Bool
+reachedIn ev l = ev .reached (l .image) (l .accepted) (l .text)
 
 -- What a call answers and what it leaves.
 pub record Turn : Type 0 where
@@ -81,12 +91,12 @@ pairsOf img text test = countPairs (rules img) (length text + 1) test
 
 module _ (ev : Evaluations) where
   abbrev pub passes14 : Ledger → Bool
-  passes14 l = leb (ev .value (l .image) (l .text) (start (l .image)) 0 .nesting) 4096
+  passes14 l = leb (valueIn ev l (start (l .image)) 0 .nesting) 4096
 
   -- The pairs that stand after an edit. "Examined is the fresh one on the old text".
   abbrev pub standing : Ledger → (s e : ℕ) → List ℕ → (rule q : ℕ) → Bool
   standing l s e r rule q =
-      standsAfter (l .held rule) (λ p. ev .value (l .image) (l .text) rule p .examined) (length (l .text)) s e (length r) q
+      standsAfter (l .held rule) (λ p. valueIn ev l rule p .examined) (length (l .text)) s e (length r) q
 
   -- "a call that fails one gets that number", and "changes nothing". "The answer gives the new length and the number of pairs standing."
   abbrev pub editTurn : (passes9 passes10 : Bool) → Ledger → (s e : ℕ) → List ℕ → Turn
@@ -101,25 +111,26 @@ module _ (ev : Evaluations) where
               length = length (editedText l s e r);
               standing = pairsOf (l .image) (editedText l s e r) (standing l s e r);
             }));
-        left = record { image = l .image; text = editedText l s e r; held = standing l s e r };
+        left = record { image = l .image; accepted = l .accepted; text = editedText l s e r; held = standing l s e r };
       }
 
   -- "Reading: the answer is the start pair's evaluation, as whole, part or none [..]. The set gains every reached pair. Evaluations counts
   -- reached pairs not held before. A reading refused with 14 empties the set."
   abbrev pub readTurn : (passes14 : Bool) → Ledger → Turn
-  readTurn false l = record { reply = reads (ReadAnswer.Refused 14); left = openedLedger (l .image) (l .text) }
+  readTurn false l = record { reply = reads (ReadAnswer.Refused 14); left = openedLedger (l .image) (l .accepted) (l .text) }
   readTurn true l =
       record {
         reply =
             reads
             (ReadAnswer.Read
-            (sheetReading (length (l .text)) (ev .value (l .image) (l .text) (start (l .image)) 0)
-            (pairsOf (l .image) (l .text) (λ rule q. ev .reached (l .image) (l .text) rule q && not (l .held rule q)))));
+            (sheetReading (length (l .text)) (valueIn ev l (start (l .image)) 0)
+            (pairsOf (l .image) (l .text) (λ rule q. reachedIn ev l rule q && not (l .held rule q)))));
         left =
             record {
               image = l .image;
+              accepted = l .accepted;
               text = l .text;
-              held = λ rule q. l .held rule q || ev .reached (l .image) (l .text) rule q;
+              held = λ rule q. l .held rule q || reachedIn ev l rule q;
             };
       }
 
@@ -131,7 +142,7 @@ module _ (ev : Evaluations) where
         reply =
             finds
             (LookUpAnswer.Word
-            (pick (l .held rule position) (wordOf (ev .value (l .image) (l .text) rule position)) 0));
+            (pick (l .held rule position) (wordOf (valueIn ev l rule position)) 0));
         left = l;
       }
 
