@@ -5,3 +5,6 @@ pub mod SheetReads
 pub mod Fresh
 pub mod Inv
 pub mod StepRead
+pub mod Called
+pub mod Edited
+pub mod StepEdit
