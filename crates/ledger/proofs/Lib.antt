@@ -6,5 +6,9 @@ pub mod Fresh
 pub mod Inv
 pub mod StepRead
 pub mod Called
+pub mod Sums
+pub mod EditWords
 pub mod Edited
 pub mod StepEdit
+pub mod StepLookUp
+pub mod Demand

@@ -7,19 +7,34 @@ use mathlib.Core.Bool.{Bool, true, false, _&&_, true≢false}
 use mathlib.Core.List.{List, _++_}
 use mathlib.Core.Logic.{_⊎_, inl, inr, ⊎-elim}
 use lib.ListN.{length, take, drop}
+use lib.Dec.{leb}
+use borrow.Author.Tests.{leb-true, le-leb}
+use Rattle.grammar.specs.Questions.{First}
 use Rattle.grammar.specs.declared.Evaluation.{Evaluation}
 use Rattle.grammar.specs.Image.{rules, body}
 use Rattle.grammar.specs.Evaluates.{Fresh, bodiesOnly, a-node, a-pair, ev-body}
 use Rattle.grammar.proofs.Determinism.{one}
 use Rattle.evaluation.specs.Calls.{Pair, In, callsOf}
 use Rattle.evaluation.proofs.CallLocality.{shifted}
-use Rattle.records.specs.Words.{isHeld, wordOf}
+use Rattle.evaluation.proofs.Plain.{fresh-within}
+use Rattle.records.specs.Words.{isHeld, examinedOf, wordOf}
+use Rattle.records.proofs.Codec.{examined-back}
 use Rattle.reading.specs.Over.{wordAt}
+use Rattle.reading.proofs.OverTables.{word-possible}
 use Rattle.editing.specs.Text.{newLength, textAfter, opened}
 use Rattle.editing.specs.Table.{pick, tableSize, wordsAfter, tableAfter, heldIn}
 use Rattle.editing.specs.Pairs.{standsAfter}
-use Rattle.ledger.specs.Ledger.{Evaluations, Ledger, Turn, edit, edits, valueIn, editedText, standing, editTurn, pairsOf}
-use Rattle.ledger.proofs.Inv.{Inv, cap-is, short-text, lent, value-of, holds-is}
+use Rattle.ledger.specs.declared.EditAnswer.{EditAnswer}
+use Rattle.ledger.specs.declared.EditedSheet.{EditedSheet}
+use Rattle.ledger.specs.Answers.{editNumber}
+use Rattle.ledger.specs.Questions.{Question9, Question10, ofSheet, ofEdit}
+use Rattle.ledger.specs.Promises.{EditValues, EditPromise}
+use Rattle.ledger.specs.Demand.{nextLength}
+use Rattle.ledger.specs.Ledger.{Evaluations, Ledger, Turn, edit, edits, valueIn, editedText, standing, pairsOf}
+use Rattle.ledger.specs.Ledger.{passes9, passes10, editTurn, turn}
+use Rattle.ledger.proofs.Asked.{sheet-first, edit-9, edit-10, edit-0, edit-one}
+use Rattle.ledger.proofs.Inv.{Inv, held-word, cap-is, short-text, lent, value-of, holds-is}
+use Rattle.ledger.proofs.EditWords.{pair-after, standing-count, whole-after, rest-after}
 use Rattle.ledger.proofs.Called.{called-within, in-shifted, shifted-in}
 use Rattle.ledger.proofs.Edited.{Stays, Carried, stands-cases, stands-stay, stands-carry, front-length, after-length, s-in-after}
 use Rattle.ledger.proofs.Edited.{bytes-after, stay-back, stay-calls, was, carry-back, carry-there, value-stay, value-carry}
@@ -130,6 +145,53 @@ module _ {ev : Evaluations} {cap : ℕ} {rest : List ℕ} {l : Ledger} {B : List
           was-held = (λ i. l .held (ap (λ (p : Pair). p .rule) (x .is) i) (came i)) ∙ held;
         })
 
+    -- The words after the edit.
+    examined-is : (rule q : ℕ) → rule < rules (l .image) → l .held rule q ≡ true → examinedOf (wordOf (valueIn ev l rule q)) ≡ examined rule q
+    examined-is rule q m t =
+        examined-back (valueIn ev l rule q)
+        (word-possible (valueIn ev l rule q) q (length (l .text)) (short-text v) (fresh-within (value-of v rule q t) (v .held-in rule q t .1))
+        (v .shallow rule q t) .0)
+
+    -- A pair that stands has a word that is held.
+    held-after : (rule q : ℕ) → isHeld (pick (standing ev l s e r rule q) (wordOf (valueIn ev now rule q)) 0) ≡ standing ev l s e r rule q
+    held-after rule q = go (standing ev l s e r rule q) refl
+      where
+        go : (b : Bool) → standing ev l s e r rule q ≡ b → isHeld (pick b (wordOf (valueIn ev now rule q)) 0) ≡ b
+        go true t =
+            let k = range-after rule q t in
+            held-word (l .image) (editedText l s e r) rule q (valueIn ev now rule q)
+            (ev .value-is (l .image) (l .accepted) (editedText l s e r) rule q (k .0) (k .1)) (k .1)
+            (let a = rw (sym long) at room in omega (arith, v .small))
+            (nesting-after rule q t)
+        go false t = refl
+
+    above : (rule q : ℕ) → length (editedText l s e r) < q → standing ev l s e r rule q ≡ false
+    above rule q h = go (standing ev l s e r rule q) refl
+      where
+        go : (b : Bool) → standing ev l s e r rule q ≡ b → b ≡ false
+        go true t = absurd (let k = range-after rule q t .1 in omega arith)
+        go false t = refl
+
+    word-after :
+        (rule q : ℕ) → rule < rules (l .image) → q ≤ cap
+        → wordAt (l .image) (tableAfter (rules (l .image)) cap (length (l .text)) s e (length r) W) rule q
+        ≡ pick (standing ev l s e r rule q) (wordOf (valueIn ev now rule q)) 0
+    word-after rule q m h =
+        pair-after (rules (l .image)) cap (length (l .text)) s e (length r) W (l .accepted .lawful .counts .some-rules) (l .held) examined
+        (λ rule q. wordOf (valueIn ev l rule q)) ordered in-text (v .text-fits) (v .words-are) (holds-is v) examined-is rule q m h
+        (wordOf (valueIn ev now rule q))
+        (λ a b c. ap wordOf (sym (stay-value rule q (record { before = a; was-held = b; unseen = c }))))
+        (λ a b c. ap wordOf (sym (come-value rule q (record { behind = a; in-text = b; was-held = c }))))
+
+    count-after :
+        heldIn (wordsAfter (rules (l .image)) cap (length (l .text)) s e (length r) W)
+        ≡ pairsOf (l .image) (editedText l s e r) (standing ev l s e r)
+    count-after =
+        standing-count (rules (l .image)) cap (length (l .text)) s e (length r) W (l .accepted .lawful .counts .some-rules)
+        (standing ev l s e r) (length (editedText l s e r)) (rw long room)
+        (λ rule q m h. ap isHeld (word-after rule q m h) ∙ held-after rule q)
+        above
+
     inv-edit :
         (W′ : List ℕ) → tableSize (rules (l .image)) cap ≤ length W′
         → ((rule q : ℕ) → rule < rules (l .image) → q ≤ cap
@@ -150,3 +212,99 @@ module _ {ev : Evaluations} {cap : ℕ} {rest : List ℕ} {l : Ledger} {B : List
           closed = λ rule q t z u y i. ⊎-elim (λ c. closed-stay rule q c z u y i) (λ c. closed-come rule q c z u y i) (cases rule q t);
           after-table = after;
         })
+
+    -- The edit that the promise says.
+    edit-done :
+        {B′ W′ : List ℕ} (a : EditAnswer) → editNumber a ≡ 0 → EditValues (l .image) B n W s e r a B′ W′
+        → (edits a ≡ editTurn ev true true l s e r .reply) × Inv ev cap rest now B′ (nextLength n a) W′
+    edit-done (EditAnswer.Refused k) f p = absurd (omega (arith, p .numbered))
+    edit-done {W′ = W′} (EditAnswer.Edited x) f p =
+        let count : x .standing ≡ pairsOf (l .image) (editedText l s e r) (standing ev l s e r) =
+        p .standing-are
+        ∙ ap (λ (c : ℕ). heldIn (wordsAfter (rules (l .image)) c n s e (length r) W)) (cap-is v)
+        ∙ ap (λ (m : ℕ). heldIn (wordsAfter (rules (l .image)) cap m s e (length r) W)) (v .length-is)
+        ∙ count-after in
+        let new : x .length ≡ length (editedText l s e r) =
+        p .length-is ∙ ap (λ (m : ℕ). newLength m s e (length r)) (v .length-is) ∙ sym long in
+        let words : W′ ≡ tableAfter (rules (l .image)) cap (length (l .text)) s e (length r) W =
+        p .words-are
+        ∙ ap (λ (c : ℕ). tableAfter (rules (l .image)) c n s e (length r) W) (cap-is v)
+        ∙ ap (λ (m : ℕ). tableAfter (rules (l .image)) cap m s e (length r) W) (v .length-is) in (
+          (λ i. edits (EditAnswer.Edited (record { length = new i; standing = count i }))),
+          rw (p .bytes-are, words, p .length-is)
+              (inv-edit (tableAfter (rules (l .image)) cap (length (l .text)) s e (length r) W) (whole-after (rules (l .image)) cap (length (l .text)) s e (length r) W) word-after
+              (rest-after (rules (l .image)) cap (length (l .text)) s e (length r) W ∙ v .after-table)),
+        )
+
+-- An answer with a number leaves the invariant.
+edit-refused :
+    {ev : Evaluations} {cap : ℕ} {rest : List ℕ} {l : Ledger} {B : List ℕ} {n : ℕ} {W : List ℕ} → Inv ev cap rest l B n W
+    → (s e : ℕ) (r : List ℕ) {B′ W′ : List ℕ} (a : EditAnswer) (k : ℕ) → 1 ≤ k → editNumber a ≡ k → EditValues (l .image) B n W s e r a B′ W′
+    → (edits a ≡ edits (EditAnswer.Refused k)) × Inv ev cap rest l B′ (nextLength n a) W′
+edit-refused v s e r (EditAnswer.Edited x) k h f p = absurd (omega arith)
+edit-refused v s e r (EditAnswer.Refused j) k h f p =
+    (ap (λ (i : ℕ). edits (EditAnswer.Refused i)) f, rw (p .same-bytes, p .same-words) v)
+
+both-on : (a b : Bool) → a && b ≡ true → (a ≡ true) × (b ≡ true)
+both-on true b e = (refl, e)
+both-on false b e = absurd (true≢false (sym e))
+
+both-true : (a b : Bool) → a ≡ true → b ≡ true → a && b ≡ true
+both-true a b e f = ap (λ (c : Bool). c && b) e ∙ f
+
+module _ {ev : Evaluations} {cap : ℕ} {rest : List ℕ} {l : Ledger} {B : List ℕ} {n : ℕ} {W : List ℕ} (v : Inv ev cap rest l B n W)
+    (s e : ℕ) (r : List ℕ) {a : EditAnswer} {B′ W′ : List ℕ} (p : EditPromise (l .image) B n W s e r a B′ W′)
+  where
+    good : First (ofSheet (l .image) (length B) n (length W)) 0
+    good = sheet-first (l .image) (length B) n (length W) (l .accepted) (lent v)
+
+    -- Questions 9 and 10 are the ledger's.
+    passes-9 : passes9 l s e ≡ true → Question9 n s e
+    passes-9 t =
+        let b = both-on (leb s e) (leb e (length (l .text))) t in
+        record { ordered = leb-true s e (b .0); in-text = rw (v .length-is) (leb-true e (length (l .text)) (b .1)) }
+
+    fails-9 : passes9 l s e ≡ false → Question9 n s e → ⊥
+    fails-9 t x =
+        true≢false
+        (sym
+        (both-true (leb s e) (leb e (length (l .text))) (le-leb s e (x .ordered))
+        (le-leb e (length (l .text)) (rw (sym (v .length-is)) (x .in-text))))
+        ∙ t)
+
+    passes-10 : passes10 cap l s e r ≡ true → Question10 (length B) n s e (length r)
+    passes-10 t =
+        record { room = rw (cap-is v, v .length-is) (leb-true (newLength (length (l .text)) s e (length r)) cap t) }
+
+    fails-10 : passes10 cap l s e r ≡ false → Question10 (length B) n s e (length r) → ⊥
+    fails-10 t x =
+        let h : newLength (length (l .text)) s e (length r) ≤ cap = rw (cap-is v, v .length-is) at (x .room) in
+        true≢false (sym (le-leb (newLength (length (l .text)) s e (length r)) cap h) ∙ t)
+
+    number-is : (k : ℕ) → First (ofEdit (l .image) (length B) n (length W) s e (length r)) k → editNumber a ≡ k
+    number-is k f = edit-one (l .image) (length B) n (length W) s e (length r) (editNumber a) k (p .first) f
+
+    abbrev Stepped : Turn → Type 0
+    Stepped t = (edits a ≡ t .reply) × Inv ev cap rest (t .left) B′ (nextLength n a) W′
+
+    step : (b c : Bool) → passes9 l s e ≡ b → passes10 cap l s e r ≡ c → Stepped (editTurn ev b c l s e r)
+    step false c t u =
+        edit-refused v s e r a 9 (omega arith)
+        (number-is 9 (edit-9 (l .image) (length B) n (length W) good s e (length r) (fails-9 t)))
+        (p .values)
+    step true false t u =
+        edit-refused v s e r a 10 (omega arith)
+        (number-is 10 (edit-10 (l .image) (length B) n (length W) good s e (length r) (passes-9 t) (fails-10 u)))
+        (p .values)
+    step true true t u =
+        let b = both-on (leb s e) (leb e (length (l .text))) t in
+        edit-done v s e r (leb-true s e (b .0)) (leb-true e (length (l .text)) (b .1))
+        (leb-true (newLength (length (l .text)) s e (length r)) cap u)
+        a
+        (number-is 0 (edit-0 (l .image) (length B) n (length W) good s e (length r) (passes-9 t) (passes-10 u)))
+        (p .values)
+
+    pub edit-step :
+        (edits a ≡ turn ev cap l (edit s e r) .reply) × Inv ev cap rest (turn ev cap l (edit s e r) .left) B′ (nextLength n a) W′
+    unfolding turn
+    edit-step = step (passes9 l s e) (passes10 cap l s e r) refl refl
