@@ -7,7 +7,6 @@ pub mod Inv
 pub mod StepRead
 pub mod Called
 pub mod Sums
-pub mod EditWords
 pub mod Edited
 pub mod StepEdit
 pub mod StepLookUp

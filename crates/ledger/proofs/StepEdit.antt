@@ -21,9 +21,10 @@ use Rattle.records.specs.Words.{isHeld, examinedOf, wordOf}
 use Rattle.records.proofs.Codec.{examined-back}
 use Rattle.reading.specs.Over.{wordAt}
 use Rattle.reading.proofs.OverTables.{word-possible}
-use Rattle.editing.specs.Text.{newLength, textAfter, opened}
+use Rattle.editing.specs.Text.{EditFits, newLength, textAfter, opened}
 use Rattle.editing.specs.Table.{pick, tableSize, wordsAfter, tableAfter, heldIn}
 use Rattle.editing.specs.Pairs.{standsAfter}
+use Rattle.editing.proofs.Ledger.{ledger-after}
 use Rattle.ledger.specs.declared.EditAnswer.{EditAnswer}
 use Rattle.ledger.specs.declared.EditedSheet.{EditedSheet}
 use Rattle.ledger.specs.Answers.{editNumber}
@@ -34,7 +35,8 @@ use Rattle.ledger.specs.Ledger.{Evaluations, Ledger, Turn, edit, edits, 
 use Rattle.ledger.specs.Ledger.{passes9, passes10, editTurn, turn}
 use Rattle.ledger.proofs.Asked.{sheet-first, edit-9, edit-10, edit-0, edit-one}
 use Rattle.ledger.proofs.Inv.{Inv, held-word, cap-is, short-text, lent, value-of, holds-is}
-use Rattle.ledger.proofs.EditWords.{pair-after, standing-count, whole-after, rest-after}
+use Rattle.ledger.proofs.Tables.{whole-after, rest-after}
+use Rattle.ledger.proofs.Sums.{count-cut}
 use Rattle.ledger.proofs.Called.{called-within, in-shifted, shifted-in}
 use Rattle.ledger.proofs.Edited.{Stays, Carried, stands-cases, stands-stay, stands-carry, front-length, after-length, s-in-after}
 use Rattle.ledger.proofs.Edited.{bytes-after, stay-back, stay-calls, was, carry-back, carry-there, value-stay, value-carry}
@@ -145,26 +147,33 @@ module _ {ev : Evaluations} {cap : ℕ} {rest : List ℕ} {l : Ledger} {B : List
           was-held = (λ i. l .held (ap (λ (p : Pair). p .rule) (x .is) i) (came i)) ∙ held;
         })
 
-    -- The words after the edit.
-    examined-is : (rule q : ℕ) → rule < rules (l .image) → l .held rule q ≡ true → examinedOf (wordOf (valueIn ev l rule q)) ≡ examined rule q
-    examined-is rule q m t =
-        examined-back (valueIn ev l rule q)
-        (word-possible (valueIn ev l rule q) q (length (l .text)) (short-text v) (fresh-within (value-of v rule q t) (v .held-in rule q t .1))
-        (v .shallow rule q t) .0)
+    -- The words after the edit: what the table's law asks of the words of held pairs,
+    edit-fits : EditFits cap (length (l .text)) s e (length r)
+    edit-fits = record { lent = v .text-fits; ordered = ordered; within = in-text; room = room }
 
-    -- A pair that stands has a word that is held.
-    held-after : (rule q : ℕ) → isHeld (pick (standing ev l s e r rule q) (wordOf (valueIn ev now rule q)) 0) ≡ standing ev l s e r rule q
-    held-after rule q = go (standing ev l s e r rule q) refl
-      where
-        go : (b : Bool) → standing ev l s e r rule q ≡ b → isHeld (pick b (wordOf (valueIn ev now rule q)) 0) ≡ b
-        go true t =
-            let k = range-after rule q t in
-            held-word (l .image) (editedText l s e r) rule q (valueIn ev now rule q)
-            (ev .value-is (l .image) (l .accepted) (editedText l s e r) rule q (k .0) (k .1)) (k .1)
-            (let a = rw (sym long) at room in omega (arith, v .small))
-            (nesting-after rule q t)
-        go false t = refl
+    stored :
+        (rule q : ℕ) → rule < rules (l .image) → l .held rule q ≡ true
+        → (isHeld (wordOf (valueIn ev l rule q)) ≡ true) × (examinedOf (wordOf (valueIn ev l rule q)) ≡ examined rule q)
+    stored rule q m t =
+        let h = v .held-in rule q t .1 in (
+          held-word (l .image) (l .text) rule q (valueIn ev l rule q) (value-of v rule q t) h (short-text v) (v .shallow rule q t),
+          examined-back (valueIn ev l rule q)
+              (word-possible (valueIn ev l rule q) q (length (l .text)) (short-text v) (fresh-within (value-of v rule q t) h)
+              (v .shallow rule q t) .0),
+        )
 
+    stay-word :
+        (rule q : ℕ) → rule < rules (l .image) → l .held rule q ≡ true → q + examined rule q ≤ s
+        → wordOf (valueIn ev now rule q) ≡ wordOf (valueIn ev l rule q)
+    stay-word rule q m t h = ap wordOf (stay-value rule q (record { before = omega arith; was-held = t; unseen = h }))
+
+    come-word :
+        (rule q : ℕ) → rule < rules (l .image) → s + length r ≤ q → q ≤ newLength (length (l .text)) s e (length r)
+        → l .held rule (q - length r + (e - s)) ≡ true
+        → wordOf (valueIn ev now rule q) ≡ wordOf (valueIn ev l rule (q - length r + (e - s)))
+    come-word rule q m a b t = ap wordOf (come-value rule q (record { behind = a; in-text = b; was-held = t }))
+
+    -- no pair above the text,
     above : (rule q : ℕ) → length (editedText l s e r) < q → standing ev l s e r rule q ≡ false
     above rule q h = go (standing ev l s e r rule q) refl
       where
@@ -172,25 +181,26 @@ module _ {ev : Evaluations} {cap : ℕ} {rest : List ℕ} {l : Ledger} {B : List
         go true t = absurd (let k = range-after rule q t .1 in omega arith)
         go false t = refl
 
+    -- the words, and their number.
     word-after :
         (rule q : ℕ) → rule < rules (l .image) → q ≤ cap
         → wordAt (l .image) (tableAfter (rules (l .image)) cap (length (l .text)) s e (length r) W) rule q
         ≡ pick (standing ev l s e r rule q) (wordOf (valueIn ev now rule q)) 0
-    word-after rule q m h =
-        pair-after (rules (l .image)) cap (length (l .text)) s e (length r) W (l .accepted .lawful .counts .some-rules) (l .held) examined
-        (λ rule q. wordOf (valueIn ev l rule q)) ordered in-text (v .text-fits) (v .words-are) (holds-is v) examined-is rule q m h
-        (wordOf (valueIn ev now rule q))
-        (λ a b c. ap wordOf (sym (stay-value rule q (record { before = a; was-held = b; unseen = c }))))
-        (λ a b c. ap wordOf (sym (come-value rule q (record { behind = a; in-text = b; was-held = c }))))
+    word-after =
+        ledger-after (rules (l .image)) cap (length (l .text)) s e (length r) W (l .accepted .lawful .counts .some-rules) edit-fits
+        (l .held) examined (λ rule q. wordOf (valueIn ev l rule q)) (λ rule q. wordOf (valueIn ev now rule q)) (v .words-are) stored
+        stay-word come-word
 
     count-after :
         heldIn (wordsAfter (rules (l .image)) cap (length (l .text)) s e (length r) W)
         ≡ pairsOf (l .image) (editedText l s e r) (standing ev l s e r)
     count-after =
-        standing-count (rules (l .image)) cap (length (l .text)) s e (length r) W (l .accepted .lawful .counts .some-rules)
-        (standing ev l s e r) (length (editedText l s e r)) (rw long room)
-        (λ rule q m h. ap isHeld (word-after rule q m h) ∙ held-after rule q)
-        above
+        Rattle.editing.proofs.Ledger.standing (rules (l .image)) cap (length (l .text)) s e (length r) W (l .accepted .lawful .counts .some-rules) edit-fits
+        (l .held) examined (λ rule q. wordOf (valueIn ev l rule q)) (λ rule q. wordOf (valueIn ev now rule q)) (v .words-are) stored
+        stay-word come-word
+        ∙ count-cut (rules (l .image)) (length (editedText l s e r) + 1) (cap + 1) (standing ev l s e r)
+        (let a = long in omega arith)
+        (λ rule q h. above rule q (omega arith))
 
     inv-edit :
         (W′ : List ℕ) → tableSize (rules (l .image)) cap ≤ length W′

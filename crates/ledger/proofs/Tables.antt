@@ -1,12 +1,13 @@
 -- Lengths and slots of the table, and the words after it. Assumes nothing.
-use Prim.Native.Nat.{ℕ, _+_, _*_, _-_, _≤_, _<_}
+use Prim.Native.Nat.{ℕ, _+_, _*_, _-_, _/_, _%_, _≤_, _<_}
 use native.Mathlib.Omega.{arith}
 use native.Mathlib.Nat.{mul-le-mul-left, mul-le-mul-right, mul-comm, add-mul, one-mul}
 use mathlib.Core.Path.{_≡_, refl, sym, ap, _∙_}
 use mathlib.Core.List.{List, _++_}
 use lib.ListN.{length, getD, drop, replicate, length-append, length-drop, length-replicate, getD-replicate, List·getD-append}
 use lib.Seq.{ext-getD, getD-drop, drop-at}
-use Rattle.editing.specs.Table.{tableSize, clearedTable}
+use Rattle.editing.specs.Table.{tableSize, clearedTable, wordAfter, wordsAfter, tableAfter}
+use Rattle.editing.proofs.TableLaw.{tabulate-long}
 
 -- A pair's slot is in the table.
 pub slot-in : (R cap r q : ℕ) → r < R → q ≤ cap → q * R + r < tableSize R cap
@@ -45,3 +46,18 @@ pub same-rest :
 same-rest m u v e f =
     ext-getD 0 (drop m u) (drop m v) (length-drop m u ∙ ap (λ (k : ℕ). k - m) e ∙ sym (length-drop m v))
     (λ i l. getD-drop m u i 0 ∙ f (m + i) (omega arith) ∙ sym (getD-drop m v i 0))
+
+-- The table after an edit, and the words after it.
+module _ (R cap n s e k : ℕ) (W : List ℕ) where
+  words-long : length (wordsAfter R cap n s e k W) ≡ tableSize R cap
+  unfolding wordsAfter
+  words-long = tabulate-long (λ j. wordAfter R n s e k W (j % R) (j / R)) (tableSize R cap)
+
+  pub whole-after : tableSize R cap ≤ length (tableAfter R cap n s e k W)
+  whole-after =
+      let a = length-append (wordsAfter R cap n s e k W) (drop (tableSize R cap) W) in
+      let b = words-long in
+      omega arith
+
+  pub rest-after : drop (tableSize R cap) (tableAfter R cap n s e k W) ≡ drop (tableSize R cap) W
+  rest-after = drop-at (wordsAfter R cap n s e k W) (drop (tableSize R cap) W) (tableSize R cap) words-long
