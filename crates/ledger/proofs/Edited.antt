@@ -25,26 +25,9 @@ use Rattle.evaluation.proofs.CallLocality.{prefix-calls, moved-calls, shifted}
 use Rattle.editing.specs.Text.{newLength, textAfter, opened}
 use Rattle.editing.specs.Pairs.{standsAfter}
 use Rattle.ledger.specs.Ledger.{Evaluations}
+use Rattle.ledger.proofs.Bools.{both, joined, either, or-left, or-right}
 use Rattle.ledger.proofs.Inv.{opened-length}
 use Rattle.ledger.proofs.Called.{CalledWithin, called-within, Back, moved-back, Shifted, in-shifted, shifted-in}
-
-both-on : (a b : Bool) → a ≡ true → b ≡ true → a && b ≡ true
-both-on a b e f = ap (λ (c : Bool). c && b) e ∙ f
-
-both-off : (a b : Bool) → a && b ≡ true → (a ≡ true) × (b ≡ true)
-both-off true b e = (refl, e)
-both-off false b e = absurd (true≢false (sym e))
-
-either : (a b : Bool) → a || b ≡ true → (a ≡ true) ⊎ (b ≡ true)
-either true b e = inl refl
-either false b e = inr e
-
-or-left : (a b : Bool) → a ≡ true → a || b ≡ true
-or-left a b e = ap (λ (k : Bool). k || b) e
-
-or-right : (a b : Bool) → b ≡ true → a || b ≡ true
-or-right true b e = refl
-or-right false b e = e
 
 -- "q ≤ s, the pair was held at q, and q + examined ≤ s"
 pub record Stays (held : ℕ → Bool) (examined : ℕ → ℕ) (s q : ℕ) : Type 0 where
@@ -68,26 +51,26 @@ module _ (held : ℕ → Bool) (examined : ℕ → ℕ) (n s e k q : ℕ) where
           ⊎ (leb (s + k) q && (leb q (newLength n s e k) && held (q - k + (e - s))) ≡ true)
           → Stays held examined s q ⊎ Carried held n s e k q
       go (inl f) =
-          let a = both-off (leb q s) _ f in
-          let b = both-off (held q) _ (a .1) in
+          let a = both (leb q s) _ f in
+          let b = both (held q) _ (a .1) in
           inl (record { before = leb-true q s (a .0); was-held = b .0; unseen = leb-true (q + examined q) s (b .1) })
       go (inr f) =
-          let a = both-off (leb (s + k) q) _ f in
-          let b = both-off (leb q (newLength n s e k)) _ (a .1) in
+          let a = both (leb (s + k) q) _ f in
+          let b = both (leb q (newLength n s e k)) _ (a .1) in
           inr (record { behind = leb-true (s + k) q (a .0); in-text = leb-true q (newLength n s e k) (b .0); was-held = b .1 })
 
   pub stands-stay : Stays held examined s q → standsAfter held examined n s e k q ≡ true
   unfolding standsAfter
   stands-stay t =
       or-left _ _
-      (both-on (leb q s) _ (le-leb q s (t .before)) (both-on (held q) _ (t .was-held) (le-leb (q + examined q) s (t .unseen))))
+      (joined (leb q s) _ (le-leb q s (t .before)) (joined (held q) _ (t .was-held) (le-leb (q + examined q) s (t .unseen))))
 
   pub stands-carry : Carried held n s e k q → standsAfter held examined n s e k q ≡ true
   unfolding standsAfter
   stands-carry t =
       or-right (leb q s && (held q && leb (q + examined q) s)) _
-      (both-on (leb (s + k) q) _ (le-leb (s + k) q (t .behind))
-      (both-on (leb q (newLength n s e k)) _ (le-leb q (newLength n s e k) (t .in-text)) (t .was-held)))
+      (joined (leb (s + k) q) _ (le-leb (s + k) q (t .behind))
+      (joined (leb q (newLength n s e k)) _ (le-leb q (newLength n s e k) (t .in-text)) (t .was-held)))
 
 -- An evaluation at p of a text, whose calls are these, later by so many positions.
 pub record Forth (img text : List ℕ) (before : ℕ) (s : Subject) (p : ℕ) (z : Evaluation) (calls : List Pair) : Type 0 where

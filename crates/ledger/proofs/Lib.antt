@@ -1,9 +1,11 @@
 -- The theorems about the calls and the ledger.
+pub mod Bools
 pub mod Tables
 pub mod Asked
 pub mod SheetReads
 pub mod Fresh
 pub mod Inv
+pub mod Asks
 pub mod StepRead
 pub mod Called
 pub mod Sums

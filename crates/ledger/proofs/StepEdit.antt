@@ -33,8 +33,10 @@ use Rattle.ledger.specs.Promises.{EditValues, EditPromise}
 use Rattle.ledger.specs.Demand.{nextLength}
 use Rattle.ledger.specs.Ledger.{Evaluations, Ledger, Turn, edit, edits, valueIn, editedText, standing, pairsOf}
 use Rattle.ledger.specs.Ledger.{passes9, passes10, editTurn, turn}
-use Rattle.ledger.proofs.Asked.{sheet-first, edit-9, edit-10, edit-0, edit-one}
+use Rattle.ledger.proofs.Bools.{both}
+use Rattle.ledger.proofs.Asked.{edit-9, edit-10, edit-0, edit-one}
 use Rattle.ledger.proofs.Inv.{Inv, held-word, cap-is, short-text, lent, value-of, holds-is}
+use Rattle.ledger.proofs.Asks.{good, passes-9, fails-9, passes-10, fails-10}
 use Rattle.ledger.proofs.Tables.{whole-after, rest-after}
 use Rattle.ledger.proofs.Sums.{count-cut}
 use Rattle.ledger.proofs.Called.{called-within, in-shifted, shifted-in}
@@ -255,42 +257,9 @@ edit-refused v s e r (EditAnswer.Edited x) k h f p = absurd (omega arith)
 edit-refused v s e r (EditAnswer.Refused j) k h f p =
     (ap (λ (i : ℕ). edits (EditAnswer.Refused i)) f, rw (p .same-bytes, p .same-words) v)
 
-both-on : (a b : Bool) → a && b ≡ true → (a ≡ true) × (b ≡ true)
-both-on true b e = (refl, e)
-both-on false b e = absurd (true≢false (sym e))
-
-both-true : (a b : Bool) → a ≡ true → b ≡ true → a && b ≡ true
-both-true a b e f = ap (λ (c : Bool). c && b) e ∙ f
-
 module _ {ev : Evaluations} {cap : ℕ} {rest : List ℕ} {l : Ledger} {B : List ℕ} {n : ℕ} {W : List ℕ} (v : Inv ev cap rest l B n W)
     (s e : ℕ) (r : List ℕ) {a : EditAnswer} {B′ W′ : List ℕ} (p : EditPromise (l .image) B n W s e r a B′ W′)
   where
-    good : First (ofSheet (l .image) (length B) n (length W)) 0
-    good = sheet-first (l .image) (length B) n (length W) (l .accepted) (lent v)
-
-    -- Questions 9 and 10 are the ledger's.
-    passes-9 : passes9 l s e ≡ true → Question9 n s e
-    passes-9 t =
-        let b = both-on (leb s e) (leb e (length (l .text))) t in
-        record { ordered = leb-true s e (b .0); in-text = rw (v .length-is) (leb-true e (length (l .text)) (b .1)) }
-
-    fails-9 : passes9 l s e ≡ false → Question9 n s e → ⊥
-    fails-9 t x =
-        true≢false
-        (sym
-        (both-true (leb s e) (leb e (length (l .text))) (le-leb s e (x .ordered))
-        (le-leb e (length (l .text)) (rw (sym (v .length-is)) (x .in-text))))
-        ∙ t)
-
-    passes-10 : passes10 cap l s e r ≡ true → Question10 (length B) n s e (length r)
-    passes-10 t =
-        record { room = rw (cap-is v, v .length-is) (leb-true (newLength (length (l .text)) s e (length r)) cap t) }
-
-    fails-10 : passes10 cap l s e r ≡ false → Question10 (length B) n s e (length r) → ⊥
-    fails-10 t x =
-        let h : newLength (length (l .text)) s e (length r) ≤ cap = rw (cap-is v, v .length-is) at (x .room) in
-        true≢false (sym (le-leb (newLength (length (l .text)) s e (length r)) cap h) ∙ t)
-
     number-is : (k : ℕ) → First (ofEdit (l .image) (length B) n (length W) s e (length r)) k → editNumber a ≡ k
     number-is k f = edit-one (l .image) (length B) n (length W) s e (length r) (editNumber a) k (p .first) f
 
@@ -300,18 +269,18 @@ module _ {ev : Evaluations} {cap : ℕ} {rest : List ℕ} {l : Ledger} {B : List
     step : (b c : Bool) → passes9 l s e ≡ b → passes10 cap l s e r ≡ c → Stepped (editTurn ev b c l s e r)
     step false c t u =
         edit-refused v s e r a 9 (omega arith)
-        (number-is 9 (edit-9 (l .image) (length B) n (length W) good s e (length r) (fails-9 t)))
+        (number-is 9 (edit-9 (l .image) (length B) n (length W) (good v) s e (length r) (fails-9 v s e t)))
         (p .values)
     step true false t u =
         edit-refused v s e r a 10 (omega arith)
-        (number-is 10 (edit-10 (l .image) (length B) n (length W) good s e (length r) (passes-9 t) (fails-10 u)))
+        (number-is 10 (edit-10 (l .image) (length B) n (length W) (good v) s e (length r) (passes-9 v s e t) (fails-10 v s e r u)))
         (p .values)
     step true true t u =
-        let b = both-on (leb s e) (leb e (length (l .text))) t in
+        let b = both (leb s e) (leb e (length (l .text))) t in
         edit-done v s e r (leb-true s e (b .0)) (leb-true e (length (l .text)) (b .1))
         (leb-true (newLength (length (l .text)) s e (length r)) cap u)
         a
-        (number-is 0 (edit-0 (l .image) (length B) n (length W) good s e (length r) (passes-9 t) (passes-10 u)))
+        (number-is 0 (edit-0 (l .image) (length B) n (length W) (good v) s e (length r) (passes-9 v s e t) (passes-10 v s e r u)))
         (p .values)
 
     pub edit-step :

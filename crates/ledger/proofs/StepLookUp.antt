@@ -15,15 +15,9 @@ use Rattle.ledger.specs.Answers.{lookUpNumber}
 use Rattle.ledger.specs.Questions.{Question11, ofSheet}
 use Rattle.ledger.specs.Promises.{LookUpPromise, LookUpValues}
 use Rattle.ledger.specs.Ledger.{Evaluations, Ledger, look-up, finds, passes11, lookUpTurn, turn}
-use Rattle.ledger.proofs.Asked.{sheet-first, look-up-11, look-up-0, look-up-one}
-use Rattle.ledger.proofs.Inv.{Inv, lent}
-
-both-on : (a b : Bool) → a && b ≡ true → (a ≡ true) × (b ≡ true)
-both-on true b e = (refl, e)
-both-on false b e = absurd (true≢false (sym e))
-
-both-true : (a b : Bool) → a ≡ true → b ≡ true → a && b ≡ true
-both-true a b e f = ap (λ (c : Bool). c && b) e ∙ f
+use Rattle.ledger.proofs.Asked.{look-up-11, look-up-0, look-up-one}
+use Rattle.ledger.proofs.Asks.{good, passes-11, fails-11}
+use Rattle.ledger.proofs.Inv.{Inv}
 
 -- An answer by its number.
 found : (img W : List ℕ) (rule q : ℕ) (a : LookUpAnswer) → lookUpNumber a ≡ 0 → LookUpValues img W rule q a → a ≡ LookUpAnswer.Word (wordAt img W rule q)
@@ -37,39 +31,19 @@ refused (LookUpAnswer.Refused j) k h e = ap LookUpAnswer.Refused e
 module _ {ev : Evaluations} {cap : ℕ} {rest : List ℕ} {l : Ledger} {B : List ℕ} {n : ℕ} {W : List ℕ} (v : Inv ev cap rest l B n W)
     (rule q : ℕ) {a : LookUpAnswer} (p : LookUpPromise (l .image) B n W rule q a)
   where
-    -- Question 11 is the ledger's.
-    passes : passes11 l rule q ≡ true → Question11 (l .image) n rule q
-    passes t =
-        let b = both-on (ltb rule (rules (l .image))) (leb q (length (l .text))) t in
-        record {
-          rule-in = ltb-true rule (rules (l .image)) (b .0);
-          position-in = rw (v .length-is) (leb-true q (length (l .text)) (b .1));
-        }
-
-    fails : passes11 l rule q ≡ false → Question11 (l .image) n rule q → ⊥
-    fails t x =
-        true≢false
-        (sym
-        (both-true (ltb rule (rules (l .image))) (leb q (length (l .text))) (lt-ltb rule (rules (l .image)) (x .rule-in))
-        (le-leb q (length (l .text)) (rw (sym (v .length-is)) (x .position-in))))
-        ∙ t)
-
-    good : First (ofSheet (l .image) (length B) n (length W)) 0
-    good = sheet-first (l .image) (length B) n (length W) (l .accepted) (lent v)
-
     step : (b : Bool) → passes11 l rule q ≡ b → finds a ≡ lookUpTurn ev b l rule q .reply
     step true t =
-        let x = passes t in
+        let x = passes-11 v rule q t in
         let none =
         look-up-one (l .image) (length B) n (length W) rule q (lookUpNumber a) 0 (p .first)
-        (look-up-0 (l .image) (length B) n (length W) good rule q x) in
+        (look-up-0 (l .image) (length B) n (length W) (good v) rule q x) in
         ap finds
         (found (l .image) W rule q a none (p .values)
         ∙ ap LookUpAnswer.Word (v .words-are rule q (x .rule-in) (omega (arith, x .position-in, v .length-is, v .text-fits))))
     step false t =
         let number =
         look-up-one (l .image) (length B) n (length W) rule q (lookUpNumber a) 11 (p .first)
-        (look-up-11 (l .image) (length B) n (length W) good rule q (fails t)) in
+        (look-up-11 (l .image) (length B) n (length W) (good v) rule q (fails-11 v rule q t)) in
         ap finds (refused a 11 (omega arith) number)
 
     left-same : (b : Bool) → lookUpTurn ev b l rule q .left ≡ l

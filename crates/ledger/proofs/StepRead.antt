@@ -7,7 +7,7 @@ use native.Mathlib.Omega.{arith}
 use mathlib.Core.Path.{_≡_, refl, sym, ap, _∙_, subst}
 use mathlib.Core.Bool.{Bool, true, false, not, _&&_, _||_, true≢false}
 use mathlib.Core.List.{List}
-use mathlib.Core.Logic.{_⊎_, inl, inr, ⊎-elim}
+use mathlib.Core.Logic.{⊎-elim}
 use lib.ListN.{length, take, drop}
 use lib.Dec.{leb}
 use borrow.Author.Tests.{leb-true, leb-false}
@@ -34,23 +34,13 @@ use Rattle.ledger.specs.declared.ReadAnswer.{ReadAnswer}
 use Rattle.ledger.specs.Answers.{sheetReading}
 use Rattle.ledger.specs.Reading.{Answers, SheetRead, ReadPromise}
 use Rattle.ledger.specs.Ledger.{Evaluations, Ledger, Turn, reading, reads, openedLedger, valueIn, reachedIn, pairsOf, passes14, readTurn, turn}
+use Rattle.ledger.proofs.Bools.{either, or-left, or-right}
 use Rattle.ledger.proofs.Asked.{sheet-first, sheet-one}
 use Rattle.ledger.proofs.Tables.{slot-in, cleared-length, cleared-rest, cleared-word}
 use Rattle.ledger.proofs.Fresh.{same-test}
 use Rattle.ledger.proofs.Inv.{Inv, cap-is, text-is, short-text, lent, holds-is, not-foreign}
 
--- What a test of two parts says.
-either : (a b : Bool) → a || b ≡ true → (a ≡ true) ⊎ (b ≡ true)
-either true b e = inl refl
-either false b e = inr e
-
-or-left : (a b : Bool) → a ≡ true → a || b ≡ true
-or-left a b e = ap (λ (k : Bool). k || b) e
-
-or-right : (a b : Bool) → b ≡ true → a || b ≡ true
-or-right true b e = refl
-or-right false b e = e
-
+-- Tests of what is reached and not held.
 first-on : (a b : Bool) → a && not b ≡ true → a ≡ true
 first-on true b e = refl
 first-on false b e = e
