@@ -16,13 +16,13 @@ first-parts (q ∷ qs) rs n (inl a) = absurd (let e = a .1 in let h = n .0 in om
 first-parts (q ∷ qs) rs n (inr a) = let x = first-parts qs rs (n .1) (a .1) in (inr (a .0, x .0), x .1)
 
 -- Where qs hold, the answer to qs and then rs is one to rs.
-first-rest : (qs rs : List Question) (r : ℕ) → Numbered qs → First qs 0 → First (qs ++ rs) r → First rs r
+pub first-rest : (qs rs : List Question) (r : ℕ) → Numbered qs → First qs 0 → First (qs ++ rs) r → First rs r
 first-rest [] rs r n a b = b
 first-rest (q ∷ qs) rs r n (inl a) b = absurd (let e = a .1 in let h = n .0 in omega arith)
 first-rest (q ∷ qs) rs r n (inr a) (inl b) = absurd (b .0 (a .0))
 first-rest (q ∷ qs) rs r n (inr a) (inr b) = first-rest qs rs r (n .1) (a .1) (b .1)
 
-image-numbers : (img : List ℕ) → Numbered (ofImage img)
+pub image-numbers : (img : List ℕ) → Numbered (ofImage img)
 image-numbers img = (omega arith, (omega arith, (omega arith, (omega arith, (omega arith, (omega arith, (omega arith, tt)))))))
 
 sheet-numbers : (img : List ℕ) (cap n words : ℕ) → Numbered (ofSheet img cap n words)

@@ -69,7 +69,7 @@ module _ (ev : Evaluations) (cap : ℕ) (rest : List ℕ) where
   still l call {B} {W} {n} v =
       subst (λ (img : List ℕ). Holds ev cap rest (turn ev cap l call .left) (loan img B n W)) (same-image ev cap l call) (holds v)
 
-  one-call :
+  pub one-call :
       {l : Ledger} {a b : Loan} {call : Call} {reply : Reply} → Holds ev cap rest l a → Link a call reply b
       → (reply ≡ turn ev cap l call .reply) × Holds ev cap rest (turn ev cap l call .left) b
   one-call {l} (holds v) (edit-link {r = r} {s = s} {e = e} p) = let x = edit-step v s e r p in (x .0, still l (edit s e r) (x .1))
@@ -77,7 +77,7 @@ module _ (ev : Evaluations) (cap : ℕ) (rest : List ℕ) where
   one-call {l} (holds v) (look-up-link {rule = rule} {position = q} p) =
       let x = look-up-step v rule q p in (x .0, still l (look-up rule q) (x .1))
 
-  all-calls :
+  pub all-calls :
       {l : Ledger} {a b : Loan} {calls : List Call} {answers : List Reply} → Holds ev cap rest l a → Trace a calls answers b
       → (answers ≡ replies ev cap l calls) × Holds ev cap rest (leftBy ev cap l calls) b
   unfolding replies leftBy

@@ -13,3 +13,5 @@ pub mod Edited
 pub mod StepEdit
 pub mod StepLookUp
 pub mod Demand
+pub mod Runs
+pub mod Corollaries

@@ -98,6 +98,10 @@ module _ (ev : Evaluations) where
   standing l s e r rule q =
       standsAfter (l .held rule) (λ p. valueIn ev l rule p .examined) (length (l .text)) s e (length r) q
 
+  -- "Evaluations counts reached pairs not held before."
+  abbrev pub newPairs : Ledger → ℕ
+  newPairs l = pairsOf (l .image) (l .text) (λ rule q. reachedIn ev l rule q && not (l .held rule q))
+
   -- "a call that fails one gets that number", and "changes nothing". "The answer gives the new length and the number of pairs standing."
   abbrev pub editTurn : (passes9 passes10 : Bool) → Ledger → (s e : ℕ) → List ℕ → Turn
   editTurn false b l s e r = record { reply = edits (EditAnswer.Refused 9); left = l }
@@ -114,8 +118,8 @@ module _ (ev : Evaluations) where
         left = record { image = l .image; accepted = l .accepted; text = editedText l s e r; held = standing l s e r };
       }
 
-  -- "Reading: the answer is the start pair's evaluation, as whole, part or none [..]. The set gains every reached pair. Evaluations counts
-  -- reached pairs not held before. A reading refused with 14 empties the set."
+  -- "Reading: the answer is the start pair's evaluation, as whole, part or none [..]. The set gains every reached pair. [..] A
+  -- reading refused with 14 empties the set."
   abbrev pub readTurn : (passes14 : Bool) → Ledger → Turn
   readTurn false l = record { reply = reads (ReadAnswer.Refused 14); left = openedLedger (l .image) (l .accepted) (l .text) }
   readTurn true l =
@@ -124,7 +128,7 @@ module _ (ev : Evaluations) where
             reads
             (ReadAnswer.Read
             (sheetReading (length (l .text)) (valueIn ev l (start (l .image)) 0)
-            (pairsOf (l .image) (l .text) (λ rule q. reachedIn ev l rule q && not (l .held rule q)))));
+            (newPairs l)));
         left =
             record {
               image = l .image;

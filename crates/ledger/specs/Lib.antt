@@ -1,4 +1,4 @@
--- The answers (Answers), questions 8 to 11 (Questions), the promise of each call (Promises, Reading), what a reading makes of a run (Run), the plain ledger (Ledger), and
+-- The answers (Answers), questions 8 to 11 (Questions), the promise of each call (Promises, Reading), what a reading makes of a run (Run), the plain ledger (Ledger),
 -- demand 3 (Demand).
 pub mod Answers
 pub mod Questions
@@ -7,3 +7,4 @@ pub mod Reading
 pub mod Run
 pub mod Ledger
 pub mod Demand
+pub mod Corollaries
