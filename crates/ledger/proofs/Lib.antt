@@ -15,3 +15,4 @@ pub mod StepLookUp
 pub mod Demand
 pub mod Runs
 pub mod Corollaries
+pub mod Sessions

@@ -8,3 +8,4 @@ pub mod Run
 pub mod Ledger
 pub mod Demand
 pub mod Corollaries
+pub mod Sessions

@@ -1,0 +1,63 @@
+-- A session's line by computation: where the calls as functions give these replies, the ledger and every run do. Assumes nothing.
+use Prim.Native.Nat.{ℕ, _≤_}
+use native.Mathlib.Omega.{arith}
+use mathlib.Core.Path.{_≡_, refl, sym, ap, _∙_, subst}
+use mathlib.Core.List.{List, [], _++_, append-nil}
+use lib.ListN.{length, drop, replicate, length-replicate, drop-of-length-le}
+use Rattle.grammar.specs.Image.{rules}
+use Rattle.grammar.specs.Questions.{Accepted}
+use Rattle.editing.specs.Text.{opened}
+use Rattle.editing.specs.Table.{tableSize, clearedTable}
+use Rattle.ledger.specs.declared.OpenAnswer.{OpenAnswer}
+use Rattle.ledger.specs.Promises.{OpenPromise}
+use Rattle.ledger.specs.Ledger.{Evaluations, Call, Reply, openedLedger, replies}
+use Rattle.ledger.specs.Demand.{loan, Trace}
+use Rattle.ledger.specs.Sessions.{SessionSays}
+use Rattle.ledger.proofs.Demand.{demand-3}
+use Rattle.ledger.proofs.Fresh.{evaluations}
+use Rattle.ledger.proofs.Runs.{an-opening, ledger-replies, repliesOf}
+
+module _ (img text : List ℕ) (cap : ℕ) (accepted : Accepted img) (small : cap ≤ 65535) (fits : length text ≤ cap) where
+  -- A table of zeros, cleared.
+  cleared : clearedTable (rules img) cap (replicate (tableSize (rules img) cap) 0) ≡ replicate (tableSize (rules img) cap) 0
+  cleared =
+      ap (λ (l : List ℕ). replicate (tableSize (rules img) cap) 0 ++ l)
+      (drop-of-length-le (replicate (tableSize (rules img) cap) 0) {i = tableSize (rules img) cap}
+      (let e = length-replicate {A = ℕ} (tableSize (rules img) cap) 0 in omega arith))
+      ∙ append-nil (replicate (tableSize (rules img) cap) 0)
+
+  -- An opening over a buffer and a table of zeros.
+  an-opened :
+      OpenPromise img text (replicate cap 0) (replicate (tableSize (rules img) cap) 0) (OpenAnswer.Opened (length text)) (opened cap text)
+      (replicate (tableSize (rules img) cap) 0)
+  an-opened =
+      let long = length-replicate {A = ℕ} cap 0 in
+      let words = length-replicate {A = ℕ} (tableSize (rules img) cap) 0 in
+      let p =
+      an-opening img text (replicate cap 0) (replicate (tableSize (rules img) cap) 0) accepted
+      (record { short = rw long small; text-fits = rw long fits; whole-table = rw (long, words) (omega arith) }) in
+      rw (long, cleared) at p
+
+  pub ledger-computed :
+      (ev : Evaluations) (calls : List Call)
+      → replies ev cap (openedLedger img accepted text) calls
+      ≡ repliesOf (loan img (opened cap text) (length text) (replicate (tableSize (rules img) cap) 0)) calls
+  ledger-computed ev calls =
+      sym
+      (ledger-replies an-opened accepted ev calls
+      ∙ ap (λ (c : ℕ). replies ev c (openedLedger img accepted text) calls) (length-replicate cap 0))
+
+  pub session-says :
+      (calls : List Call) (answers : List Reply)
+      → repliesOf (loan img (opened cap text) (length text) (replicate (tableSize (rules img) cap) 0)) calls ≡ answers
+      → SessionSays img text cap calls answers
+  session-says calls answers e =
+      record {
+        accepted = accepted;
+        ledger = λ ev. ledger-computed ev calls ∙ e;
+        runs = λ B₀ W₀ B W n long p given img′ B′ W′ n′ t.
+            demand-3 img text B₀ W₀ B W n p accepted evaluations calls given img′ B′ W′ n′ t .0
+            ∙ ap (λ (c : ℕ). replies evaluations c (openedLedger img accepted text) calls) long
+            ∙ ledger-computed evaluations calls
+            ∙ e;
+      }
