@@ -121,5 +121,6 @@ module _ {ev : Evaluations} {cap : ℕ} {rest : List ℕ} {l : Ledger} {B : List
         words-are = v .words-are;
         held-in = v .held-in;
         true-words = true-word;
+        whole-table = v .whole;
         after-table = v .after-table;
       }

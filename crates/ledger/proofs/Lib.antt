@@ -2,6 +2,7 @@
 pub mod Bools
 pub mod Tables
 pub mod Asked
+pub mod Kept
 pub mod SheetReads
 pub mod Fresh
 pub mod Inv

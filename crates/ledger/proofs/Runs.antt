@@ -2,7 +2,7 @@
 -- calls from every accepted opening, and there is an accepted opening for every accepted image. Assumes nothing.
 --     an-opening       an opening that keeps its promise
 --     a-run            a run of every list of calls, with the replies and the loan that the functions give
---     one-ledger       the ledger's replies do not depend on the functions that give its evaluations
+--     ledger-replies   the ledger's replies are those of the functions, whatever gives it its evaluations
 use Prim.Native.Nat.{ℕ, _≤_, _<_}
 use native.Mathlib.Omega.{arith}
 use mathlib.Core.Path.{_≡_, refl, sym, _∙_}
@@ -26,21 +26,18 @@ use Rattle.ledger.specs.Run.{startRun, answerOf, wordsOf}
 use Rattle.ledger.specs.Ledger.{Evaluations, Call, edit, reading, look-up, Reply, edits, reads, finds, Ledger, openedLedger, turn, replies}
 use Rattle.ledger.specs.Demand.{Loan, loan, Link, edit-link, read-link, look-up-link, nextLength, Trace, done, next}
 use Rattle.ledger.proofs.Bools.{both, joined}
-use Rattle.ledger.proofs.Asked.{sheet-first, sheet-passed, edit-9, edit-10, edit-0, look-up-11, look-up-0}
+use Rattle.ledger.proofs.Asked.{sheet-first, sheet-passed, edit-9, edit-10, look-up-11}
+use Rattle.ledger.proofs.Kept.{open-done, edit-refused, edit-done, look-up-refused, look-up-done}
 use Rattle.ledger.proofs.SheetReads.{reads-are}
 use Rattle.ledger.proofs.Fresh.{evaluations}
 use Rattle.ledger.proofs.Inv.{Inv, lent}
-use Rattle.ledger.proofs.Demand.{opened-image, opening, Holds, holds, one-call, all-calls, demand-3}
+use Rattle.ledger.proofs.Demand.{opened-image, opening, Holds, holds, one-call, all-calls}
 
--- "a test that turns every image down" is shut out: an opening is accepted where questions 1 to 8 hold.
+-- An opening is accepted where questions 1 to 8 hold.
 pub an-opening :
     (img text B W : List ℕ) → Accepted img → Question8 img (length B) (length text) (length W)
     → OpenPromise img text B W (OpenAnswer.Opened (length text)) (opened (length B) text) (clearedTable (rules img) (length B) W)
-an-opening img text B W accepted q =
-    record {
-      first = sheet-first img (length B) (length text) (length W) accepted q;
-      values = record { length-is = refl; bytes-are = refl; words-are = refl };
-    }
+an-opening img text B W accepted q = open-done img text B W (sheet-first img (length B) (length text) (length W) accepted q) refl refl
 
 -- An edit, by the answers to questions 9 and 10.
 abbrev pub editAnswer : (passes9 passes10 : Bool) (img B : List ℕ) (n : ℕ) (W : List ℕ) (s e : ℕ) (r : List ℕ) → EditAnswer
@@ -106,12 +103,9 @@ module _ (img B : List ℕ) (n : ℕ) (W : List ℕ) (good : First (ofSheet img 
       → EditPromise img B n W s e r (editAnswer b c img B n W s e r) (editBytes b c B n s e r)
       (editWords b c img (length B) n W s e (length r))
   edit-kept s e r false c t u =
-      record {
-        first =
-            edit-9 img (length B) n (length W) good s e (length r)
-            (λ q. true≢false (sym (joined (leb s e) (leb e n) (le-leb s e (q .ordered)) (le-leb e n (q .in-text))) ∙ t));
-        values = record { numbered = omega arith; same-bytes = refl; same-words = refl };
-      }
+      edit-refused img B n W s e r 9 (omega arith)
+      (edit-9 img (length B) n (length W) good s e (length r)
+      (λ q. true≢false (sym (joined (leb s e) (leb e n) (le-leb s e (q .ordered)) (le-leb e n (q .in-text))) ∙ t)))
   edit-kept s e r true c t u = go c u
     where
       asked : Question9 n s e
@@ -122,39 +116,23 @@ module _ (img B : List ℕ) (n : ℕ) (W : List ℕ) (good : First (ofSheet img 
           → EditPromise img B n W s e r (editAnswer true c img B n W s e r) (editBytes true c B n s e r)
           (editWords true c img (length B) n W s e (length r))
       go false u =
-          record {
-            first =
-                edit-10 img (length B) n (length W) good s e (length r) asked
-                (λ q. true≢false (sym (le-leb (newLength n s e (length r)) (length B) (q .room)) ∙ u));
-            values = record { numbered = omega arith; same-bytes = refl; same-words = refl };
-          }
+          edit-refused img B n W s e r 10 (omega arith)
+          (edit-10 img (length B) n (length W) good s e (length r) asked
+          (λ q. true≢false (sym (le-leb (newLength n s e (length r)) (length B) (q .room)) ∙ u)))
       go true u =
-          record {
-            first =
-                edit-0 img (length B) n (length W) good s e (length r) asked
-                (record { room = leb-true (newLength n s e (length r)) (length B) u });
-            values = record { length-is = refl; standing-are = refl; bytes-are = refl; words-are = refl };
-          }
+          edit-done img B n W s e r good asked (record { room = leb-true (newLength n s e (length r)) (length B) u }) refl refl refl refl
 
   look-up-kept :
       (rule q : ℕ) (b : Bool) → asks11 img n rule q ≡ b → LookUpPromise img B n W rule q (lookUpAnswer b img W rule q)
   look-up-kept rule q false t =
-      record {
-        first =
-            look-up-11 img (length B) n (length W) good rule q
-            (λ x.
-            true≢false
-            (sym (joined (ltb rule (rules img)) (leb q n) (lt-ltb rule (rules img) (x .rule-in)) (le-leb q n (x .position-in))) ∙ t));
-        values = omega arith;
-      }
+      look-up-refused img B n W rule q 11 (omega arith)
+      (look-up-11 img (length B) n (length W) good rule q
+      (λ x.
+      true≢false
+      (sym (joined (ltb rule (rules img)) (leb q n) (lt-ltb rule (rules img) (x .rule-in)) (le-leb q n (x .position-in))) ∙ t)))
   look-up-kept rule q true t =
       let b = both (ltb rule (rules img)) (leb q n) t in
-      record {
-        first =
-            look-up-0 img (length B) n (length W) good rule q
-            (record { rule-in = ltb-true rule (rules img) (b .0); position-in = leb-true q n (b .1) });
-        values = refl;
-      }
+      look-up-done img B n W rule q good (record { rule-in = ltb-true rule (rules img) (b .0); position-in = leb-true q n (b .1) }) refl
 
   a-link : (call : Call) → Link (loan img B n W) call (replyOf (loan img B n W) call) (nextOf (loan img B n W) call)
   a-link (edit s e r) = edit-link (edit-kept s e r (asks9 n s e) (asks10 (length B) n s e (length r)) refl refl)

@@ -66,6 +66,7 @@ pub record Agrees (ev : Evaluations) (cap : ℕ) (rest : List ℕ) (l : Ledger) 
       → wordAt (l .image) W rule q ≡ pick (l .held rule q) (wordOf (valueIn ev l rule q)) 0
   pub held-in : (rule q : ℕ) → l .held rule q ≡ true → (rule < rules (l .image)) × (q ≤ length (l .text))
   pub true-words : (rule q : ℕ) → l .held rule q ≡ true → IsTrue (l .image) (l .text) rule q (wordAt (l .image) W rule q)
+  pub whole-table : tableSize (rules (l .image)) cap ≤ length W
   pub after-table : drop (tableSize (rules (l .image)) cap) W ≡ rest
 
 -- From an accepted opening on, for every list of calls that kept their promises, refused ones too: every reply along the list is the
