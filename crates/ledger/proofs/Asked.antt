@@ -1,9 +1,9 @@
 -- The questions in front of each call: where they all hold, where the first one fails, and what is left to ask. Assumes nothing.
-use Prim.Native.Nat.{ℕ, _≤_, _<_}
+use Prim.Native.Nat.{ℕ, _≤_}
 use native.Mathlib.Omega.{arith}
 use mathlib.Core.Path.{_≡_, refl}
 use mathlib.Core.List.{List, [], _∷_, _++_}
-use mathlib.Core.Logic.{_⊎_, inl, inr}
+use mathlib.Core.Logic.{inl, inr}
 use Rattle.grammar.specs.Questions.{Question, First, ofImage, Checked, Accepted}
 use Rattle.grammar.proofs.First.{Numbered, then-asked, refused-before, unique}
 use Rattle.grammar.proofs.Acceptance.{accepted, checked}

@@ -1,5 +1,5 @@
 -- Along a list of calls questions 1 to 8 hold, and questions 9 to 11 are those that the ledger asks of its own text. Assumes nothing.
-use Prim.Native.Nat.{ℕ, _≤_, _<_}
+use Prim.Native.Nat.{ℕ, _≤_}
 use mathlib.Core.Path.{_≡_, sym, _∙_}
 use mathlib.Core.Bool.{true, false, true≢false}
 use mathlib.Core.List.{List}

@@ -5,9 +5,9 @@
 use Prim.Native.Nat.{ℕ, _≤_, _<_}
 use native.Mathlib.Omega.{arith}
 use mathlib.Core.Path.{_≡_, refl, sym, ap, _∙_, subst}
-use mathlib.Core.Bool.{Bool, true, false, true≢false}
+use mathlib.Core.Bool.{Bool, true, false}
 use mathlib.Core.List.{List, [], _∷_}
-use mathlib.Core.Logic.{_⊎_, inl, inr}
+use mathlib.Core.Logic.{inl, inr}
 use lib.ListN.{length, take, drop}
 use lib.Dec.{leb, eqb}
 use borrow.Author.Tests.{le-leb, lt-leb, eq-eqb, ne-eqb}
@@ -20,18 +20,14 @@ use Rattle.grammar.proofs.Acceptance.{checked}
 use Rattle.reading.specs.declared.plain.Outcome.{Outcome}
 use Rattle.reading.specs.declared.plain.Reading.{Reading}
 use Rattle.reading.specs.declared.plain.PlainAnswer.{PlainAnswer}
-use Rattle.reading.specs.Plain.{Says, Reports, ShortText, DepthAllowed, TooDeep, ofPlain, PlainRead, outcomeOf}
+use Rattle.reading.specs.Plain.{Says, Reports, ShortText, DepthAllowed, ofPlain, PlainRead, outcomeOf}
 use Rattle.editing.specs.Table.{tableSize}
-use Rattle.ledger.specs.declared.OpenAnswer.{OpenAnswer}
-use Rattle.ledger.specs.declared.EditAnswer.{EditAnswer}
-use Rattle.ledger.specs.declared.LookUpAnswer.{LookUpAnswer}
 use Rattle.ledger.specs.declared.ReadAnswer.{ReadAnswer}
-use Rattle.ledger.specs.Answers.{sheetReading, readNumber}
-use Rattle.ledger.specs.Promises.{OpenPromise}
+use Rattle.ledger.specs.Answers.{sheetReading}
 use Rattle.ledger.specs.Reading.{ReadPromise}
-use Rattle.ledger.specs.Ledger.{Evaluations, Call, edit, reading, look-up, Reply, edits, reads, finds, Ledger, openedLedger, turn, replies, leftBy}
+use Rattle.ledger.specs.Ledger.{Evaluations, Call, edit, reading, look-up, reads, Ledger, openedLedger, turn, replies}
 use Rattle.ledger.specs.Ledger.{valueIn, newPairs, passes9, passes10, passes11, passes14, editTurn, readTurn, lookUpTurn}
-use Rattle.ledger.specs.Demand.{Loan, loan, Trace}
+use Rattle.ledger.specs.Demand.{loan}
 use Rattle.ledger.specs.Corollaries.{LedgersNumber, All, OnlyTheseNumbers, inSession, AsPlain}
 use Rattle.ledger.proofs.Asked.{first-rest, image-numbers}
 use Rattle.ledger.proofs.Fresh.{evaluations}
@@ -105,7 +101,9 @@ module _ (img text : List ℕ) (accepted : Accepted img) (short : length text �
     is-14 k (inr (q, inl a)) h = a .1
     is-14 k (inr (q, inr (d, g))) h = absurd (omega arith)
 
-    reported : (y : Reading) (v : Evaluation) (count : ℕ) → v ≡ z → Reports (length text) v y → ReadAnswer.Read (sheetReading (length text) z count) ≡ inSession (PlainAnswer.Read y) count
+    reported :
+        (y : Reading) (v : Evaluation) (count : ℕ) → v ≡ z → Reports (length text) v y
+        → ReadAnswer.Read (sheetReading (length text) z count) ≡ inSession (PlainAnswer.Read y) count
     reported y v count f r =
         ap (λ (x : Evaluation). ReadAnswer.Read (sheetReading (length text) x count)) (sym f)
         ∙ sym
@@ -121,14 +119,16 @@ module _ (img text : List ℕ) (accepted : Accepted img) (short : length text �
 
     plain-answer : (x : PlainAnswer) (count : ℕ) → PlainRead img text x → Answered (length text) z (leb (z .nesting) 4096) x count
     plain-answer (PlainAnswer.Read y) count p =
-        subst (λ (b : Bool). Answered (length text) z b (PlainAnswer.Read y) count) (sym (le-leb (z .nesting) 4096 (allowed 0 (own 0 (p .first)) refl)))
+        subst (λ (b : Bool). Answered (length text) z b (PlainAnswer.Read y) count)
+        (sym (le-leb (z .nesting) 4096 (allowed 0 (own 0 (p .first)) refl)))
         (reported y (p .values .value) count (one img text bodiesOnly (p .values .evaluated) e) (p .values .reports))
     plain-answer (PlainAnswer.Refused k) count p =
         let n = is-14 k (own k (p .first)) (p .values .0) in
         let d = p .values .1 n in
         let same = ap (λ (x : Evaluation). x .nesting) (one img text bodiesOnly (d .evaluated) e) in
         let deep : 4096 < z .nesting = omega (arith, d .above) in
-        subst (λ (b : Bool). Answered (length text) z b (PlainAnswer.Refused k) count) (sym (lt-leb (z .nesting) 4096 deep)) (ap ReadAnswer.Refused (sym n))
+        subst (λ (b : Bool). Answered (length text) z b (PlainAnswer.Refused k) count)
+        (sym (lt-leb (z .nesting) 4096 deep)) (ap ReadAnswer.Refused (sym n))
 
 -- The ledger's reading, and the plain reading of its text.
 module _ {ev : Evaluations} {cap : ℕ} {rest : List ℕ} {l : Ledger} {B : List ℕ} {n : ℕ} {W : List ℕ} (v : Inv ev cap rest l B n W)

@@ -5,7 +5,7 @@
 use Prim.Native.Nat.{ℕ}
 use mathlib.Core.Path.{_≡_, refl, subst}
 use mathlib.Core.Bool.{Bool, true, false}
-use mathlib.Core.List.{List, [], _∷_}
+use mathlib.Core.List.{List, _∷_}
 use lib.ListN.{length, drop}
 use Rattle.grammar.specs.Image.{rules}
 use Rattle.grammar.specs.Questions.{Accepted}
@@ -65,7 +65,9 @@ module _ (ev : Evaluations) (cap : ℕ) (l : Ledger) where
 
 -- A call, and a list of calls.
 module _ (ev : Evaluations) (cap : ℕ) (rest : List ℕ) where
-  still : (l : Ledger) (call : Call) {B W : List ℕ} {n : ℕ} → Inv ev cap rest (turn ev cap l call .left) B n W → Holds ev cap rest (turn ev cap l call .left) (loan (l .image) B n W)
+  still :
+      (l : Ledger) (call : Call) {B W : List ℕ} {n : ℕ} → Inv ev cap rest (turn ev cap l call .left) B n W
+      → Holds ev cap rest (turn ev cap l call .left) (loan (l .image) B n W)
   still l call {B} {W} {n} v =
       subst (λ (img : List ℕ). Holds ev cap rest (turn ev cap l call .left) (loan img B n W)) (same-image ev cap l call) (holds v)
 

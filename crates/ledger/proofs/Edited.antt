@@ -6,8 +6,8 @@
 --     calls-stay, calls-carry                    and its body calls the old pairs
 use Prim.Native.Nat.{ℕ, _+_, _-_, _≤_, _<_}
 use native.Mathlib.Omega.{arith}
-use mathlib.Core.Path.{_≡_, refl, sym, ap, _∙_, subst}
-use mathlib.Core.Bool.{Bool, true, false, _&&_, _||_, true≢false}
+use mathlib.Core.Path.{_≡_, sym, ap, _∙_, subst}
+use mathlib.Core.Bool.{Bool, true, _&&_}
 use mathlib.Core.List.{List, _++_, append-assoc, map}
 use mathlib.Core.Logic.{_⊎_, inl, inr}
 use lib.ListN.{length, take, drop, replicate, length-append, length-drop, take-append-drop}
@@ -15,11 +15,11 @@ use lib.Seq.{length-take-le, take-at, take-append-le, drop-append-le}
 use lib.Dec.{leb}
 use borrow.Author.Tests.{leb-true, le-leb}
 use Rattle.grammar.specs.declared.Evaluation.{Evaluation}
-use Rattle.grammar.specs.Image.{rules, body}
+use Rattle.grammar.specs.Image.{rules}
 use Rattle.grammar.specs.Questions.{Accepted}
-use Rattle.grammar.specs.Evaluates.{Fresh, Subject, bodiesOnly, a-node, a-pair, ev-body}
+use Rattle.grammar.specs.Evaluates.{Fresh, Subject, bodiesOnly, a-pair}
 use Rattle.grammar.proofs.Determinism.{one}
-use Rattle.evaluation.specs.Calls.{Pair, In, callsOf}
+use Rattle.evaluation.specs.Calls.{Pair, callsOf}
 use Rattle.evaluation.proofs.Locality.{prefix-decides, moved}
 use Rattle.evaluation.proofs.CallLocality.{prefix-calls, moved-calls, shifted}
 use Rattle.editing.specs.Text.{newLength, textAfter, opened}
@@ -27,7 +27,7 @@ use Rattle.editing.specs.Pairs.{standsAfter}
 use Rattle.ledger.specs.Ledger.{Evaluations}
 use Rattle.ledger.proofs.Bools.{both, joined, either, or-left, or-right}
 use Rattle.ledger.proofs.Inv.{opened-length}
-use Rattle.ledger.proofs.Called.{CalledWithin, called-within, Back, moved-back, Shifted, in-shifted, shifted-in}
+use Rattle.ledger.proofs.Called.{Back, moved-back}
 
 -- "q ≤ s, the pair was held at q, and q + examined ≤ s"
 pub record Stays (held : ℕ → Bool) (examined : ℕ → ℕ) (s q : ℕ) : Type 0 where

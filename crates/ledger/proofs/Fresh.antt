@@ -2,7 +2,7 @@
 -- evaluated in the start pair's. And all such functions give the same. Assumes nothing.
 --     evaluations                 functions that will do
 --     one-value, one-reached      any two give the same
-use Prim.Native.Nat.{ℕ, _+_, _≤_, _<_}
+use Prim.Native.Nat.{ℕ, _≤_, _<_}
 use native.Mathlib.Omega.{arith}
 use mathlib.Core.Path.{_≡_, refl, sym, _∙_}
 use mathlib.Core.Bool.{Bool, true, false, true≢false}
@@ -16,7 +16,7 @@ use Rattle.grammar.specs.Image.{rules, start}
 use Rattle.grammar.specs.Questions.{Accepted}
 use Rattle.grammar.specs.Evaluates.{Fresh, bodiesOnly, a-pair, emptyHere}
 use Rattle.grammar.proofs.Determinism.{one}
-use Rattle.evaluation.specs.Calls.{Pair, isIn, Reached, bodiesOf}
+use Rattle.evaluation.specs.Calls.{isIn, Reached, bodiesOf}
 use Rattle.evaluation.proofs.Totality.{Exists, total-pair}
 use Rattle.evaluation.proofs.Reach.{reached-is, is-reached}
 use Rattle.ledger.specs.Ledger.{Evaluations}

@@ -1,9 +1,9 @@
 -- What holds of the loan and the ledger after every call: the invariant of demand 3, and what follows from it. Assumes nothing.
-use Prim.Native.Nat.{ℕ, _+_, _*_, _-_, _≤_, _<_, _^_}
+use Prim.Native.Nat.{ℕ, _+_, _-_, _≤_, _<_, _^_}
 use native.Mathlib.Omega.{arith}
 use mathlib.Core.Path.{_≡_, refl, sym, ap, _∙_}
-use mathlib.Core.Bool.{Bool, true, false, true≢false}
-use mathlib.Core.List.{List, _++_}
+use mathlib.Core.Bool.{Bool, true, false}
+use mathlib.Core.List.{List}
 use lib.ListN.{length, take, drop, replicate, length-append, length-replicate}
 use lib.Seq.{take-at}
 use borrow.Author.Tests.{le-leb}
@@ -42,7 +42,13 @@ pub record Inv (ev : Evaluations) (cap : ℕ) (rest : List ℕ) (l : Ledger) (B 
   pub after-table : drop (tableSize (rules (l .image)) cap) W ≡ rest
 
 -- The word of a short evaluation of small nesting is held.
-pub held-word : (img text : List ℕ) (r q : ℕ) (x : Evaluation) → Fresh img text (a-pair r) q x → q ≤ length text → length text ≤ 65535 → x .nesting ≤ 4096 → isHeld (wordOf x) ≡ true
+pub held-word :
+    (img text : List ℕ) (r q : ℕ) (x : Evaluation)
+    → Fresh img text (a-pair r) q x
+    → q ≤ length text
+    → length text ≤ 65535
+    → x .nesting ≤ 4096
+    → isHeld (wordOf x) ≡ true
 held-word img text r q x u h short k =
     le-leb (2 ^ 63) (wordOf x) (word-held x (word-possible x q (length text) short (fresh-within u h) k .0))
 

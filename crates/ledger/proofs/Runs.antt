@@ -3,7 +3,7 @@
 --     an-opening       an opening that keeps its promise
 --     a-run            a run of every list of calls, with the replies and the loan that the functions give
 --     ledger-replies   the ledger's replies are those of the functions, whatever gives it its evaluations
-use Prim.Native.Nat.{ℕ, _≤_, _<_}
+use Prim.Native.Nat.{ℕ}
 use native.Mathlib.Omega.{arith}
 use mathlib.Core.Path.{_≡_, refl, sym, _∙_}
 use mathlib.Core.Bool.{Bool, true, false, _&&_, true≢false}
@@ -19,18 +19,17 @@ use Rattle.editing.specs.Table.{wordsAfter, tableAfter, clearedTable, heldIn, t
 use Rattle.ledger.specs.declared.OpenAnswer.{OpenAnswer}
 use Rattle.ledger.specs.declared.EditAnswer.{EditAnswer}
 use Rattle.ledger.specs.declared.LookUpAnswer.{LookUpAnswer}
-use Rattle.ledger.specs.declared.ReadAnswer.{ReadAnswer}
-use Rattle.ledger.specs.Questions.{Question8, Question9, Question10, Question11, ofSheet}
+use Rattle.ledger.specs.Questions.{Question8, Question9, ofSheet}
 use Rattle.ledger.specs.Promises.{OpenPromise, EditPromise, LookUpPromise}
 use Rattle.ledger.specs.Run.{startRun, answerOf, wordsOf}
-use Rattle.ledger.specs.Ledger.{Evaluations, Call, edit, reading, look-up, Reply, edits, reads, finds, Ledger, openedLedger, turn, replies}
+use Rattle.ledger.specs.Ledger.{Evaluations, Call, edit, reading, look-up, Reply, edits, reads, finds, Ledger, openedLedger, replies}
 use Rattle.ledger.specs.Demand.{Loan, loan, Link, edit-link, read-link, look-up-link, nextLength, Trace, done, next}
 use Rattle.ledger.proofs.Bools.{both, joined}
 use Rattle.ledger.proofs.Asked.{sheet-first, sheet-passed, edit-9, edit-10, look-up-11}
 use Rattle.ledger.proofs.Kept.{open-done, edit-refused, edit-done, look-up-refused, look-up-done}
 use Rattle.ledger.proofs.SheetReads.{reads-are}
 use Rattle.ledger.proofs.Fresh.{evaluations}
-use Rattle.ledger.proofs.Inv.{Inv, lent}
+use Rattle.ledger.proofs.Inv.{lent}
 use Rattle.ledger.proofs.Demand.{opened-image, opening, Holds, holds, one-call, all-calls}
 
 -- An opening is accepted where questions 1 to 8 hold.

@@ -1,9 +1,9 @@
 -- A session's line by computation: where the calls as functions give these replies, the ledger and every run do. Assumes nothing.
 use Prim.Native.Nat.{ℕ, _≤_}
 use native.Mathlib.Omega.{arith}
-use mathlib.Core.Path.{_≡_, refl, sym, ap, _∙_, subst}
-use mathlib.Core.List.{List, [], _++_, append-nil}
-use lib.ListN.{length, drop, replicate, length-replicate, drop-of-length-le}
+use mathlib.Core.Path.{_≡_, sym, ap, _∙_}
+use mathlib.Core.List.{List, _++_, append-nil}
+use lib.ListN.{length, replicate, length-replicate, drop-of-length-le}
 use Rattle.grammar.specs.Image.{rules}
 use Rattle.grammar.specs.Questions.{Accepted}
 use Rattle.editing.specs.Text.{opened}
@@ -11,7 +11,7 @@ use Rattle.editing.specs.Table.{tableSize, clearedTable}
 use Rattle.ledger.specs.declared.OpenAnswer.{OpenAnswer}
 use Rattle.ledger.specs.Promises.{OpenPromise}
 use Rattle.ledger.specs.Ledger.{Evaluations, Call, Reply, openedLedger, replies}
-use Rattle.ledger.specs.Demand.{loan, Trace}
+use Rattle.ledger.specs.Demand.{loan}
 use Rattle.ledger.specs.Sessions.{SessionSays}
 use Rattle.ledger.proofs.Demand.{demand-3}
 use Rattle.ledger.proofs.Fresh.{evaluations}

@@ -3,14 +3,13 @@
 --     sheet-read       of a text in a buffer of cap bytes, where questions 1 to 8 hold
 --     reads-are        of the first n bytes of a buffer; the same by cases of the run: reads-answered, reads-refused
 --     reads-unasked    where one of questions 1 to 8 fails
-use Prim.Native.Nat.{ℕ, _+_, _*_, _%_, _≤_, _<_, _^_}
+use Prim.Native.Nat.{ℕ, _+_, _≤_, _<_, _^_}
 use native.Mathlib.Omega.{arith}
 use native.Mathlib.Nat.{mul-le-mul}
-use mathlib.Core.Path.{_≡_, refl, sym, ap, _∙_, subst}
-use mathlib.Core.Bool.{Bool, true, false}
+use mathlib.Core.Path.{_≡_, refl, ap, _∙_, subst}
 use mathlib.Core.List.{List, _++_}
 use mathlib.Core.Logic.{_⊎_}
-use lib.ListN.{length, getD, take, drop, replicate}
+use lib.ListN.{length, take, drop, replicate}
 use lib.Seq.{length-take-le}
 use Rattle.grammar.specs.declared.Evaluation.{Evaluation}
 use Rattle.grammar.specs.Image.{rules, start}
@@ -18,21 +17,19 @@ use Rattle.grammar.specs.Questions.{First, Accepted}
 use Rattle.grammar.specs.Evaluates.{a-pair}
 use Rattle.evaluation.specs.Calls.{Pair, isIn, bodiesOf}
 use Rattle.evaluation.proofs.Counts.{count-most}
-use Rattle.records.specs.Words.{isHeld, possible}
-use Rattle.reading.specs.Model.{Answer, answered, refused, Out, out, ruleM, nodeM}
+use Rattle.reading.specs.Model.{Answer, answered, refused, Out, out, nodeM}
 use Rattle.reading.specs.Plain.{TooDeep}
-use Rattle.reading.specs.Over.{wordAt, Over}
-use Rattle.reading.specs.Stores.{Room, evaluations, RefusedWith}
+use Rattle.reading.specs.Over.{Over}
+use Rattle.reading.specs.Stores.{Room, evaluations}
 use Rattle.reading.specs.Framed.{Fits, Framed}
 use Rattle.reading.proofs.Framed.{pair-framed, pair-impossible}
 use Rattle.reading.proofs.Stores.{determined}
 use Rattle.reading.proofs.TrueReads.{start-deep, only-14}
 use Rattle.editing.specs.Table.{tableSize, clearedTable}
 use Rattle.ledger.specs.declared.ReadAnswer.{ReadAnswer}
-use Rattle.ledger.specs.declared.SheetReading.{SheetReading}
 use Rattle.ledger.specs.Answers.{sheetReading}
 use Rattle.ledger.specs.Questions.{Question8, ofSheet}
-use Rattle.ledger.specs.Reading.{NotForeign, Answers, SheetRead, ReadPromise}
+use Rattle.ledger.specs.Reading.{NotForeign, AnswersWith, SheetRead, ReadPromise}
 use Rattle.ledger.specs.Run.{startRun, answerOf, wordsOf}
 use Rattle.ledger.proofs.Asked.{sheet-first}
 use Rattle.ledger.proofs.Tables.{slot-in, size-up, cleared-length, cleared-rest, same-rest}
@@ -71,7 +68,7 @@ module _ (img text : List ℕ) (cap : ℕ) (W : List ℕ) (accepted : Accepted i
 
     determinate :
         (z : Evaluation) (d : Over img text W (a-pair (start img)) 0 z) → z .nesting ≤ 4096
-        → Answers img text W z (bodiesOf d) (answerOf (length text) (startRun img text W)) (wordsOf img cap (startRun img text W))
+        → AnswersWith img text W z (bodiesOf d) (answerOf (length text) (startRun img text W)) (wordsOf img cap (startRun img text W))
     determinate z d k =
         let x =
         determined img text W (accepted .lawful .words) short room d (accepted .lawful .counts .start-rule) (omega arith) 4096
@@ -144,7 +141,8 @@ reads-are img B n W accepted q =
       read = λ e.
           subst
           (λ (k : ℕ).
-          SheetRead img (take n B) (length B) W (answerOf k (startRun img (take n B) W)) (wordsOf img (length B) (startRun img (take n B) W)))
+          SheetRead img (take n B) (length B) W (answerOf k (startRun img (take n B) W))
+          (wordsOf img (length B) (startRun img (take n B) W)))
           long
           read;
     }

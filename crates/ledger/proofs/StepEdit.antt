@@ -1,18 +1,18 @@
 -- An edit of demand 3: from the invariant and the edit's promise, the reply is the ledger's and the invariant holds again.
 -- Assumes nothing.
-use Prim.Native.Nat.{ℕ, _+_, _*_, _-_, _≤_, _<_}
+use Prim.Native.Nat.{ℕ, _+_, _-_, _≤_, _<_}
 use native.Mathlib.Omega.{arith}
 use mathlib.Core.Path.{_≡_, refl, sym, ap, _∙_, subst}
-use mathlib.Core.Bool.{Bool, true, false, _&&_, true≢false}
+use mathlib.Core.Bool.{Bool, true, false}
 use mathlib.Core.List.{List, _++_}
-use mathlib.Core.Logic.{_⊎_, inl, inr, ⊎-elim}
+use mathlib.Core.Logic.{_⊎_, ⊎-elim}
 use lib.ListN.{length, take, drop}
 use lib.Dec.{leb}
-use borrow.Author.Tests.{leb-true, le-leb}
+use borrow.Author.Tests.{leb-true}
 use Rattle.grammar.specs.Questions.{First}
 use Rattle.grammar.specs.declared.Evaluation.{Evaluation}
 use Rattle.grammar.specs.Image.{rules, body}
-use Rattle.grammar.specs.Evaluates.{Fresh, bodiesOnly, a-node, a-pair, ev-body}
+use Rattle.grammar.specs.Evaluates.{Fresh, bodiesOnly, a-node, ev-body}
 use Rattle.grammar.proofs.Determinism.{one}
 use Rattle.evaluation.specs.Calls.{Pair, In, callsOf}
 use Rattle.evaluation.proofs.CallLocality.{shifted}
@@ -21,21 +21,19 @@ use Rattle.records.specs.Words.{isHeld, examinedOf, wordOf}
 use Rattle.records.proofs.Codec.{examined-back}
 use Rattle.reading.specs.Over.{wordAt}
 use Rattle.reading.proofs.OverTables.{word-possible}
-use Rattle.editing.specs.Text.{EditFits, newLength, textAfter, opened}
+use Rattle.editing.specs.Text.{EditFits, newLength, textAfter}
 use Rattle.editing.specs.Table.{pick, tableSize, wordsAfter, tableAfter, heldIn}
-use Rattle.editing.specs.Pairs.{standsAfter}
 use Rattle.editing.proofs.Ledger.{ledger-after}
 use Rattle.ledger.specs.declared.EditAnswer.{EditAnswer}
-use Rattle.ledger.specs.declared.EditedSheet.{EditedSheet}
 use Rattle.ledger.specs.Answers.{editNumber}
-use Rattle.ledger.specs.Questions.{Question9, Question10, ofSheet, ofEdit}
+use Rattle.ledger.specs.Questions.{ofEdit}
 use Rattle.ledger.specs.Promises.{EditValues, EditPromise}
 use Rattle.ledger.specs.Demand.{nextLength}
 use Rattle.ledger.specs.Ledger.{Evaluations, Ledger, Turn, edit, edits, valueIn, editedText, standing, pairsOf}
 use Rattle.ledger.specs.Ledger.{passes9, passes10, editTurn, turn}
 use Rattle.ledger.proofs.Bools.{both}
 use Rattle.ledger.proofs.Asked.{edit-9, edit-10, edit-0, edit-one}
-use Rattle.ledger.proofs.Inv.{Inv, held-word, cap-is, short-text, lent, value-of, holds-is}
+use Rattle.ledger.proofs.Inv.{Inv, held-word, cap-is, short-text, lent, value-of}
 use Rattle.ledger.proofs.Asks.{good, passes-9, fails-9, passes-10, fails-10}
 use Rattle.ledger.proofs.Tables.{whole-after, rest-after}
 use Rattle.ledger.proofs.Sums.{count-cut}
@@ -118,7 +116,8 @@ module _ {ev : Evaluations} {cap : ℕ} {rest : List ℕ} {l : Ledger} {B : List
         let held = v .closed rule q (c .was-held) z old y j in
         let in-it = called-within old j in
         let seen =
-        ap (λ (x : Evaluation). x .examined) (one (l .image) (l .text) bodiesOnly (value-of v (y .rule) (y .position) held) (in-it .evaluated)) in
+        ap (λ (x : Evaluation). x .examined)
+        (one (l .image) (l .text) bodiesOnly (value-of v (y .rule) (y .position) held) (in-it .evaluated)) in
         stays (y .rule) (y .position)
         (record { before = omega (arith, in-it .within); was-held = held; unseen = omega (arith, in-it .within) })
 
@@ -131,7 +130,8 @@ module _ {ev : Evaluations} {cap : ℕ} {rest : List ℕ} {l : Ledger} {B : List
     closed-come rule q c z u y i =
         let back = carry-back (l .text) r s e ordered in-text (l .image) u (c .behind) in
         let old = carry-there (l .text) r s e ordered in-text (l .image) (q - (s + length r)) (back .evaluated) in
-        let x = in-shifted (length (take s (l .text) ++ r)) (callsOf (back .evaluated)) (subst (λ (ps : List Pair). In y ps) (back .calls-are) i) in
+        let x =
+        in-shifted (length (take s (l .text) ++ r)) (callsOf (back .evaluated)) (subst (λ (ps : List Pair). In y ps) (back .calls-are) i) in
         let j : In (shifted e (x .pair)) (callsOf (old .evaluated)) =
         subst (λ (ps : List Pair). In (shifted e (x .pair)) ps) (sym (old .calls-are)) (shifted-in e (x .among)) in
         let was-held : l .held rule (e + (q - (s + length r))) ≡ true =
@@ -197,7 +197,8 @@ module _ {ev : Evaluations} {cap : ℕ} {rest : List ℕ} {l : Ledger} {B : List
         heldIn (wordsAfter (rules (l .image)) cap (length (l .text)) s e (length r) W)
         ≡ pairsOf (l .image) (editedText l s e r) (standing ev l s e r)
     count-after =
-        Rattle.editing.proofs.Ledger.standing (rules (l .image)) cap (length (l .text)) s e (length r) W (l .accepted .lawful .counts .some-rules) edit-fits
+        Rattle.editing.proofs.Ledger.standing (rules (l .image)) cap (length (l .text)) s e (length r) W
+        (l .accepted .lawful .counts .some-rules) edit-fits
         (l .held) examined (λ rule q. wordOf (valueIn ev l rule q)) (λ rule q. wordOf (valueIn ev now rule q)) (v .words-are) stored
         stay-word come-word
         ∙ count-cut (rules (l .image)) (length (editedText l s e r) + 1) (cap + 1) (standing ev l s e r)
@@ -244,14 +245,16 @@ module _ {ev : Evaluations} {cap : ℕ} {rest : List ℕ} {l : Ledger} {B : List
         ∙ ap (λ (m : ℕ). tableAfter (rules (l .image)) cap m s e (length r) W) (v .length-is) in (
           (λ i. edits (EditAnswer.Edited (record { length = new i; standing = count i }))),
           rw (p .bytes-are, words, p .length-is)
-              (inv-edit (tableAfter (rules (l .image)) cap (length (l .text)) s e (length r) W) (whole-after (rules (l .image)) cap (length (l .text)) s e (length r) W) word-after
+              (inv-edit (tableAfter (rules (l .image)) cap (length (l .text)) s e (length r) W)
+              (whole-after (rules (l .image)) cap (length (l .text)) s e (length r) W) word-after
               (rest-after (rules (l .image)) cap (length (l .text)) s e (length r) W ∙ v .after-table)),
         )
 
 -- An answer with a number leaves the invariant.
 edit-refused :
     {ev : Evaluations} {cap : ℕ} {rest : List ℕ} {l : Ledger} {B : List ℕ} {n : ℕ} {W : List ℕ} → Inv ev cap rest l B n W
-    → (s e : ℕ) (r : List ℕ) {B′ W′ : List ℕ} (a : EditAnswer) (k : ℕ) → 1 ≤ k → editNumber a ≡ k → EditValues (l .image) B n W s e r a B′ W′
+    → (s e : ℕ) (r : List ℕ) {B′ W′ : List ℕ} (a : EditAnswer) (k : ℕ) → 1 ≤ k → editNumber a ≡ k
+    → EditValues (l .image) B n W s e r a B′ W′
     → (edits a ≡ edits (EditAnswer.Refused k)) × Inv ev cap rest l B′ (nextLength n a) W′
 edit-refused v s e r (EditAnswer.Edited x) k h f p = absurd (omega arith)
 edit-refused v s e r (EditAnswer.Refused j) k h f p =

@@ -1,18 +1,13 @@
 -- A look-up of demand 3: from the invariant and the look-up's promise, the reply is the ledger's. Assumes nothing.
-use Prim.Native.Nat.{ℕ, _≤_, _<_}
+use Prim.Native.Nat.{ℕ, _≤_}
 use native.Mathlib.Omega.{arith}
-use mathlib.Core.Path.{_≡_, refl, sym, ap, _∙_}
-use mathlib.Core.Bool.{Bool, true, false, _&&_, true≢false}
+use mathlib.Core.Path.{_≡_, refl, ap, _∙_}
+use mathlib.Core.Bool.{Bool, true, false}
 use mathlib.Core.List.{List}
 use lib.ListN.{length}
-use lib.Dec.{leb, ltb}
-use borrow.Author.Tests.{leb-true, le-leb, ltb-true, lt-ltb}
-use Rattle.grammar.specs.Image.{rules}
-use Rattle.grammar.specs.Questions.{First}
 use Rattle.reading.specs.Over.{wordAt}
 use Rattle.ledger.specs.declared.LookUpAnswer.{LookUpAnswer}
 use Rattle.ledger.specs.Answers.{lookUpNumber}
-use Rattle.ledger.specs.Questions.{Question11, ofSheet}
 use Rattle.ledger.specs.Promises.{LookUpPromise, LookUpValues}
 use Rattle.ledger.specs.Ledger.{Evaluations, Ledger, look-up, finds, passes11, lookUpTurn, turn}
 use Rattle.ledger.proofs.Asked.{look-up-11, look-up-0, look-up-one}
@@ -20,7 +15,9 @@ use Rattle.ledger.proofs.Asks.{good, passes-11, fails-11}
 use Rattle.ledger.proofs.Inv.{Inv}
 
 -- An answer by its number.
-found : (img W : List ℕ) (rule q : ℕ) (a : LookUpAnswer) → lookUpNumber a ≡ 0 → LookUpValues img W rule q a → a ≡ LookUpAnswer.Word (wordAt img W rule q)
+found :
+    (img W : List ℕ) (rule q : ℕ) (a : LookUpAnswer) → lookUpNumber a ≡ 0 → LookUpValues img W rule q a
+    → a ≡ LookUpAnswer.Word (wordAt img W rule q)
 found img W rule q (LookUpAnswer.Word w) e h = ap LookUpAnswer.Word h
 found img W rule q (LookUpAnswer.Refused k) e h = absurd (omega arith)
 

@@ -4,12 +4,11 @@
 --     read-step    a reading
 use Prim.Native.Nat.{ℕ, _+_, _*_, _≤_, _<_}
 use native.Mathlib.Omega.{arith}
-use mathlib.Core.Path.{_≡_, refl, sym, ap, _∙_, subst}
+use mathlib.Core.Path.{_≡_, refl, sym, ap, _∙_}
 use mathlib.Core.Bool.{Bool, true, false, not, _&&_, _||_, true≢false}
 use mathlib.Core.List.{List}
 use mathlib.Core.Logic.{⊎-elim}
-use lib.ListN.{length, take, drop}
-use lib.Dec.{leb}
+use lib.ListN.{length, drop}
 use borrow.Author.Tests.{leb-true, leb-false}
 use Rattle.grammar.specs.declared.Evaluation.{Evaluation}
 use Rattle.grammar.specs.Image.{rules, start, body}
@@ -21,19 +20,20 @@ use Rattle.evaluation.proofs.Plain.{no-record}
 use Rattle.evaluation.proofs.Pairs.{is-in}
 use Rattle.evaluation.proofs.Counts.{count-same}
 use Rattle.evaluation.proofs.Bodies.{shallower}
-use Rattle.evaluation.proofs.Range.{PairOf, bodies-in-range}
-use Rattle.evaluation.proofs.Reach.{reached-in, reached-is, is-reached}
+use Rattle.evaluation.proofs.Range.{bodies-in-range}
+use Rattle.evaluation.proofs.Reach.{reached-is, is-reached}
 use Rattle.records.specs.Words.{isHeld, wordOf}
 use Rattle.reading.specs.Over.{wordAt, Over}
-use Rattle.reading.specs.Stores.{Stores, evaluations}
+use Rattle.reading.specs.Stores.{evaluations}
 use Rattle.reading.proofs.Stores.{kept-pair, over-in-range}
 use Rattle.reading.proofs.TrueTables.{over-of-fresh, fresh-of-over, bodies-over}
 use Rattle.editing.specs.Text.{opened}
 use Rattle.editing.specs.Table.{pick, tableSize, clearedTable}
 use Rattle.ledger.specs.declared.ReadAnswer.{ReadAnswer}
 use Rattle.ledger.specs.Answers.{sheetReading}
-use Rattle.ledger.specs.Reading.{Answers, SheetRead, ReadPromise}
-use Rattle.ledger.specs.Ledger.{Evaluations, Ledger, Turn, reading, reads, openedLedger, valueIn, reachedIn, pairsOf, passes14, readTurn, turn}
+use Rattle.ledger.specs.Reading.{AnswersWith, SheetRead, ReadPromise}
+use Rattle.ledger.specs.Ledger.{Evaluations, Ledger, Turn, reading, reads, openedLedger, valueIn, reachedIn, pairsOf}
+use Rattle.ledger.specs.Ledger.{passes14, readTurn, turn}
 use Rattle.ledger.proofs.Bools.{either, or-left, or-right}
 use Rattle.ledger.proofs.Asked.{sheet-first, sheet-one}
 use Rattle.ledger.proofs.Tables.{slot-in, cleared-length, cleared-rest, cleared-word}
@@ -140,7 +140,7 @@ module _ {ev : Evaluations} {cap : ℕ} {rest : List ℕ} {l : Ledger} {B : List
 
     -- What a reading leaves where it is not too deep.
     module _ (k : z .nesting ≤ 4096) where
-      given : Answers (l .image) (l .text) W z (bodiesOf d) a W′
+      given : AnswersWith (l .image) (l .text) W z (bodiesOf d) a W′
       given = sr .determinate z d k
 
       word-after :

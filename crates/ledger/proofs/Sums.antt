@@ -1,5 +1,5 @@
 -- A count of pairs over more positions than any that passes is at counts the same. Assumes nothing.
-use Prim.Native.Nat.{ℕ, zero, suc, _+_, _-_, _≤_, _<_}
+use Prim.Native.Nat.{ℕ, zero, suc, _+_, _-_, _≤_}
 use native.Mathlib.Omega.{arith}
 use native.Mathlib.Nat.{add-zero, add-suc}
 use mathlib.Core.Path.{_≡_, refl, sym, ap, _∙_}

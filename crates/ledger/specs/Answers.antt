@@ -1,7 +1,6 @@
 -- The paper's number and values for each case of each answer. The number of an answered call is 0; a refusal has its number and no
 -- values. The values of an answered reading are made here; those of the other calls are what their constructors hold.
 use Prim.Native.Nat.{ℕ}
-use mathlib.Core.Bool.{Bool}
 use lib.Dec.{eqb}
 use Rattle.grammar.specs.declared.Evaluation.{Evaluation}
 use Rattle.reading.specs.Plain.{outcomeOf}

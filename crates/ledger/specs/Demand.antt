@@ -1,6 +1,6 @@
 -- Demand 3: "a single claim about the whole list and not one for each call." Each link of a list is a promise that a call's contract
 -- cites.
-use Prim.Native.Nat.{ℕ, _+_, _≤_, _<_}
+use Prim.Native.Nat.{ℕ, _≤_, _<_}
 use mathlib.Core.Path.{_≡_}
 use mathlib.Core.Bool.{true}
 use mathlib.Core.List.{List, [], _∷_}
@@ -14,7 +14,6 @@ use Rattle.editing.specs.Text.{opened}
 use Rattle.editing.specs.Table.{pick, tableSize}
 use Rattle.ledger.specs.declared.OpenAnswer.{OpenAnswer}
 use Rattle.ledger.specs.declared.EditAnswer.{EditAnswer}
-use Rattle.ledger.specs.declared.EditedSheet.{EditedSheet}
 use Rattle.ledger.specs.declared.LookUpAnswer.{LookUpAnswer}
 use Rattle.ledger.specs.declared.ReadAnswer.{ReadAnswer}
 use Rattle.ledger.specs.Promises.{OpenPromise, EditPromise, LookUpPromise}

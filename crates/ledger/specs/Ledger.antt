@@ -18,10 +18,8 @@ use Rattle.editing.specs.Text.{newLength}
 use Rattle.editing.specs.Table.{pick}
 use Rattle.editing.specs.Pairs.{standsAfter}
 use Rattle.ledger.specs.declared.EditAnswer.{EditAnswer}
-use Rattle.ledger.specs.declared.EditedSheet.{EditedSheet}
 use Rattle.ledger.specs.declared.LookUpAnswer.{LookUpAnswer}
 use Rattle.ledger.specs.declared.ReadAnswer.{ReadAnswer}
-use Rattle.ledger.specs.declared.SheetReading.{SheetReading}
 use Rattle.ledger.specs.Answers.{sheetReading}
 
 -- What the ledger knows of a text by an accepted image: the evaluation of each pair by Ford's rules without records, and which pairs are

@@ -31,7 +31,7 @@ pub record NotForeign (img text W : List ℕ) : Type 0 where
 
 -- "it answers that evaluation, evaluations counts the pairs whose body is evaluated in it, and the table gains just those": z is the
 -- evaluation and ps are the pairs.
-pub record Answers (img text W : List ℕ) (z : Evaluation) (ps : List Pair) (a : ReadAnswer) (W′ : List ℕ) : Type 0 where
+pub record AnswersWith (img text W : List ℕ) (z : Evaluation) (ps : List Pair) (a : ReadAnswer) (W′ : List ℕ) : Type 0 where
   pub answer-is : a ≡ ReadAnswer.Read (sheetReading (length text) z (evaluations img text ps))
   pub stores : Stores img text W ps W′
 
@@ -51,11 +51,12 @@ pub record SheetRead (img text : List ℕ) (cap : ℕ) (W : List ℕ) (a : ReadA
       → a ≡ ReadAnswer.Refused 12
   -- "A reading that is no listing isn't free where Ford's rules, each held pair that is called, and the start pair too, taking what its
   -- word says, true or not, give the start pair a nesting of at most 4,096 and meet only possible words and no star round of length 0".
-  -- An evaluation over a table meets no other words and rounds.
+  -- An evaluation over a table meets no other: an impossible word answers nothing, and a star with a matched round of length 0 has none
+  -- (`still` of crate grammar).
   pub determinate :
       (z : Evaluation) (d : Over img text W (a-pair (start img)) 0 z)
       → z .nesting ≤ 4096
-      → Answers img text W z (bodiesOf d) a W′
+      → AnswersWith img text W z (bodiesOf d) a W′
   -- Over a table without foreign records: "14. Is the start pair's nesting at most 4,096? No: 14."
   pub too-deep : NotForeign img text W → TooDeep img text → a ≡ ReadAnswer.Refused 14
   -- "Over all other tables 12 is never given."

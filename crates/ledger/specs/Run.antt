@@ -2,9 +2,8 @@
 -- cite these; proofs/SheetReads.antt shows that they keep it.
 use Prim.Native.Nat.{ℕ}
 use mathlib.Core.List.{List}
-use lib.ListN.{take}
 use Rattle.grammar.specs.Image.{rules, start}
-use Rattle.reading.specs.Model.{Answer, answered, refused, Out, out, ruleM, nodeM}
+use Rattle.reading.specs.Model.{answered, refused, Out, out, ruleM, nodeM}
 use Rattle.editing.specs.Table.{clearedTable}
 use Rattle.ledger.specs.declared.ReadAnswer.{ReadAnswer}
 use Rattle.ledger.specs.Answers.{sheetReading}
