@@ -1,7 +1,6 @@
 -- An edit and the evaluations: which pairs stand, what their evaluations are on the new text, and that the pairs that their bodies call
 -- stand too. Assumes nothing.
 --     stands-cases, stands-stay, stands-carry    the two cases of standing
---     bytes-after                                the buffer of a text and zeros after an edit
 --     value-stay, value-carry                    a pair that stands has its old evaluation
 --     calls-stay, calls-carry                    and its body calls the old pairs
 use Prim.Native.Nat.{ℕ, _+_, _-_, _≤_, _<_}
@@ -10,8 +9,8 @@ use mathlib.Core.Path.{_≡_, sym, ap, _∙_, subst}
 use mathlib.Core.Bool.{Bool, true, _&&_}
 use mathlib.Core.List.{List, _++_, append-assoc, map}
 use mathlib.Core.Logic.{_⊎_, inl, inr}
-use lib.ListN.{length, take, drop, replicate, length-append, length-drop, take-append-drop}
-use lib.Seq.{length-take-le, take-at, take-append-le, drop-append-le}
+use lib.ListN.{length, take, drop, length-append, take-append-drop}
+use lib.Seq.{length-take-le, take-at}
 use lib.Dec.{leb}
 use borrow.Author.Tests.{leb-true, le-leb}
 use Rattle.grammar.specs.declared.Evaluation.{Evaluation}
@@ -22,11 +21,11 @@ use Rattle.grammar.proofs.Determinism.{one}
 use Rattle.evaluation.specs.Calls.{Pair, callsOf}
 use Rattle.evaluation.proofs.Locality.{prefix-decides, moved}
 use Rattle.evaluation.proofs.CallLocality.{prefix-calls, moved-calls, shifted}
-use Rattle.editing.specs.Text.{newLength, textAfter, opened}
+use Rattle.editing.specs.Text.{EditFits, newLength, edited}
+use Rattle.editing.proofs.Loans.{edited-long}
 use Rattle.editing.specs.Pairs.{standsAfter}
 use Rattle.ledger.specs.Ledger.{Evaluations}
 use Rattle.ledger.proofs.Bools.{both, joined, either, or-left, or-right}
-use Rattle.ledger.proofs.Inv.{opened-length}
 use Rattle.ledger.proofs.Called.{Back, moved-back}
 
 -- "q ≤ s, the pair was held at q, and q + examined ≤ s"
@@ -77,71 +76,41 @@ pub record Forth (img text : List ℕ) (before : ℕ) (s : Subject) (p : ℕ) (z
   pub evaluated : Fresh img text s p z
   pub calls-are : callsOf evaluated ≡ map (shifted before) calls
 
--- The text after an edit.
-abbrev pub after : (text : List ℕ) (s e : ℕ) (r : List ℕ) → List ℕ
-after text s e r = take s text ++ (r ++ drop e text)
-
-module _ (text r : List ℕ) (s e : ℕ) (ordered : s ≤ e) (in-text : e ≤ length text) where
+module _ (cap : ℕ) (text r : List ℕ) (s e : ℕ) (fits : EditFits cap (length text) s e (length r)) where
   pub front-length : length (take s text ++ r) ≡ s + length r
   front-length =
       length-append (take s text) r ∙ ap (λ (k : ℕ). k + length r) (length-take-le s text (omega arith))
 
-  new-parts : after text s e r ≡ (take s text ++ r) ++ drop e text
+  new-parts : edited text s e r ≡ (take s text ++ r) ++ drop e text
   new-parts = sym (append-assoc (take s text) r (drop e text))
 
-  pub after-length : length (after text s e r) ≡ newLength (length text) s e (length r)
-  after-length =
-      ap length new-parts
-      ∙ length-append (take s text ++ r) (drop e text)
-      ∙ ap (λ (k : ℕ). k + length (drop e text)) front-length
-      ∙ ap (λ (k : ℕ). s + length r + k) (length-drop e text)
-      ∙ omega arith
-
-  front-same : take s (after text s e r) ≡ take s text
+  front-same : take s (edited text s e r) ≡ take s text
   front-same = take-at (take s text) (r ++ drop e text) s (length-take-le s text (omega arith))
-
-  pub bytes-after :
-      (cap : ℕ) → length text ≤ cap → length (after text s e r) ≤ cap
-      → textAfter (opened cap text) (length text) s e r ≡ opened cap (after text s e r)
-  unfolding textAfter
-  bytes-after cap fits room =
-      let zeros : List ℕ = replicate (cap - length text) 0 in
-      let rest : List ℕ = replicate (cap - length (after text s e r)) 0 in
-      let front : take s (text ++ zeros) ≡ take s text = take-append-le s text zeros (omega arith) in
-      let back : take (length text - e) (drop e (text ++ zeros)) ≡ drop e text =
-      ap (take (length text - e)) (drop-append-le e text zeros in-text)
-      ∙ take-at (drop e text) zeros (length text - e) (length-drop e text) in
-      let left : replicate (length (opened cap text) - newLength (length text) s e (length r)) 0 ≡ rest =
-      ap (λ (k : ℕ). replicate (k - newLength (length text) s e (length r)) 0) (opened-length cap text fits)
-      ∙ ap (λ (k : ℕ). replicate (cap - k) 0) (sym after-length) in
-      (λ i. front i ++ (r ++ (back i ++ left i)))
-      ∙ ap (λ (l : List ℕ). take s text ++ l) (sym (append-assoc r (drop e text) rest))
-      ∙ sym (append-assoc (take s text) (r ++ drop e text) rest)
 
   s-in-text : s ≤ length text
   s-in-text = omega arith
 
-  pub s-in-after : s ≤ length (after text s e r)
-  s-in-after = let k = after-length in omega arith
+  pub s-in-after : s ≤ length (edited text s e r)
+  s-in-after = let k = edited-long cap s e text r fits in omega arith
 
   -- Evaluations that stay and that move, in both directions.
   module _ (img : List ℕ) where
     stay-there :
-        {t : Subject} {q : ℕ} {z : Evaluation} → Fresh img text t q z → q + z .examined ≤ s → Fresh img (after text s e r) t q z
+        {t : Subject} {q : ℕ} {z : Evaluation} → Fresh img text t q z → q + z .examined ≤ s → Fresh img (edited text s e r) t q z
     stay-there u h =
-        prefix-decides img text (after text s e r) bodiesOnly s s-in-text s-in-after (sym front-same) u h
+        prefix-decides img text (edited text s e r) bodiesOnly s s-in-text s-in-after (sym front-same) u h
 
     pub stay-back :
-        {t : Subject} {q : ℕ} {z : Evaluation} → Fresh img (after text s e r) t q z → q + z .examined ≤ s → Fresh img text t q z
+        {t : Subject} {q : ℕ} {z : Evaluation} → Fresh img (edited text s e r) t q z → q + z .examined ≤ s → Fresh img text t q z
     stay-back u h =
-        prefix-decides img (after text s e r) text bodiesOnly s s-in-after s-in-text front-same u h
+        prefix-decides img (edited text s e r) text bodiesOnly s s-in-after s-in-text front-same u h
 
     pub stay-calls :
-        {t : Subject} {q : ℕ} {z : Evaluation} (u : Fresh img (after text s e r) t q z) (h : q + z .examined ≤ s)
+        {t : Subject} {q : ℕ} {z : Evaluation} (u : Fresh img (edited text s e r) t q z) (h : q + z .examined ≤ s)
         → callsOf (stay-back u h) ≡ callsOf u
     unfolding stay-back
     stay-calls u h =
-        prefix-calls img (after text s e r) text bodiesOnly s s-in-after s-in-text front-same u h
+        prefix-calls img (edited text s e r) text bodiesOnly s s-in-after s-in-text front-same u h
 
     -- Where a position behind the edit was before it.
     pub was : (q : ℕ) → s + length r ≤ q → q - length r + (e - s) ≡ e + (q - (s + length r))
@@ -151,10 +120,10 @@ module _ (text r : List ℕ) (s e : ℕ) (ordered : s ≤ e) (in-text : e ≤ le
     is-now q h = let k = front-length in omega arith
 
     is-then : (j : ℕ) → e + j ≡ length (take e text) + j
-    is-then j = let k = length-take-le e text in-text in omega arith
+    is-then j = let k = length-take-le e text (fits .within) in omega arith
 
     pub carry-back :
-        {t : Subject} {q : ℕ} {z : Evaluation} (u : Fresh img (after text s e r) t q z) → s + length r ≤ q
+        {t : Subject} {q : ℕ} {z : Evaluation} (u : Fresh img (edited text s e r) t q z) → s + length r ≤ q
         → Back img (drop e text) (length (take s text ++ r)) t (q - (s + length r)) z (callsOf u)
     carry-back {t} {q} {z} u h =
         subst
@@ -172,24 +141,24 @@ module _ (text r : List ℕ) (s e : ℕ) (ordered : s ≤ e) (in-text : e ≤ le
           evaluated = moved img (take e text) (drop e text) w (e + j) (is-then j);
           calls-are =
               moved-calls img (take e text) (drop e text) w (e + j) (is-then j)
-              ∙ ap (λ (k : ℕ). map (shifted k) (callsOf w)) (length-take-le e text in-text);
+              ∙ ap (λ (k : ℕ). map (shifted k) (callsOf w)) (length-take-le e text (fits .within));
         })
 
     -- A pair that stands has its old evaluation.
     module _ (ev : Evaluations) (accepted : Accepted img) where
       pub value-stay :
           (rule q : ℕ) → rule < rules img → q ≤ length text → q + ev .value img accepted text rule q .examined ≤ s
-          → ev .value img accepted (after text s e r) rule q ≡ ev .value img accepted text rule q
+          → ev .value img accepted (edited text s e r) rule q ≡ ev .value img accepted text rule q
       value-stay rule q l h k =
-          one img (after text s e r) bodiesOnly
-          (ev .value-is img accepted (after text s e r) rule q l (let a = s-in-after in omega arith))
+          one img (edited text s e r) bodiesOnly
+          (ev .value-is img accepted (edited text s e r) rule q l (let a = s-in-after in omega arith))
           (stay-there (ev .value-is img accepted text rule q l h) k)
 
       pub value-carry :
           (rule q : ℕ) → rule < rules img → s + length r ≤ q → q ≤ newLength (length text) s e (length r)
-          → ev .value img accepted (after text s e r) rule q ≡ ev .value img accepted text rule (q - length r + (e - s))
+          → ev .value img accepted (edited text s e r) rule q ≡ ev .value img accepted text rule (q - length r + (e - s))
       value-carry rule q l h k =
-          let u = ev .value-is img accepted (after text s e r) rule q l (rw after-length k) in
+          let u = ev .value-is img accepted (edited text s e r) rule q l (rw (edited-long cap s e text r fits) k) in
           let v = ev .value-is img accepted text rule (q - length r + (e - s)) l (omega arith) in
           one img text bodiesOnly (carry-there (q - (s + length r)) (carry-back u h .evaluated) .evaluated)
           (subst (λ (p : ℕ). Fresh img text (a-pair rule) p (ev .value img accepted text rule (q - length r + (e - s)))) (was q h) v)

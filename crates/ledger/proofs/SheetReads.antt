@@ -1,12 +1,14 @@
 -- What a reading makes of the start pair's run over the lent words keeps the reading's promise, whatever the words are.
 -- Assumes nothing.
 --     sheet-read       of a text in a buffer of cap bytes, where questions 1 to 8 hold
---     reads-are        of the first n bytes of a buffer; the same by cases of the run: reads-answered, reads-refused
+--     reads-are        of the first n bytes of a buffer
+--     reads-answered, reads-refused    the same by cases of the run
+--     reads-word, reads-number         the same by cases of the word that the evaluator answers
 --     reads-unasked    where one of questions 1 to 8 fails
 use Prim.Native.Nat.{ℕ, _+_, _≤_, _<_, _^_}
 use native.Mathlib.Omega.{arith}
 use native.Mathlib.Nat.{mul-le-mul}
-use mathlib.Core.Path.{_≡_, refl, ap, _∙_, subst}
+use mathlib.Core.Path.{_≡_, refl, sym, ap, _∙_, subst}
 use mathlib.Core.List.{List, _++_}
 use mathlib.Core.Logic.{_⊎_}
 use lib.ListN.{length, take, drop, replicate}
@@ -17,22 +19,26 @@ use Rattle.grammar.specs.Questions.{First, Accepted}
 use Rattle.grammar.specs.Evaluates.{a-pair}
 use Rattle.evaluation.specs.Calls.{Pair, isIn, bodiesOf}
 use Rattle.evaluation.proofs.Counts.{count-most}
+use Rattle.records.specs.Words.{valueOf}
 use Rattle.reading.specs.Model.{Answer, answered, refused, Out, out, nodeM}
 use Rattle.reading.specs.Plain.{TooDeep}
 use Rattle.reading.specs.Over.{Over}
 use Rattle.reading.specs.Stores.{Room, evaluations}
+use Rattle.reading.specs.Gives.{Gives}
 use Rattle.reading.specs.Framed.{Fits, Framed}
+use Rattle.reading.proofs.Gives.{found, was-refused, says}
 use Rattle.reading.proofs.Framed.{pair-framed, pair-impossible}
 use Rattle.reading.proofs.Stores.{determined}
 use Rattle.reading.proofs.TrueReads.{start-deep, only-14}
-use Rattle.editing.specs.Table.{tableSize, clearedTable}
+use Rattle.editing.specs.Table.{tableSize, TableLent, clearedTable}
+use Rattle.editing.proofs.Loans.{cleared-long, cleared-tail}
 use Rattle.ledger.specs.declared.ReadAnswer.{ReadAnswer}
 use Rattle.ledger.specs.Answers.{sheetReading}
 use Rattle.ledger.specs.Questions.{Question8, ofSheet}
 use Rattle.ledger.specs.Reading.{NotForeign, AnswersWith, SheetRead, ReadPromise}
 use Rattle.ledger.specs.Run.{startRun, answerOf, wordsOf}
 use Rattle.ledger.proofs.Asked.{sheet-first}
-use Rattle.ledger.proofs.Tables.{slot-in, size-up, cleared-length, cleared-rest, same-rest}
+use Rattle.ledger.proofs.Tables.{slot-in, size-up, lent-table, same-rest}
 
 module _ (img text : List ℕ) (cap : ℕ) (W : List ℕ) (accepted : Accepted img) (small : cap ≤ 65535) (fits : length text ≤ cap)
     (whole : tableSize (rules img) cap ≤ length W)
@@ -54,6 +60,9 @@ module _ (img text : List ℕ) (cap : ℕ) (W : List ℕ) (accepted : Accepted i
         (λ j h.
         framed .kept j
         (λ r q l k e. let s = slot-in (rules img) cap r q l (omega arith) in omega arith))
+
+    lent : TableLent (rules img) cap (framed .after)
+    lent = lent-table cap (framed .after) accepted small (omega (arith, framed .as-long))
 
     -- What an answer and words that are made of the run say, by cases of its answer.
     abbrev Made : Answer → Type 0
@@ -115,8 +124,8 @@ module _ (img text : List ℕ) (cap : ℕ) (W : List ℕ) (accepted : Accepted i
             }
         go (refused k) e w =
             record {
-              as-long = rw e (cleared-length (rules img) cap (framed .after) (omega (arith, framed .as-long)) ∙ framed .as-long);
-              after-table = rw e (cleared-rest (rules img) cap (framed .after) ∙ rest-same);
+              as-long = rw e (cleared-long lent ∙ framed .as-long);
+              after-table = rw e (cleared-tail lent ∙ rest-same);
               in-text = λ x f. absurd (let z : _≡_ {A = ℕ} 0 1 = cc (ap (answerOf (length text)) e, f) in omega arith);
               numbers = λ j f. let g : k ≡ j = cc (ap (answerOf (length text)) e, f) in subst (λ (i : ℕ). (i ≡ 12) ⊎ (i ≡ 14)) g w;
               zeroed = λ j f. rw e (ap (λ (l : List ℕ). replicate (tableSize (rules img) cap) 0 ++ l) rest-same);
@@ -163,6 +172,23 @@ pub reads-refused :
     → ReadPromise img B n W (ReadAnswer.Refused k) (clearedTable (rules img) (length B) table)
 reads-refused img B n W accepted q k table count e =
     subst (λ (o : Out). ReadPromise img B n W (answerOf n o) (wordsOf img (length B) o)) e (reads-are img B n W accepted q)
+
+-- The same by the word that the evaluator answers: a held word is an evaluation, a word below 16 is a refusal's number.
+module _ (img B : List ℕ) (n : ℕ) (W : List ℕ) (accepted : Accepted img) (q : Question8 img (length B) n (length W)) {word : ℕ}
+    {table : List ℕ} {count : ℕ} (g : Gives (length (take n B)) 0 4096 (startRun img (take n B) W) word table count)
+  where
+    short-part : length (take n B) ≤ 65535
+    short-part = rw (length-take-le n B (q .text-fits)) (omega (arith, q .text-fits, q .short))
+
+    pub reads-word : 16 ≤ word → ReadPromise img B n W (ReadAnswer.Read (sheetReading n (valueOf word) count)) table
+    reads-word h =
+        let f = found short-part (omega arith) g h in
+        subst (λ (z : Evaluation). ReadPromise img B n W (ReadAnswer.Read (sheetReading n z count)) table)
+        (sym (says short-part (omega arith) f))
+        (reads-answered img B n W accepted q (f .value) table count (f .is))
+
+    pub reads-number : word < 16 → ReadPromise img B n W (ReadAnswer.Refused word) (clearedTable (rules img) (length B) table)
+    reads-number h = let f = was-refused short-part (omega arith) g h in reads-refused img B n W accepted q word table count (f .is)
 
 -- A reading that fails one of questions 1 to 8.
 pub reads-unasked :

@@ -24,6 +24,7 @@ use Rattle.reading.proofs.OverTables.{word-possible}
 use Rattle.editing.specs.Text.{EditFits, newLength, textAfter}
 use Rattle.editing.specs.Table.{pick, tableSize, wordsAfter, tableAfter, heldIn}
 use Rattle.editing.proofs.Ledger.{ledger-after}
+use Rattle.editing.proofs.Loans.{edited-long, edit-opened, after-long, after-tail}
 use Rattle.ledger.specs.declared.EditAnswer.{EditAnswer}
 use Rattle.ledger.specs.Answers.{editNumber}
 use Rattle.ledger.specs.Questions.{ofEdit}
@@ -35,15 +36,14 @@ use Rattle.ledger.proofs.Bools.{both}
 use Rattle.ledger.proofs.Asked.{edit-9, edit-10, edit-0, edit-one}
 use Rattle.ledger.proofs.Inv.{Inv, held-word, cap-is, short-text, lent, value-of}
 use Rattle.ledger.proofs.Asks.{good, passes-9, fails-9, passes-10, fails-10}
-use Rattle.ledger.proofs.Tables.{whole-after, rest-after}
+use Rattle.ledger.proofs.Tables.{lent-table}
 use Rattle.ledger.proofs.Sums.{count-cut}
 use Rattle.ledger.proofs.Called.{called-within, in-shifted, shifted-in}
-use Rattle.ledger.proofs.Edited.{Stays, Carried, stands-cases, stands-stay, stands-carry, front-length, after-length, s-in-after}
-use Rattle.ledger.proofs.Edited.{bytes-after, stay-back, stay-calls, was, carry-back, carry-there, value-stay, value-carry}
+use Rattle.ledger.proofs.Edited.{Stays, Carried, stands-cases, stands-stay, stands-carry, front-length, s-in-after}
+use Rattle.ledger.proofs.Edited.{stay-back, stay-calls, was, carry-back, carry-there, value-stay, value-carry}
 
 module _ {ev : Evaluations} {cap : ℕ} {rest : List ℕ} {l : Ledger} {B : List ℕ} {n : ℕ} {W : List ℕ} (v : Inv ev cap rest l B n W)
-    (s e : ℕ) (r : List ℕ) (ordered : s ≤ e) (in-text : e ≤ length (l .text))
-    (room : newLength (length (l .text)) s e (length r) ≤ cap)
+    (s e : ℕ) (r : List ℕ) (fits : EditFits cap (length (l .text)) s e (length r))
   where
     abbrev now : Ledger
     now = editTurn ev true true l s e r .left
@@ -67,25 +67,25 @@ module _ {ev : Evaluations} {cap : ℕ} {rest : List ℕ} {l : Ledger} {B : List
     comes rule q = stands-carry (l .held rule) (examined rule) (length (l .text)) s e (length r) q
 
     long : length (editedText l s e r) ≡ newLength (length (l .text)) s e (length r)
-    long = after-length (l .text) r s e ordered in-text
+    long = edited-long cap s e (l .text) r fits
 
     -- A pair that stands has its old evaluation.
     stay-value : (rule q : ℕ) → StaysHere rule q → valueIn ev now rule q ≡ valueIn ev l rule q
     stay-value rule q c =
         let k = v .held-in rule q (c .was-held) in
-        value-stay (l .text) r s e ordered in-text (l .image) ev (l .accepted) rule q (k .0) (k .1) (c .unseen)
+        value-stay cap (l .text) r s e fits (l .image) ev (l .accepted) rule q (k .0) (k .1) (c .unseen)
 
     come-value : (rule q : ℕ) → ComesHere rule q → valueIn ev now rule q ≡ valueIn ev l rule (q - length r + (e - s))
     come-value rule q c =
         let k = v .held-in rule (q - length r + (e - s)) (c .was-held) in
-        value-carry (l .text) r s e ordered in-text (l .image) ev (l .accepted) rule q (k .0) (c .behind) (c .in-text)
+        value-carry cap (l .text) r s e fits (l .image) ev (l .accepted) rule q (k .0) (c .behind) (c .in-text)
 
     range-after : (rule q : ℕ) → standing ev l s e r rule q ≡ true → (rule < rules (l .image)) × (q ≤ length (editedText l s e r))
     range-after rule q t =
         ⊎-elim
         (λ c. (
           v .held-in rule q (c .was-held) .0,
-          let a = s-in-after (l .text) r s e ordered in-text in omega (arith, c .before),
+          let a = s-in-after cap (l .text) r s e fits in omega (arith, c .before),
         ))
         (λ c. (v .held-in rule (q - length r + (e - s)) (c .was-held) .0, rw long (c .in-text)))
         (cases rule q t)
@@ -110,9 +110,9 @@ module _ {ev : Evaluations} {cap : ℕ} {rest : List ℕ} {l : Ledger} {B : List
         ∙ stay-value rule q c in
         let reach = ap (λ (x : Evaluation). x .examined) same in
         let h : q + z .examined ≤ s = omega (arith, c .unseen) in
-        let old = stay-back (l .text) r s e ordered in-text (l .image) u h in
+        let old = stay-back cap (l .text) r s e fits (l .image) u h in
         let j : In y (callsOf old) =
-        subst (λ (ps : List Pair). In y ps) (sym (stay-calls (l .text) r s e ordered in-text (l .image) u h)) i in
+        subst (λ (ps : List Pair). In y ps) (sym (stay-calls cap (l .text) r s e fits (l .image) u h)) i in
         let held = v .closed rule q (c .was-held) z old y j in
         let in-it = called-within old j in
         let seen =
@@ -128,19 +128,19 @@ module _ {ev : Evaluations} {cap : ℕ} {rest : List ℕ} {l : Ledger} {B : List
         → In y (callsOf u)
         → standing ev l s e r (y .rule) (y .position) ≡ true
     closed-come rule q c z u y i =
-        let back = carry-back (l .text) r s e ordered in-text (l .image) u (c .behind) in
-        let old = carry-there (l .text) r s e ordered in-text (l .image) (q - (s + length r)) (back .evaluated) in
+        let back = carry-back cap (l .text) r s e fits (l .image) u (c .behind) in
+        let old = carry-there cap (l .text) r s e fits (l .image) (q - (s + length r)) (back .evaluated) in
         let x =
         in-shifted (length (take s (l .text) ++ r)) (callsOf (back .evaluated)) (subst (λ (ps : List Pair). In y ps) (back .calls-are) i) in
         let j : In (shifted e (x .pair)) (callsOf (old .evaluated)) =
         subst (λ (ps : List Pair). In (shifted e (x .pair)) ps) (sym (old .calls-are)) (shifted-in e (x .among)) in
         let was-held : l .held rule (e + (q - (s + length r))) ≡ true =
-        ap (l .held rule) (sym (was (l .text) r s e ordered in-text (l .image) q (c .behind))) ∙ c .was-held in
+        ap (l .held rule) (sym (was cap (l .text) r s e fits (l .image) q (c .behind))) ∙ c .was-held in
         let held = v .closed rule (e + (q - (s + length r))) was-held z (old .evaluated) (shifted e (x .pair)) j in
         let k = v .held-in (x .pair .rule) (e + x .pair .position) held in
         let place : y .position ≡ s + length r + x .pair .position =
         ap (λ (p : Pair). p .position) (x .is)
-        ∙ ap (λ (m : ℕ). m + x .pair .position) (front-length (l .text) r s e ordered in-text) in
+        ∙ ap (λ (m : ℕ). m + x .pair .position) (front-length cap (l .text) r s e fits) in
         let came : y .position - length r + (e - s) ≡ e + x .pair .position = omega arith in
         comes (y .rule) (y .position)
         (record {
@@ -150,9 +150,6 @@ module _ {ev : Evaluations} {cap : ℕ} {rest : List ℕ} {l : Ledger} {B : List
         })
 
     -- The words after the edit: what the table's law asks of the words of held pairs,
-    edit-fits : EditFits cap (length (l .text)) s e (length r)
-    edit-fits = record { lent = v .text-fits; ordered = ordered; within = in-text; room = room }
-
     stored :
         (rule q : ℕ) → rule < rules (l .image) → l .held rule q ≡ true
         → (isHeld (wordOf (valueIn ev l rule q)) ≡ true) × (examinedOf (wordOf (valueIn ev l rule q)) ≡ examined rule q)
@@ -189,7 +186,7 @@ module _ {ev : Evaluations} {cap : ℕ} {rest : List ℕ} {l : Ledger} {B : List
         → wordAt (l .image) (tableAfter (rules (l .image)) cap (length (l .text)) s e (length r) W) rule q
         ≡ pick (standing ev l s e r rule q) (wordOf (valueIn ev now rule q)) 0
     word-after =
-        ledger-after (rules (l .image)) cap (length (l .text)) s e (length r) W (l .accepted .lawful .counts .some-rules) edit-fits
+        ledger-after (rules (l .image)) cap (length (l .text)) s e (length r) W (l .accepted .lawful .counts .some-rules) fits
         (l .held) examined (λ rule q. wordOf (valueIn ev l rule q)) (λ rule q. wordOf (valueIn ev now rule q)) (v .words-are) stored
         stay-word come-word
 
@@ -198,7 +195,7 @@ module _ {ev : Evaluations} {cap : ℕ} {rest : List ℕ} {l : Ledger} {B : List
         ≡ pairsOf (l .image) (editedText l s e r) (standing ev l s e r)
     count-after =
         Rattle.editing.proofs.Ledger.standing (rules (l .image)) cap (length (l .text)) s e (length r) W
-        (l .accepted .lawful .counts .some-rules) edit-fits
+        (l .accepted .lawful .counts .some-rules) fits
         (l .held) examined (λ rule q. wordOf (valueIn ev l rule q)) (λ rule q. wordOf (valueIn ev now rule q)) (v .words-are) stored
         stay-word come-word
         ∙ count-cut (rules (l .image)) (length (editedText l s e r) + 1) (cap + 1) (standing ev l s e r)
@@ -215,9 +212,9 @@ module _ {ev : Evaluations} {cap : ℕ} {rest : List ℕ} {l : Ledger} {B : List
         rw (v .bytes-are, v .length-is)
         (record {
           small = v .small;
-          text-fits = rw long room;
+          text-fits = rw long (fits .room);
           length-is = sym long;
-          bytes-are = bytes-after (l .text) r s e ordered in-text cap (v .text-fits) (rw long room);
+          bytes-are = edit-opened cap s e (l .text) r fits;
           whole = whole;
           words-are = words;
           held-in = range-after;
@@ -232,6 +229,7 @@ module _ {ev : Evaluations} {cap : ℕ} {rest : List ℕ} {l : Ledger} {B : List
         → (edits a ≡ editTurn ev true true l s e r .reply) × Inv ev cap rest now B′ (nextLength n a) W′
     edit-done (EditAnswer.Refused k) f p = absurd (omega (arith, p .numbered))
     edit-done {W′ = W′} (EditAnswer.Edited x) f p =
+        let lent = lent-table cap W (l .accepted) (v .small) (v .whole) in
         let count : x .standing ≡ pairsOf (l .image) (editedText l s e r) (standing ev l s e r) =
         p .standing-are
         ∙ ap (λ (c : ℕ). heldIn (wordsAfter (rules (l .image)) c n s e (length r) W)) (cap-is v)
@@ -246,8 +244,8 @@ module _ {ev : Evaluations} {cap : ℕ} {rest : List ℕ} {l : Ledger} {B : List
           (λ i. edits (EditAnswer.Edited (record { length = new i; standing = count i }))),
           rw (p .bytes-are, words, p .length-is)
               (inv-edit (tableAfter (rules (l .image)) cap (length (l .text)) s e (length r) W)
-              (whole-after (rules (l .image)) cap (length (l .text)) s e (length r) W) word-after
-              (rest-after (rules (l .image)) cap (length (l .text)) s e (length r) W ∙ v .after-table)),
+              (rw (after-long lent (length (l .text)) s e (length r)) (v .whole)) word-after
+              (after-tail lent (length (l .text)) s e (length r) ∙ v .after-table)),
         )
 
 -- An answer with a number leaves the invariant.
@@ -280,8 +278,13 @@ module _ {ev : Evaluations} {cap : ℕ} {rest : List ℕ} {l : Ledger} {B : List
         (p .values)
     step true true t u =
         let b = both (leb s e) (leb e (length (l .text))) t in
-        edit-done v s e r (leb-true s e (b .0)) (leb-true e (length (l .text)) (b .1))
-        (leb-true (newLength (length (l .text)) s e (length r)) cap u)
+        edit-done v s e r
+        (record {
+          lent = v .text-fits;
+          ordered = leb-true s e (b .0);
+          within = leb-true e (length (l .text)) (b .1);
+          room = leb-true (newLength (length (l .text)) s e (length r)) cap u;
+        })
         a
         (number-is 0 (edit-0 (l .image) (length B) n (length W) (good v) s e (length r) (passes-9 v s e t) (passes-10 v s e r u)))
         (p .values)

@@ -2,7 +2,7 @@
 -- invariant of an empty set, which an opening and a reading refused with 14 leave. Assumes nothing.
 --     inv-empty    the invariant where no pair is held and the table is zeroed
 --     read-step    a reading
-use Prim.Native.Nat.{ℕ, _+_, _*_, _≤_, _<_}
+use Prim.Native.Nat.{ℕ, _+_, _≤_, _<_}
 use native.Mathlib.Omega.{arith}
 use mathlib.Core.Path.{_≡_, refl, sym, ap, _∙_}
 use mathlib.Core.Bool.{Bool, true, false, not, _&&_, _||_, true≢false}
@@ -29,6 +29,7 @@ use Rattle.reading.proofs.Stores.{kept-pair, over-in-range}
 use Rattle.reading.proofs.TrueTables.{over-of-fresh, fresh-of-over, bodies-over}
 use Rattle.editing.specs.Text.{opened}
 use Rattle.editing.specs.Table.{pick, tableSize, clearedTable}
+use Rattle.editing.proofs.Loans.{cleared-long, cleared-tail, cleared-word}
 use Rattle.ledger.specs.declared.ReadAnswer.{ReadAnswer}
 use Rattle.ledger.specs.Answers.{sheetReading}
 use Rattle.ledger.specs.Reading.{AnswersWith, SheetRead, ReadPromise}
@@ -36,7 +37,7 @@ use Rattle.ledger.specs.Ledger.{Evaluations, Ledger, Turn, reading, read
 use Rattle.ledger.specs.Ledger.{passes14, readTurn, turn}
 use Rattle.ledger.proofs.Bools.{either, or-left, or-right}
 use Rattle.ledger.proofs.Asked.{sheet-first, sheet-one}
-use Rattle.ledger.proofs.Tables.{slot-in, cleared-length, cleared-rest, cleared-word}
+use Rattle.ledger.proofs.Tables.{lent-table}
 use Rattle.ledger.proofs.Fresh.{same-test}
 use Rattle.ledger.proofs.Inv.{Inv, cap-is, text-is, short-text, lent, holds-is, not-foreign}
 
@@ -59,17 +60,18 @@ pub inv-empty :
     → drop (tableSize (rules img) cap) W ≡ rest
     → Inv ev cap rest (openedLedger img accepted text) (opened cap text) (length text) (clearedTable (rules img) cap W)
 inv-empty ev cap img accepted text W rest small fits whole e =
+    let lent = lent-table cap W accepted small whole in
     record {
       small = small;
       text-fits = fits;
       length-is = refl;
       bytes-are = refl;
-      whole = rw (cleared-length (rules img) cap W whole) whole;
-      words-are = λ r q l h. cleared-word (rules img) cap W (q * rules img + r) (slot-in (rules img) cap r q l h);
+      whole = rw (cleared-long lent) whole;
+      words-are = cleared-word lent;
       held-in = λ r q f. absurd (true≢false (sym f));
       shallow = λ r q f. absurd (true≢false (sym f));
       closed = λ r q f z u y i. absurd (true≢false (sym f));
-      after-table = cleared-rest (rules img) cap W ∙ e;
+      after-table = cleared-tail lent ∙ e;
     }
 
 module _ {ev : Evaluations} {cap : ℕ} {rest : List ℕ} {l : Ledger} {B : List ℕ} {n : ℕ} {W : List ℕ} (v : Inv ev cap rest l B n W)

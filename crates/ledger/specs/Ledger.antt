@@ -3,9 +3,9 @@
 use Prim.Native.Nat.{ℕ, _+_, _≤_, _<_}
 use mathlib.Core.Path.{_≡_}
 use mathlib.Core.Bool.{Bool, true, false, not, _&&_, _||_}
-use mathlib.Core.List.{List, [], _∷_, _++_}
+use mathlib.Core.List.{List, [], _∷_}
 use mathlib.Core.Logic.{_↔_}
-use lib.ListN.{length, take, drop}
+use lib.ListN.{length}
 use lib.Dec.{leb, ltb}
 use Rattle.grammar.specs.declared.Evaluation.{Evaluation}
 use Rattle.grammar.specs.Image.{rules, start}
@@ -14,7 +14,7 @@ use Rattle.grammar.specs.Evaluates.{Fresh, a-pair}
 use Rattle.evaluation.specs.Calls.{Reached}
 use Rattle.evaluation.specs.Counts.{countPairs}
 use Rattle.records.specs.Words.{wordOf}
-use Rattle.editing.specs.Text.{newLength}
+use Rattle.editing.specs.Text.{newLength, edited}
 use Rattle.editing.specs.Table.{pick}
 use Rattle.editing.specs.Pairs.{standsAfter}
 use Rattle.ledger.specs.declared.EditAnswer.{EditAnswer}
@@ -81,7 +81,7 @@ passes11 l rule position = ltb rule (rules (l .image)) && leb position (length (
 
 -- "bytes s to e − 1 give way to r"
 abbrev pub editedText : Ledger → (s e : ℕ) → List ℕ → List ℕ
-editedText l s e r = take s (l .text) ++ (r ++ drop e (l .text))
+editedText l s e r = edited (l .text) s e r
 
 -- How many pairs of a text pass a test.
 abbrev pub pairsOf : (img text : List ℕ) → (ℕ → ℕ → Bool) → ℕ
