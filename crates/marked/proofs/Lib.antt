@@ -1,2 +1,3 @@
 pub mod Images
+pub mod Sessions
 pub mod Marked

@@ -3,25 +3,42 @@
 use Prim.Native.Nat.{ℕ}
 use mathlib.Core.List.{List, [], _∷_}
 use Rattle.grammar.specs.Questions.{Checked}
+use Rattle.ledger.specs.Ledger.{Call, Reply}
+use Rattle.ledger.specs.Sessions.{SessionSays}
+use Rattle.marked.specs.Sessions.{text12a, calls1, replies1, calls2, replies2, calls3, replies3, calls4, replies4, calls5, replies5}
+use Rattle.marked.specs.Sessions.{callsOver, repliesOver, callsRefused, repliesRefused}
 use Rattle.marked.specs.Images.{D2, M7, M8, M9, secondEdition, startTooHigh, byteTooMany, ownChild, orphan}
 
 pub data Line : Type 0 where
   -- the image check gives this image this number
   image-number : (img : List ℕ) (number : ℕ) → Line
+  -- a session: the text opened in a buffer of cap bytes, the calls, and the reply of each
+  session : (img text : List ℕ) (cap : ℕ) (calls : List Call) (answers : List Reply) → Line
 
 abbrev pub Says : Line → Type 0
 Says (image-number img number) = Checked img number
+Says (session img text cap calls answers) = SessionSays img text cap calls answers
 
 -- Every line of a table holds.
 abbrev pub Hold : List Line → Type 0
 Hold [] = Unit {0}
 Hold (line ∷ lines) = Says line × Hold lines
 
--- "D2 is: [..]. M7 S = S then a byte: 7. M8 S = not S: 7. M9 star over not a byte: 6."
+-- "D2 is: [..]." M1 to M5 are in Sessions.antt. "M7 S = S then a byte: 7. M8 S = not S: 7. M9 star over not a byte: 6."
 abbrev pub marked : List Line
-marked = image-number D2 0 ∷ image-number M7 7 ∷ image-number M8 7 ∷ image-number M9 6 ∷ []
+marked =
+    image-number D2 0
+    ∷ session D2 text12a 4 calls1 replies1
+    ∷ session D2 text12a 4 calls2 replies2
+    ∷ session D2 text12a 4 calls3 replies3
+    ∷ session D2 text12a 4 calls4 replies4
+    ∷ session D2 [] 4 calls5 replies5
+    ∷ image-number M7 7
+    ∷ image-number M8 7
+    ∷ image-number M9 6
+    ∷ []
 
--- An image for each of the numbers 1 to 7 that no marked case has.
+-- An image for each of the numbers 1 to 7 that no marked case has, and sessions that the marked cases leave out.
 abbrev pub witnesses : List Line
 witnesses =
     image-number [] 1
@@ -30,4 +47,6 @@ witnesses =
     ∷ image-number byteTooMany 3
     ∷ image-number ownChild 4
     ∷ image-number orphan 5
+    ∷ session D2 text12a 4 callsOver repliesOver
+    ∷ session D2 text12a 4 callsRefused repliesRefused
     ∷ []

@@ -1,0 +1,67 @@
+-- The sessions of the marked cases: their replies by computation, for the ledger and so for every run. Assumes nothing.
+use Prim.Native.Nat.{ℕ, _≤_}
+use native.Mathlib.Omega.{arith}
+use mathlib.Core.Path.{_≡_, refl}
+use mathlib.Core.List.{List, []}
+use lib.ListN.{length, replicate}
+use Rattle.grammar.specs.Image.{rules, nodes, start, ruleWord, root, nodeWord, kind, fieldA, fieldB, nodeOfKind, node, body}
+use Rattle.grammar.specs.Terminal.{accepts, terminalAt}
+use Rattle.grammar.proofs.Acceptance.{accepted}
+use Rattle.records.specs.Words.{matchedOf, spareOf, nestingOf, examinedOf, lengthOf, valueOf, wordOf, possible}
+use Rattle.reading.specs.Model.{afterFirst, afterChoice, afterRound, roundsM, met, looked, pairM, kindM, nodeM}
+use Rattle.editing.specs.Text.{textAfter, opened}
+use Rattle.editing.specs.Table.{tableSize, wordAfter, wordsAfter}
+use Rattle.ledger.specs.Ledger.{Call, Reply}
+use Rattle.ledger.specs.Demand.{loan}
+use Rattle.ledger.specs.Sessions.{SessionSays}
+use Rattle.ledger.proofs.Runs.{repliesOf}
+use Rattle.ledger.proofs.Sessions.{session-says}
+use Rattle.marked.specs.Images.{D2}
+use Rattle.marked.specs.Sessions.{text12a, calls1, replies1, calls2, replies2, calls3, replies3, calls4, replies4, calls5, replies5}
+use Rattle.marked.specs.Sessions.{callsOver, repliesOver, callsRefused, repliesRefused}
+use Rattle.marked.proofs.Images.{d2-accepted}
+
+-- The calls as functions give these replies.
+abbrev Computed : (text : List ℕ) → List Call → List Reply → Type 0
+Computed text calls answers =
+    repliesOf (loan D2 (opened 4 text) (length text) (replicate (tableSize (rules D2) 4) 0)) calls ≡ answers
+
+computed :
+    Computed text12a calls1 replies1
+    × Computed text12a calls2 replies2
+    × Computed text12a calls3 replies3
+    × Computed text12a calls4 replies4
+    × Computed [] calls5 replies5
+    × Computed text12a callsOver repliesOver
+    × Computed text12a callsRefused repliesRefused
+unfolding D2 rules nodes start ruleWord root nodeWord kind fieldA fieldB nodeOfKind node body accepts terminalAt matchedOf
+    spareOf nestingOf examinedOf lengthOf valueOf wordOf possible afterFirst afterChoice afterRound roundsM met looked pairM
+    kindM nodeM textAfter wordAfter wordsAfter
+computed = (refl, refl, refl, refl, refl, refl, refl)
+
+-- D2 is accepted.
+says :
+    (text : List ℕ) (calls : List Call) (answers : List Reply) → length text ≤ 4 → Computed text calls answers
+    → SessionSays D2 text 4 calls answers
+says text calls answers fits c = session-says D2 text 4 (accepted d2-accepted) (omega arith) fits calls answers c
+
+pub m1-holds : SessionSays D2 text12a 4 calls1 replies1
+m1-holds = says text12a calls1 replies1 (omega arith) (computed .0)
+
+pub m2-holds : SessionSays D2 text12a 4 calls2 replies2
+m2-holds = says text12a calls2 replies2 (omega arith) (computed .1)
+
+pub m3-holds : SessionSays D2 text12a 4 calls3 replies3
+m3-holds = says text12a calls3 replies3 (omega arith) (computed .2)
+
+pub m4-holds : SessionSays D2 text12a 4 calls4 replies4
+m4-holds = says text12a calls4 replies4 (omega arith) (computed .3)
+
+pub m5-holds : SessionSays D2 [] 4 calls5 replies5
+m5-holds = says [] calls5 replies5 (omega arith) (computed .4)
+
+pub over-holds : SessionSays D2 text12a 4 callsOver repliesOver
+over-holds = says text12a callsOver repliesOver (omega arith) (computed .5)
+
+pub refused-holds : SessionSays D2 text12a 4 callsRefused repliesRefused
+refused-holds = says text12a callsRefused repliesRefused (omega arith) (computed .6)

@@ -1,0 +1,85 @@
+-- The marked cases that are sessions: the text opened, the calls, and every reply along them, in a buffer of 4 bytes.
+use Prim.Native.Nat.{ℕ}
+use mathlib.Core.List.{List, [], _∷_}
+use Rattle.reading.specs.declared.plain.Outcome.{Outcome}
+use Rattle.ledger.specs.declared.EditAnswer.{EditAnswer}
+use Rattle.ledger.specs.declared.EditedSheet.{EditedSheet}
+use Rattle.ledger.specs.declared.LookUpAnswer.{LookUpAnswer}
+use Rattle.ledger.specs.declared.ReadAnswer.{ReadAnswer}
+use Rattle.ledger.specs.declared.SheetReading.{SheetReading}
+use Rattle.ledger.specs.Ledger.{Call, edit, reading, look-up, Reply, edits, reads, finds}
+
+-- A reading's reply, an edit's, and a look-up's.
+abbrev pub answers : Outcome → (length examined nesting evaluations : ℕ) → Reply
+answers outcome length examined nesting evaluations =
+    reads
+    (ReadAnswer.Read
+    (record { outcome = outcome; length = length; examined = examined; nesting = nesting; evaluations = evaluations }))
+
+abbrev pub stand : (length standing : ℕ) → Reply
+stand length standing = edits (EditAnswer.Edited (record { length = length; standing = standing }))
+
+abbrev pub word : ℕ → Reply
+word w = finds (LookUpAnswer.Word w)
+
+-- "12a"
+abbrev pub text12a : List ℕ
+text12a = 0x31 ∷ 0x32 ∷ 0x61 ∷ []
+
+-- "M1 "12a": part, length 2, examined 3, nesting 4, evaluations 4. Word of (0,0): 0xC000000800030002; of (1,2): 0x8000000200010000."
+abbrev pub calls1 : List Call
+calls1 = reading ∷ look-up 0 0 ∷ look-up 1 2 ∷ []
+
+abbrev pub replies1 : List Reply
+replies1 = answers Outcome.Part 2 3 4 4 ∷ word 0xC000000800030002 ∷ word 0x8000000200010000 ∷ []
+
+-- "M2 M1, then (2, 3, empty): 2 pairs stand; reading: whole, length 2, examined 3, evaluations 2."
+abbrev pub calls2 : List Call
+calls2 = reading ∷ edit 2 3 [] ∷ reading ∷ []
+
+abbrev pub replies2 : List Reply
+replies2 = answers Outcome.Part 2 3 4 4 ∷ stand 2 2 ∷ answers Outcome.Whole 2 3 4 2 ∷ []
+
+-- "M3 M2, then (0, 0, "7"): 4 stand; reading: length 3, examined 4, evaluations 2."
+abbrev pub calls3 : List Call
+calls3 = reading ∷ edit 2 3 [] ∷ reading ∷ edit 0 0 (0x37 ∷ []) ∷ reading ∷ []
+
+abbrev pub replies3 : List Reply
+replies3 =
+    answers Outcome.Part 2 3 4 4 ∷ stand 2 2 ∷ answers Outcome.Whole 2 3 4 2 ∷ stand 3 4 ∷ answers Outcome.Whole 3 4 4 2 ∷ []
+
+-- "M4 M1, then (2, 2, empty): 3 stand; reading: evaluations 1."
+abbrev pub calls4 : List Call
+calls4 = reading ∷ edit 2 2 [] ∷ reading ∷ []
+
+abbrev pub replies4 : List Reply
+replies4 = answers Outcome.Part 2 3 4 4 ∷ stand 3 3 ∷ answers Outcome.Part 2 3 4 1 ∷ []
+
+-- "M5 Empty text: none, examined 1, evaluations 2."
+abbrev pub calls5 : List Call
+calls5 = reading ∷ []
+
+abbrev pub replies5 : List Reply
+replies5 = answers Outcome.Nothing 0 1 3 2 ∷ []
+
+-- Witnesses: "M1, then (2, 3, "3"), then says part where whole is right"; and a refusal with each of 9, 10 and 11, after which the session
+-- goes on as before.
+abbrev pub callsOver : List Call
+callsOver = reading ∷ edit 2 3 (0x33 ∷ []) ∷ reading ∷ []
+
+abbrev pub repliesOver : List Reply
+repliesOver = answers Outcome.Part 2 3 4 4 ∷ stand 3 2 ∷ answers Outcome.Whole 3 4 4 3 ∷ []
+
+abbrev pub callsRefused : List Call
+callsRefused = reading ∷ edit 2 1 [] ∷ edit 3 3 (0x31 ∷ 0x32 ∷ []) ∷ look-up 2 0 ∷ look-up 0 4 ∷ look-up 0 3 ∷ reading ∷ []
+
+abbrev pub repliesRefused : List Reply
+repliesRefused =
+    answers Outcome.Part 2 3 4 4
+    ∷ edits (EditAnswer.Refused 9)
+    ∷ edits (EditAnswer.Refused 10)
+    ∷ finds (LookUpAnswer.Refused 11)
+    ∷ finds (LookUpAnswer.Refused 11)
+    ∷ word 0
+    ∷ answers Outcome.Part 2 3 4 0
+    ∷ []
