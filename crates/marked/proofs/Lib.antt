@@ -1,3 +1,4 @@
 pub mod Images
 pub mod Sessions
+pub mod Nested
 pub mod Marked

@@ -3,20 +3,26 @@
 use Prim.Native.Nat.{ℕ}
 use mathlib.Core.List.{List, [], _∷_}
 use Rattle.grammar.specs.Questions.{Checked}
+use Rattle.reading.specs.declared.plain.Outcome.{Outcome}
+use Rattle.reading.specs.declared.plain.PlainAnswer.{PlainAnswer}
+use Rattle.reading.specs.Plain.{PlainRead}
 use Rattle.ledger.specs.Ledger.{Call, Reply}
 use Rattle.ledger.specs.Sessions.{SessionSays}
 use Rattle.marked.specs.Sessions.{text12a, calls1, replies1, calls2, replies2, calls3, replies3, calls4, replies4, calls5, replies5}
 use Rattle.marked.specs.Sessions.{callsOver, repliesOver, callsRefused, repliesRefused}
-use Rattle.marked.specs.Images.{D2, M7, M8, M9, secondEdition, startTooHigh, byteTooMany, ownChild, orphan}
+use Rattle.marked.specs.Images.{D2, M7, M8, M9, M10, brackets, secondEdition, startTooHigh, byteTooMany, ownChild, orphan}
 
 pub data Line : Type 0 where
   -- the image check gives this image this number
   image-number : (img : List ℕ) (number : ℕ) → Line
+  -- the plain reading answers this for this text
+  plain-reading : (img text : List ℕ) (answer : PlainAnswer) → Line
   -- a session: the text opened in a buffer of cap bytes, the calls, and the reply of each
   session : (img text : List ℕ) (cap : ℕ) (calls : List Call) (answers : List Reply) → Line
 
 abbrev pub Says : Line → Type 0
 Says (image-number img number) = Checked img number
+Says (plain-reading img text answer) = PlainRead img text answer
 Says (session img text cap calls answers) = SessionSays img text cap calls answers
 
 -- Every line of a table holds.
@@ -24,7 +30,8 @@ abbrev pub Hold : List Line → Type 0
 Hold [] = Unit {0}
 Hold (line ∷ lines) = Says line × Hold lines
 
--- "D2 is: [..]." M1 to M5 are in Sessions.antt. "M7 S = S then a byte: 7. M8 S = not S: 7. M9 star over not a byte: 6."
+-- "D2 is: [..]." M1 to M5 are in Sessions.antt. "M7 S = S then a byte: 7. M8 S = not S: 7. M9 star over not a byte: 6.
+-- M10 S = ("(" then S) else empty: 1,364 brackets have nesting 4,095; 1,365 give 14."
 abbrev pub marked : List Line
 marked =
     image-number D2 0
@@ -36,6 +43,10 @@ marked =
     ∷ image-number M7 7
     ∷ image-number M8 7
     ∷ image-number M9 6
+    ∷ image-number M10 0
+    ∷ plain-reading M10 (brackets 1364)
+    (PlainAnswer.Read (record { outcome = Outcome.Whole; length = 1364; examined = 1365; nesting = 4095 }))
+    ∷ plain-reading M10 (brackets 1365) (PlainAnswer.Refused 14)
     ∷ []
 
 -- An image for each of the numbers 1 to 7 that no marked case has, and sessions that the marked cases leave out.

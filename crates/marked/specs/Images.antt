@@ -1,6 +1,7 @@
 -- The images of the marked cases and of the witnesses, byte for byte.
 use Prim.Native.Nat.{ℕ}
 use mathlib.Core.List.{List, [], _∷_}
+use lib.ListN.{replicate}
 
 -- "D2 is: rule 0 = rule 1, then rule 1 zero or more times; rule 1 = 0x30 to 0x39. Bytes: 10 20 05 00, 00 00 00 04, 30 00 10 02,
 -- 70 00 10 00, 50 00 30 00, 70 00 10 00, 20 03 00 39." The pairs are hexadecimal (docs/DECISIONS.md).
@@ -39,6 +40,21 @@ M9 =
     ∷ 0x50 ∷ 0x00 ∷ 0x10 ∷ 0x00
     ∷ 0x60 ∷ 0x00 ∷ 0x20 ∷ 0x00
     ∷ 0x10 ∷ 0x00 ∷ 0x00 ∷ 0x00 ∷ []
+
+-- "M10 S = ("(" then S) else empty"
+unfoldable pub M10 : List ℕ
+M10 =
+    0x10 ∷ 0x10 ∷ 0x05 ∷ 0x00
+    ∷ 0x00 ∷ 0x00
+    ∷ 0x40 ∷ 0x00 ∷ 0x10 ∷ 0x04
+    ∷ 0x30 ∷ 0x00 ∷ 0x20 ∷ 0x03
+    ∷ 0x20 ∷ 0x02 ∷ 0x80 ∷ 0x28
+    ∷ 0x70 ∷ 0x00 ∷ 0x00 ∷ 0x00
+    ∷ 0x00 ∷ 0x00 ∷ 0x00 ∷ 0x00 ∷ []
+
+-- So many opening brackets.
+unfoldable pub brackets : ℕ → List ℕ
+brackets k = replicate k 0x28
 
 -- Edition 2.
 unfoldable pub secondEdition : List ℕ
