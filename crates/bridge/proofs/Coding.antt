@@ -1,0 +1,80 @@
+-- The fields determine the answer, where a refusal has a number above 0, as each promise says. Assumes nothing.
+use Prim.Native.Nat.{ℕ, _≤_}
+use native.Mathlib.Omega.{arith}
+use mathlib.Core.Path.{_≡_, refl, ap}
+use Rattle.reading.specs.declared.plain.Outcome.{Outcome}
+use Rattle.reading.specs.declared.plain.Outcome.the-variants.{Whole, Part, Nothing}
+use Rattle.ledger.specs.declared.OpenAnswer.{OpenAnswer}
+use Rattle.ledger.specs.declared.EditAnswer.{EditAnswer}
+use Rattle.ledger.specs.declared.EditedSheet.{EditedSheet}
+use Rattle.ledger.specs.declared.ReadAnswer.{ReadAnswer}
+use Rattle.ledger.specs.declared.SheetReading.{SheetReading}
+use Rattle.ledger.specs.declared.LookUpAnswer.{LookUpAnswer}
+use Rattle.bridge.specs.declared.fields.Fields.{Fields}
+use Rattle.bridge.specs.Fields.{openFields, editFields, readFields, lookUpFields, outcomeNumber}
+
+-- Two codes with the same number.
+same-number : {a b : Fields} → a ≡ b → a .number ≡ b .number
+same-number e = ap (λ (f : Fields). f .number) e
+
+abbrev pub OpenNumbered : OpenAnswer → Type 0
+OpenNumbered (OpenAnswer.Opened n) = Unit {0}
+OpenNumbered (OpenAnswer.Refused k) = 1 ≤ k
+
+pub open-once : (a b : OpenAnswer) → OpenNumbered a → OpenNumbered b → openFields a ≡ openFields b → a ≡ b
+open-once (OpenAnswer.Opened n) (OpenAnswer.Opened m) h k e = ap (λ (f : Fields). OpenAnswer.Opened (f .length)) e
+open-once (OpenAnswer.Opened n) (OpenAnswer.Refused j) h k e = absurd (let d = same-number e in omega arith)
+open-once (OpenAnswer.Refused i) (OpenAnswer.Opened m) h k e = absurd (let d = same-number e in omega arith)
+open-once (OpenAnswer.Refused i) (OpenAnswer.Refused j) h k e = ap OpenAnswer.Refused (same-number e)
+
+abbrev pub EditNumbered : EditAnswer → Type 0
+EditNumbered (EditAnswer.Edited x) = Unit {0}
+EditNumbered (EditAnswer.Refused k) = 1 ≤ k
+
+pub edit-once : (a b : EditAnswer) → EditNumbered a → EditNumbered b → editFields a ≡ editFields b → a ≡ b
+edit-once (EditAnswer.Edited x) (EditAnswer.Edited y) h k e =
+    λ i. EditAnswer.Edited (record { length = e i .length; standing = e i .value })
+edit-once (EditAnswer.Edited x) (EditAnswer.Refused j) h k e = absurd (let d = same-number e in omega arith)
+edit-once (EditAnswer.Refused i) (EditAnswer.Edited y) h k e = absurd (let d = same-number e in omega arith)
+edit-once (EditAnswer.Refused i) (EditAnswer.Refused j) h k e = ap EditAnswer.Refused (same-number e)
+
+abbrev pub LookUpNumbered : LookUpAnswer → Type 0
+LookUpNumbered (LookUpAnswer.Word w) = Unit {0}
+LookUpNumbered (LookUpAnswer.Refused k) = 1 ≤ k
+
+pub look-up-once : (a b : LookUpAnswer) → LookUpNumbered a → LookUpNumbered b → lookUpFields a ≡ lookUpFields b → a ≡ b
+look-up-once (LookUpAnswer.Word v) (LookUpAnswer.Word w) h k e = ap (λ (f : Fields). LookUpAnswer.Word (f .value)) e
+look-up-once (LookUpAnswer.Word v) (LookUpAnswer.Refused j) h k e = absurd (let d = same-number e in omega arith)
+look-up-once (LookUpAnswer.Refused i) (LookUpAnswer.Word w) h k e = absurd (let d = same-number e in omega arith)
+look-up-once (LookUpAnswer.Refused i) (LookUpAnswer.Refused j) h k e = ap LookUpAnswer.Refused (same-number e)
+
+outcome-once : (x y : Outcome) → outcomeNumber x ≡ outcomeNumber y → x ≡ y
+outcome-once Whole Whole e = refl
+outcome-once Whole Part e = absurd (omega arith)
+outcome-once Whole Nothing e = absurd (omega arith)
+outcome-once Part Whole e = absurd (omega arith)
+outcome-once Part Part e = refl
+outcome-once Part Nothing e = absurd (omega arith)
+outcome-once Nothing Whole e = absurd (omega arith)
+outcome-once Nothing Part e = absurd (omega arith)
+outcome-once Nothing Nothing e = refl
+
+abbrev pub ReadNumbered : ReadAnswer → Type 0
+ReadNumbered (ReadAnswer.Read x) = Unit {0}
+ReadNumbered (ReadAnswer.Refused k) = 1 ≤ k
+
+pub read-once : (a b : ReadAnswer) → ReadNumbered a → ReadNumbered b → readFields a ≡ readFields b → a ≡ b
+read-once (ReadAnswer.Read x) (ReadAnswer.Read y) h k e =
+    let o = outcome-once (x .outcome) (y .outcome) (ap (λ (f : Fields). f .outcome) e) in
+    λ i.
+    ReadAnswer.Read
+    (record {
+      outcome = o i;
+      length = e i .length;
+      examined = e i .examined;
+      nesting = e i .nesting;
+      evaluations = e i .evaluations;
+    })
+read-once (ReadAnswer.Read x) (ReadAnswer.Refused j) h k e = absurd (let d = same-number e in omega arith)
+read-once (ReadAnswer.Refused i) (ReadAnswer.Read y) h k e = absurd (let d = same-number e in omega arith)
+read-once (ReadAnswer.Refused i) (ReadAnswer.Refused j) h k e = ap ReadAnswer.Refused (same-number e)

@@ -1,0 +1,2 @@
+-- The fields determine the answer.
+pub mod Coding

@@ -1,0 +1,53 @@
+// The sheet's calls for Rust tests, benchmarks and the demo: libbridge.a. Each answer is coded as seven numbers (fields.rt).
+pub mod fields;
+
+use fields::Fields;
+ghost use Rattle.bridge.specs.Coded.{CodedOpen, CodedEdit, CodedRead, CodedLookUp};
+
+#[no_mangle]
+pub extern "C" fn bannelgo_open(
+    image: &[u8],
+    text: &[u8],
+    buffer: &mut [u8],
+    table: &mut [u64],
+) -> Fields
+    ensures { λ r. ⌜ CodedOpen (now (image .entry)) (now (text .entry)) (now (buffer .entry)) (now (table .entry)) r (now (buffer .exit)) (now (table .exit)) ⌝ }
+{
+    fields::of_open(sheet::open::open(image, text, buffer, table))
+}
+
+#[no_mangle]
+pub extern "C" fn bannelgo_edit(
+    image: &[u8],
+    buffer: &mut [u8],
+    n: usize,
+    table: &mut [u64],
+    start: usize,
+    end: usize,
+    replacement: &[u8],
+) -> Fields
+    ensures { λ r. ⌜ CodedEdit (now (image .entry)) (now (buffer .entry)) n (now (table .entry)) start end (now (replacement .entry)) r (now (buffer .exit)) (now (table .exit)) ⌝ }
+{
+    fields::of_edit(sheet::edit::edit(image, buffer, n, table, start, end, replacement))
+}
+
+#[no_mangle]
+pub extern "C" fn bannelgo_read(image: &[u8], buffer: &[u8], n: usize, table: &mut [u64]) -> Fields
+    ensures { λ r. ⌜ CodedRead (now (image .entry)) (now (buffer .entry)) n (now (table .entry)) r (now (table .exit)) ⌝ }
+{
+    fields::of_read(sheet::read::read_sheet(image, buffer, n, table))
+}
+
+#[no_mangle]
+pub extern "C" fn bannelgo_look_up(
+    image: &[u8],
+    buffer: &[u8],
+    n: usize,
+    table: &[u64],
+    rule: usize,
+    position: usize,
+) -> Fields
+    ensures { λ r. ⌜ CodedLookUp (now (image .entry)) (now (buffer .entry)) n (now (table .entry)) rule position r ⌝ }
+{
+    fields::of_look_up(sheet::look_up::look_up(image, buffer, n, table, rule, position))
+}

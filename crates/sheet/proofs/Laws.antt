@@ -1,0 +1,92 @@
+-- What the calls leave to be shown: from what their parts gave to their promises. Assumes nothing.
+use Prim.Native.Nat.{ℕ, _+_, _-_, _*_, _≤_, _<_}
+use native.Mathlib.Omega.{arith}
+use native.Mathlib.Nat.{mul-le-mul, mul-le-mul-right}
+use mathlib.Core.Path.{_≡_, refl, sym, ap, _∙_, subst}
+use mathlib.Core.Bool.{true, false}
+use mathlib.Core.List.{List}
+use lib.ListN.{length, take}
+use lib.Seq.{length-take-le}
+use Rattle.grammar.specs.Image.{rules}
+use Rattle.grammar.specs.Questions.{First, Accepted}
+use Rattle.records.specs.Words.{valueOf}
+use Rattle.reading.specs.Session.{StartOver}
+use Rattle.reading.proofs.Gives.{found, was-refused, says}
+use Rattle.editing.specs.Text.{EditFits, newLength, textAfter, opened}
+use Rattle.editing.specs.Table.{TableLent, tableSize, wordsAfter, tableAfter, clearedTable, heldIn}
+use Rattle.ledger.specs.declared.ReadAnswer.{ReadAnswer}
+use Rattle.ledger.specs.declared.SheetReading.{SheetReading}
+use Rattle.ledger.specs.Answers.{sheetReading}
+use Rattle.ledger.specs.Questions.{Question8, Question9, Question10, ofSheet}
+use Rattle.ledger.specs.Reading.{ReadPromise}
+use Rattle.ledger.proofs.Asked.{sheet-passed}
+use Rattle.ledger.proofs.SheetReads.{reads-answered, reads-refused}
+
+-- The number of words of a table is far below a machine word.
+pub size-fits : (rules cap : ℕ) → rules ≤ 64 → cap ≤ 65535 → rules * (cap + 1) ≤ 4194304
+size-fits rules cap h k = let l : cap + 1 ≤ 65536 = omega arith in mul-le-mul h l
+
+pub slot-small : (rules q : ℕ) → rules ≤ 64 → q ≤ 65535 → q * rules ≤ 4194240
+slot-small rules q h k = mul-le-mul k h
+
+-- The slot of a pair of the text is in the table.
+pub slot-in : (R rule q n cap words : ℕ) → rule < R → q ≤ n → n ≤ cap → R * (cap + 1) ≤ words → q * R + rule < words
+slot-in R rule q n cap words a b c d =
+    let m : (q + 1) * R ≤ (cap + 1) * R = mul-le-mul-right R (omega arith) in omega arith
+
+module _ (img : List ℕ) (cap n words : ℕ) (good : First (ofSheet img cap n words) 0) where
+  pub accepted-image : Accepted img
+  accepted-image = sheet-passed img cap n words good .0
+
+  pub loan : Question8 img cap n words
+  loan = sheet-passed img cap n words good .1
+
+  pub few-rules : rules img ≤ 64
+  few-rules = accepted-image .lawful .counts .few-rules
+
+  pub table-lent : {R : ℕ} → R ≡ rules img → (W : List ℕ) → length W ≡ words → TableLent R cap W
+  table-lent e W l =
+      record {
+        most = loan .short;
+        some-rules = omega (arith, accepted-image .lawful .counts .some-rules);
+        most-rules = omega (arith, few-rules);
+        whole = rw (e, l) (loan .whole-table);
+      }
+
+-- A reading: the run's word, table and count.
+module _ (img B : List ℕ) (n : ℕ) (W : List ℕ) (good : First (ofSheet img (length B) n (length W)) 0) where
+  abbrev text : List ℕ
+  text = take n B
+
+  text-long : length text ≡ n
+  text-long = length-take-le n B (loan img (length B) n (length W) good .text-fits)
+
+  short : length text ≤ 65535
+  short = let q = loan img (length B) n (length W) good in omega (arith, text-long, q .short, q .text-fits)
+
+  -- The code lends the bytes 0 to n, which are n − 0.
+  pub part-short : {m : ℕ} → m ≡ n → length (take m B) ≤ 65535
+  part-short e = rw e short
+
+  pub read-refused :
+      {m word count : ℕ} {after : List ℕ}
+      → StartOver img (take m B) W 0 word after count
+      → m ≡ n
+      → word < 16
+      → ReadPromise img B n W (ReadAnswer.Refused word) (clearedTable (rules img) (length B) after)
+  read-refused {m} {word} {count} {after} run e h =
+      let g = subst (λ (k : ℕ). StartOver img (take k B) W 0 word after count) e run in
+      reads-refused img B n W (accepted-image img (length B) n (length W) good) (loan img (length B) n (length W) good) word after count
+      (was-refused short (omega arith) g h .is)
+
+  pub read-answered :
+      {m word count : ℕ} {after : List ℕ}
+      → StartOver img (take m B) W 0 word after count
+      → m ≡ n
+      → 16 ≤ word
+      → ReadPromise img B n W (ReadAnswer.Read (sheetReading n (valueOf word) count)) after
+  read-answered {m} {word} {count} {after} run e h =
+      let g = subst (λ (k : ℕ). StartOver img (take k B) W 0 word after count) e run in
+      let f = found short (omega arith) g h in
+      subst (λ z. ReadPromise img B n W (ReadAnswer.Read (sheetReading n z count)) after) (sym (says short (omega arith) f))
+      (reads-answered img B n W (accepted-image img (length B) n (length W) good) (loan img (length B) n (length W) good) (f .value) after count (f .is))

@@ -1,0 +1,85 @@
+use Prim.Native.Nat.{ℕ}
+use native.Mathlib.Omega.{arith}
+use mathlib.Core.Path.{refl, subst}
+use lib.ListN.{length}
+use Rattle.grammar.specs.Questions.{First}
+use Rattle.ledger.specs.Questions.{ofSheet}
+use Rattle.ledger.proofs.Asked.{front-edit, edit-9, edit-10, edit-0}
+use Rattle.sheet.proofs.Laws.{loan, table-lent}
+use borrow.Author.Needs.{needs}
+use Rattle.sheet.proofs.edit.edit.Statement.{statement}
+use Rattle.sheet.proofs.edit.edit.Tie as tie
+
+asked-requires : tie.Need-asked-requires
+asked-requires c κs = search needs
+
+returns : tie.Need-returns
+returns c =
+    record { first = front-edit (c .before .before .before .before .before .before .args .image .now) (length (c .before .before .before .before .before .before .args .buffer .now)) (c .before .before .before .before .before .before .args .n) (length (c .before .before .before .before .before .before .args .table .now)) (c .before .before .before .before .before .before .args .s) (c .before .before .before .before .before .before .args .e) (length (c .before .before .before .before .before .before .args .replacement .now)) (c .before .asked .result) (let ne = c .if1 .taken in omega (arith, ne)) (c .before .asked .ensures); values = record { numbered = (let ne = c .if1 .taken in omega (arith, ne)); same-bytes = refl; same-words = refl } }
+
+returns-2 : tie.Need-returns-2
+returns-2 c =
+    record { first = edit-9 (c .before .before .before .before .before .before .before .args .image .now) (length (c .before .before .before .before .before .before .before .args .buffer .now)) (c .before .before .before .before .before .before .before .args .n) (length (c .before .before .before .before .before .before .before .args .table .now)) (subst (λ (k : ℕ). First (ofSheet (c .before .before .before .before .before .before .before .args .image .now) (length (c .before .before .before .before .before .before .before .args .buffer .now)) (c .before .before .before .before .before .before .before .args .n) (length (c .before .before .before .before .before .before .before .args .table .now))) k) (c .before .if1 .left) (c .before .before .asked .ensures)) (c .before .before .before .before .before .before .before .args .s) (c .before .before .before .before .before .before .before .args .e) (length (c .before .before .before .before .before .before .before .args .replacement .now)) (λ q. let h = q .ordered in omega (arith, c .if2 .taken)); values = record { numbered = omega arith; same-bytes = refl; same-words = refl } }
+
+returns-3 : tie.Need-returns-3
+returns-3 c =
+    record { first = edit-9 (c .before .before .before .before .before .before .before .before .args .image .now) (length (c .before .before .before .before .before .before .before .before .args .buffer .now)) (c .before .before .before .before .before .before .before .before .args .n) (length (c .before .before .before .before .before .before .before .before .args .table .now)) (subst (λ (k : ℕ). First (ofSheet (c .before .before .before .before .before .before .before .before .args .image .now) (length (c .before .before .before .before .before .before .before .before .args .buffer .now)) (c .before .before .before .before .before .before .before .before .args .n) (length (c .before .before .before .before .before .before .before .before .args .table .now))) k) (c .before .before .if1 .left) (c .before .before .before .asked .ensures)) (c .before .before .before .before .before .before .before .before .args .s) (c .before .before .before .before .before .before .before .before .args .e) (length (c .before .before .before .before .before .before .before .before .args .replacement .now)) (λ q. let h = q .in-text in omega (arith, c .if3 .taken)); values = record { numbered = omega arith; same-bytes = refl; same-words = refl } }
+
+sub-if4 : tie.Need-sub-if4
+sub-if4 c = search needs
+
+add-if4 : tie.Need-add-if4
+add-if4 c =
+    let q = loan (c .before .before .before .before .before .before .before .before .args .image .now) (length (c .before .before .before .before .before .before .before .before .args .buffer .now)) (c .before .before .before .before .before .before .before .before .args .n) (length (c .before .before .before .before .before .before .before .before .args .table .now)) (subst (λ (k : ℕ). First (ofSheet (c .before .before .before .before .before .before .before .before .args .image .now) (length (c .before .before .before .before .before .before .before .before .args .buffer .now)) (c .before .before .before .before .before .before .before .before .args .n) (length (c .before .before .before .before .before .before .before .before .args .table .now))) k) (c .before .before .if1 .left) (c .before .before .before .asked .ensures)) in omega (arith, q .short, q .text-fits)
+
+returns-4 : tie.Need-returns-4
+returns-4 c =
+    record { first = edit-10 (c .before .before .before .before .before .before .before .before .before .args .image .now) (length (c .before .before .before .before .before .before .before .before .before .args .buffer .now)) (c .before .before .before .before .before .before .before .before .before .args .n) (length (c .before .before .before .before .before .before .before .before .before .args .table .now)) (subst (λ (k : ℕ). First (ofSheet (c .before .before .before .before .before .before .before .before .before .args .image .now) (length (c .before .before .before .before .before .before .before .before .before .args .buffer .now)) (c .before .before .before .before .before .before .before .before .before .args .n) (length (c .before .before .before .before .before .before .before .before .before .args .table .now))) k) (c .before .before .before .if1 .left) (c .before .before .before .before .asked .ensures)) (c .before .before .before .before .before .before .before .before .before .args .s) (c .before .before .before .before .before .before .before .before .before .args .e) (length (c .before .before .before .before .before .before .before .before .before .args .replacement .now)) (record { ordered = c .before .before .if2 .left; in-text = c .before .if3 .left }) (λ q. let h = q .room in omega (arith, c .if4 .taken)); values = record { numbered = omega arith; same-bytes = refl; same-words = refl } }
+
+header-of-requires : tie.Need-header-of-requires
+header-of-requires c κs = search needs
+
+edit-table-requires : tie.Need-edit-table-requires
+edit-table-requires c κs =
+    (table-lent (c .before .before .before .before .before .before .before .before .before .before .before .args .image .now) (length (c .before .before .before .before .before .before .before .before .before .before .before .args .buffer .now)) (c .before .before .before .before .before .before .before .before .before .before .before .args .n) (length (c .before .before .before .before .before .before .before .before .before .before .before .args .table .now)) (subst (λ (k : ℕ). First (ofSheet (c .before .before .before .before .before .before .before .before .before .before .before .args .image .now) (length (c .before .before .before .before .before .before .before .before .before .before .before .args .buffer .now)) (c .before .before .before .before .before .before .before .before .before .before .before .args .n) (length (c .before .before .before .before .before .before .before .before .before .before .before .args .table .now))) k) (c .before .before .before .before .before .if1 .left) (c .before .before .before .before .before .before .asked .ensures)) (c .before .header-of .ensures .its-rules) (c .before .before .before .before .before .before .before .before .before .before .before .args .table .now) refl, record { lent = loan (c .before .before .before .before .before .before .before .before .before .before .before .args .image .now) (length (c .before .before .before .before .before .before .before .before .before .before .before .args .buffer .now)) (c .before .before .before .before .before .before .before .before .before .before .before .args .n) (length (c .before .before .before .before .before .before .before .before .before .before .before .args .table .now)) (subst (λ (k : ℕ). First (ofSheet (c .before .before .before .before .before .before .before .before .before .before .before .args .image .now) (length (c .before .before .before .before .before .before .before .before .before .before .before .args .buffer .now)) (c .before .before .before .before .before .before .before .before .before .before .before .args .n) (length (c .before .before .before .before .before .before .before .before .before .before .before .args .table .now))) k) (c .before .before .before .before .before .if1 .left) (c .before .before .before .before .before .before .asked .ensures)) .text-fits; ordered = c .before .before .before .before .if2 .left; within = c .before .before .before .if3 .left; room = c .before .before .if4 .left })
+
+edit-text-requires : tie.Need-edit-text-requires
+edit-text-requires c κs =
+    record { lent = loan (c .before .before .before .before .before .before .before .before .before .before .before .before .before .before .before .args .image .now) (length (c .before .before .before .before .before .before .before .before .before .before .before .before .before .before .before .args .buffer .now)) (c .before .before .before .before .before .before .before .before .before .before .before .before .before .before .before .args .n) (length (c .before .before .before .before .before .before .before .before .before .before .before .before .before .before .before .args .table .now)) (subst (λ (k : ℕ). First (ofSheet (c .before .before .before .before .before .before .before .before .before .before .before .before .before .before .before .args .image .now) (length (c .before .before .before .before .before .before .before .before .before .before .before .before .before .before .before .args .buffer .now)) (c .before .before .before .before .before .before .before .before .before .before .before .before .before .before .before .args .n) (length (c .before .before .before .before .before .before .before .before .before .before .before .before .before .before .before .args .table .now))) k) (c .before .before .before .before .before .before .before .before .before .if1 .left) (c .before .before .before .before .before .before .before .before .before .before .asked .ensures)) .text-fits; ordered = c .before .before .before .before .before .before .before .before .if2 .left; within = c .before .before .before .before .before .before .before .if3 .left; room = c .before .before .before .before .before .before .if4 .left }
+
+same-length : tie.Need-same-length
+same-length c = search needs
+
+same-length-2 : tie.Need-same-length-2
+same-length-2 c = search needs
+
+returns-5 : tie.Need-returns-5
+returns-5 c =
+    record {
+      first = edit-0 (c .before .before .before .before .before .before .before .before .before .before .before .before .before .before .before .before .before .before .args .image .now) (length (c .before .before .before .before .before .before .before .before .before .before .before .before .before .before .before .before .before .before .args .buffer .now)) (c .before .before .before .before .before .before .before .before .before .before .before .before .before .before .before .before .before .before .args .n) (length (c .before .before .before .before .before .before .before .before .before .before .before .before .before .before .before .before .before .before .args .table .now)) (subst (λ (k : ℕ). First (ofSheet (c .before .before .before .before .before .before .before .before .before .before .before .before .before .before .before .before .before .before .args .image .now) (length (c .before .before .before .before .before .before .before .before .before .before .before .before .before .before .before .before .before .before .args .buffer .now)) (c .before .before .before .before .before .before .before .before .before .before .before .before .before .before .before .before .before .before .args .n) (length (c .before .before .before .before .before .before .before .before .before .before .before .before .before .before .before .before .before .before .args .table .now))) k) (c .before .before .before .before .before .before .before .before .before .before .before .before .if1 .left) (c .before .before .before .before .before .before .before .before .before .before .before .before .before .asked .ensures)) (c .before .before .before .before .before .before .before .before .before .before .before .before .before .before .before .before .before .before .args .s) (c .before .before .before .before .before .before .before .before .before .before .before .before .before .before .before .before .before .before .args .e) (length (c .before .before .before .before .before .before .before .before .before .before .before .before .before .before .before .before .before .before .args .replacement .now)) (record { ordered = c .before .before .before .before .before .before .before .before .before .before .before .if2 .left; in-text = c .before .before .before .before .before .before .before .before .before .before .if3 .left }) (record { room = c .before .before .before .before .before .before .before .before .before .if4 .left });
+      values =
+          record {
+            length-is = c .before .before .edit-text .ensures .0;
+            standing-are = (rw (c .before .before .before .before .before .before .before .before .header-of .ensures .its-rules) at (c .before .before .before .before .before .before .edit-table .ensures .0));
+            bytes-are = c .before .before .edit-text .ensures .1;
+            words-are = (rw (c .before .before .before .before .before .before .before .before .header-of .ensures .its-rules) at (c .before .before .before .before .before .before .edit-table .ensures .1));
+          };
+    }
+
+pub edit-spec : {M : Type 1} → statement M
+edit-spec =
+    tie.close
+    (tie.spec
+    asked-requires
+    returns
+    returns-2
+    returns-3
+    sub-if4
+    add-if4
+    returns-4
+    header-of-requires
+    edit-table-requires
+    edit-text-requires
+    same-length
+    same-length-2
+    returns-5)

@@ -1,0 +1,1 @@
+-- The calls' promises are in the crate ledger.

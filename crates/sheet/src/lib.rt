@@ -1,0 +1,8 @@
+// The calls on a sheet, over lent buffers: open, edit, reading and look-up. No call asks anything of its caller: every lent length,
+// number and table content is answered or refused, in the order of the questions.
+
+pub mod edit;
+pub mod look_up;
+pub mod open;
+mod questions;
+pub mod read;

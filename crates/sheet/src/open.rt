@@ -1,0 +1,18 @@
+// "Open: copies the text, zeroes the rest of the buffer and the table; the set is empty."
+use crate::questions;
+use ledger::OpenAnswer;
+ghost use Rattle.ledger.specs.Promises.{OpenPromise};
+
+pub fn open(image: &[u8], text: &[u8], buffer: &mut [u8], table: &mut [u64]) -> OpenAnswer
+    ensures { λ a. ⌜ OpenPromise (now (image .entry)) (now (text .entry)) (now (buffer .entry)) (now (table .entry)) a (now (buffer .exit)) (now (table .exit)) ⌝ }
+{
+    let cap = buffer.len();
+    let number = questions::asked(image, cap, text.len(), table.len());
+    if number != 0 {
+        return OpenAnswer::Refused(number);
+    }
+    let header = image::header_of(image);
+    editing::text::fill(buffer, text);
+    editing::table::clear_table(table, header.rules, cap);
+    OpenAnswer::Opened(text.len())
+}
