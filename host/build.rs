@@ -1,5 +1,5 @@
-// Links the static library `exports`, which holds the proved functions.
-// BANNELGO_LIB names its folder, absolute or relative to this package; the default is ../target/staticlib.
+// Links the static libraries `exports` and `bridge`, which hold the proved functions.
+// BANNELGO_LIB names their folder, absolute or relative to this package; the default is ../target/staticlib.
 
 use std::path::{Path, PathBuf};
 
@@ -10,15 +10,17 @@ fn main() {
         Ok(named) => package.join(named),
         Err(_) => package.join("../target/staticlib"),
     };
-    let library = folder.join("libexports.a");
 
     println!("cargo:rerun-if-env-changed=BANNELGO_LIB");
-    println!("cargo:rerun-if-changed={}", library.display());
-    if !library.is_file() {
-        eprintln!("{} is missing", library.display());
-        eprintln!("build it with: rt staticlib exports");
-        std::process::exit(1);
-    }
     println!("cargo:rustc-link-search=native={}", folder.display());
-    println!("cargo:rustc-link-lib=static=exports");
+    for name in ["exports", "bridge"] {
+        let library = folder.join(format!("lib{name}.a"));
+        println!("cargo:rerun-if-changed={}", library.display());
+        if !library.is_file() {
+            eprintln!("{} is missing", library.display());
+            eprintln!("build it with: rt staticlib {name}");
+            std::process::exit(1);
+        }
+        println!("cargo:rustc-link-lib=static={name}");
+    }
 }

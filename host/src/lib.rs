@@ -1,10 +1,11 @@
 //! The Rust side of Bannelgo's gap-sheet reader.
 //!
-//! `image_check` and `plain_reading` call the proved library. `reference` answers the same questions
-//! with code written apart from it, and the tests compare the two. The other modules make grammar
-//! images and texts.
+//! `image_check`, `plain_reading` and `bridge` call the proved libraries. `reference` answers the
+//! same questions with code written apart from them, and the tests compare the two. The other
+//! modules make grammar images, texts and calls.
 
 pub mod big_images;
+pub mod bridge;
 pub mod calls;
 pub mod expr;
 pub mod generate;

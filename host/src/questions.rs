@@ -22,8 +22,9 @@ pub fn question_in_words(number: u64) -> &'static str {
         10 => "Edit: n' ≤ cap?",
         11 => "Look-up: rule below rules, position ≤ n?",
         12 => {
-            "Reading: is each record met possible (nesting 1 to 4,096, length ≤ examined, position + length ≤ n, \
-             position + examined ≤ n + 1, failure with length 0, zero bits), and no star round of length 0?"
+            "Reading: is each record met possible (nesting 1 to 4,096, length ≤ examined, \
+             position + length ≤ n, position + examined ≤ n + 1, failure with length 0, zero bits), \
+             and no star round of length 0?"
         }
         13 => "Plain reading: did every star round consume?",
         14 => "Is the start pair's nesting at most 4,096?",

@@ -1,4 +1,6 @@
 //! The image check against the checker written apart.
+//!
+//! Images and texts lie in memory and are lent unchanged; there are no buffers to be cleared.
 
 use crate::timing::{medians, BATCHES};
 use bannelgo_host::big_images::{blocks, relay};

@@ -1,4 +1,6 @@
 //! The plain reading against the plain recursive reading written apart.
+//!
+//! Images and texts lie in memory and are lent unchanged; there are no buffers to be cleared.
 
 use crate::timing::{medians, BATCHES};
 use bannelgo_host::numbering::{image_of, Numbering};

@@ -1,4 +1,4 @@
-//! Times of two calls, whose batches take turns.
+//! Times of two calls, whose batches take turns, and what is printed of many times.
 
 use std::hint::black_box;
 use std::time::{Duration, Instant};
@@ -17,7 +17,7 @@ pub fn medians(ours: &dyn Fn() -> u64, rust: &dyn Fn() -> u64) -> (f64, f64) {
         ours_times.push(time_per_call(ours, ours_repeats));
         rust_times.push(time_per_call(rust, rust_repeats));
     }
-    (median(ours_times), median(rust_times))
+    (median(&ours_times), median(&rust_times))
 }
 
 /// How many calls fill a batch.
@@ -41,7 +41,21 @@ fn time_per_call(call: &dyn Fn() -> u64, repeats: u32) -> f64 {
     time_of(call, repeats).as_nanos() as f64 / f64::from(repeats)
 }
 
-pub fn median(mut times: Vec<f64>) -> f64 {
+pub fn median(times: &[f64]) -> f64 {
+    at_share(times, 0.5)
+}
+
+/// The time below which a tenth of the times are.
+pub fn low(times: &[f64]) -> f64 {
+    at_share(times, 0.1)
+}
+
+fn at_share(times: &[f64], share: f64) -> f64 {
+    let mut times = times.to_vec();
     times.sort_by(f64::total_cmp);
-    times[times.len() / 2]
+    times[(times.len() as f64 * share) as usize]
+}
+
+pub fn micros(time: Duration) -> f64 {
+    time.as_nanos() as f64 / 1_000.0
 }

@@ -1,17 +1,18 @@
-//! Checks the paper's sample images and reads sample texts with the proved library, and prints what
-//! it says.
+//! Checks the paper's sample images, reads sample texts and types into a sheet with the proved
+//! libraries, and prints what they say.
 
 mod images;
 mod lines;
 mod readings;
+mod typing;
 
 use std::process::ExitCode;
 
 fn main() -> ExitCode {
-    match images::print() + readings::print() {
+    match images::print() + readings::print() + typing::print() {
         0 => ExitCode::SUCCESS,
         count => {
-            eprintln!("{count} samples got another answer than expected");
+            eprintln!("{count} answers are other than expected");
             ExitCode::FAILURE
         }
     }

@@ -1,0 +1,52 @@
+//! Calls over tables with any words in them.
+
+use super::any_table::AnyTable;
+use super::tally::Tally;
+use super::words::any_table;
+use bannelgo_host::calls::Call;
+use bannelgo_host::expr::Grammar;
+use bannelgo_host::generate::{small_grammar, some_letters, text_of, Typist};
+use bannelgo_host::reference::lent::Loan;
+use bannelgo_host::rng::Rng;
+
+/// A single call over any table, and then some over what it leaves.
+pub fn foreign(seed: u64) -> Tally {
+    let mut tally = Tally::drawn("any words", seed);
+    let rng = &mut Rng::new(seed);
+    for _ in 0..150_000 {
+        let grammar = small_grammar(rng);
+        let loan = any_loan(rng, &grammar);
+        let mut table = AnyTable::new(&mut tally, rng, &grammar, loan);
+        for _ in 0..rng.between(1, 4) {
+            let Loan { buffer, n, .. } = &table.loan;
+            let cap = buffer.len();
+            let call = match rng.below(3) {
+                0 => Call::Read,
+                _ => Typist::default().call(rng, &grammar, &buffer[..*n], cap),
+            };
+            table.call(&call);
+        }
+    }
+    tally
+}
+
+/// A text with junk behind it, and up to 3 words after the table.
+fn any_loan(rng: &mut Rng, grammar: &Grammar) -> Loan {
+    let count = rng.below(10);
+    let text = match rng.below(2) {
+        0 => text_of(rng, grammar, 10),
+        _ => some_letters(rng, count),
+    };
+    let room = rng.below(5);
+    let junk = match rng.below(2) {
+        0 => vec![0; room],
+        _ => some_letters(rng, room),
+    };
+    let mut words = any_table(rng, grammar, &text, text.len() + room);
+    words.extend((0..rng.below(4)).map(|_| rng.draw()));
+    Loan {
+        n: text.len(),
+        buffer: [text, junk].concat(),
+        words,
+    }
+}

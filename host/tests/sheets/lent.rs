@@ -1,0 +1,81 @@
+//! Buffers that are lent to the library call after call.
+
+use super::fence::Fenced;
+use bannelgo_host::bridge::{lending, AnswerFields};
+use bannelgo_host::calls::Call;
+use bannelgo_host::reference::lent::Loan;
+
+pub struct Lent {
+    buffer: Fenced<u8>,
+    n: usize,
+    words: Fenced<u64>,
+}
+
+impl Lent {
+    pub fn new(loan: &Loan) -> Lent {
+        Lent {
+            buffer: Fenced::new(&loan.buffer, 0xA5),
+            n: loan.n,
+            words: Fenced::new(&loan.words, 0xA5A5_A5A5_A5A5_A5A5),
+        }
+    }
+
+    /// Lends the buffers to an open.
+    pub fn open(&mut self, image: &[u8], text: &[u8]) -> AnswerFields {
+        let fields = lending::open(image, text, self.buffer.lent(), self.words.lent());
+        if fields.number == 0 {
+            self.n = fields.length as usize;
+        }
+        fields
+    }
+
+    /// Lends the buffers to a call, with the length that the last open or edit gave.
+    pub fn call(&mut self, image: &[u8], call: &Call) -> AnswerFields {
+        let words = self.words.content().len();
+        let fields = self.call_with(image, self.n, words, call);
+        if matches!(call, Call::Edit { .. }) && fields.number == 0 {
+            self.n = fields.length as usize;
+        }
+        fields
+    }
+
+    /// Lends the text buffer, any length of the text and the first so many words.
+    pub fn call_with(&mut self, image: &[u8], n: usize, words: usize, call: &Call) -> AnswerFields {
+        let words = &mut self.words.lent()[..words];
+        let buffer = self.buffer.lent();
+        match call {
+            Call::Edit {
+                start,
+                end,
+                replacement,
+            } => lending::edit(image, buffer, n, words, (*start, *end, replacement)),
+            Call::Read => lending::read(image, buffer, n, words),
+            Call::LookUp { rule, position } => {
+                lending::look_up(image, buffer, n, words, (*rule, *position))
+            }
+        }
+    }
+
+    /// Whether the buffers are these, and nothing beside them was written.
+    pub fn is(&self, buffer: &[u8], n: usize, table: &[u64], tail: &[u64]) -> bool {
+        let words = self.words.content();
+        let (own_table, own_tail) = words.split_at(table.len().min(words.len()));
+        self.fences_stand()
+            && self.n == n
+            && self.buffer.content() == buffer
+            && own_table == table
+            && own_tail == tail
+    }
+
+    pub fn fences_stand(&self) -> bool {
+        self.buffer.fence_stands() && self.words.fence_stands()
+    }
+
+    pub fn left(&self) -> Loan {
+        Loan {
+            buffer: self.buffer.content().to_vec(),
+            n: self.n,
+            words: self.words.content().to_vec(),
+        }
+    }
+}
