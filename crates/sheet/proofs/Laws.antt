@@ -1,9 +1,8 @@
 -- What the calls leave to be shown: from what their parts gave to their promises. Assumes nothing.
-use Prim.Native.Nat.{ℕ, _+_, _-_, _*_, _≤_, _<_}
+use Prim.Native.Nat.{ℕ, _+_, _*_, _≤_, _<_}
 use native.Mathlib.Omega.{arith}
 use native.Mathlib.Nat.{mul-le-mul, mul-le-mul-right}
-use mathlib.Core.Path.{_≡_, refl, sym, ap, _∙_, subst}
-use mathlib.Core.Bool.{true, false}
+use mathlib.Core.Path.{_≡_, subst}
 use mathlib.Core.List.{List}
 use lib.ListN.{length, take}
 use lib.Seq.{length-take-le}
@@ -11,16 +10,13 @@ use Rattle.grammar.specs.Image.{rules}
 use Rattle.grammar.specs.Questions.{First, Accepted}
 use Rattle.records.specs.Words.{valueOf}
 use Rattle.reading.specs.Session.{StartOver}
-use Rattle.reading.proofs.Gives.{found, was-refused, says}
-use Rattle.editing.specs.Text.{EditFits, newLength, textAfter, opened}
-use Rattle.editing.specs.Table.{TableLent, tableSize, wordsAfter, tableAfter, clearedTable, heldIn}
+use Rattle.editing.specs.Table.{TableLent, clearedTable}
 use Rattle.ledger.specs.declared.ReadAnswer.{ReadAnswer}
-use Rattle.ledger.specs.declared.SheetReading.{SheetReading}
 use Rattle.ledger.specs.Answers.{sheetReading}
-use Rattle.ledger.specs.Questions.{Question8, Question9, Question10, ofSheet}
+use Rattle.ledger.specs.Questions.{Question8, ofSheet}
 use Rattle.ledger.specs.Reading.{ReadPromise}
 use Rattle.ledger.proofs.Asked.{sheet-passed}
-use Rattle.ledger.proofs.SheetReads.{reads-answered, reads-refused}
+use Rattle.ledger.proofs.SheetReads.{reads-word, reads-number}
 
 -- The number of words of a table is far below a machine word.
 pub size-fits : (rules cap : ℕ) → rules ≤ 64 → cap ≤ 65535 → rules * (cap + 1) ≤ 4194304
@@ -53,40 +49,21 @@ module _ (img : List ℕ) (cap n words : ℕ) (good : First (ofSheet img cap n w
         whole = rw (e, l) (loan .whole-table);
       }
 
--- A reading: the run's word, table and count.
+-- A reading: the run's word, table and count. The code lends the bytes 0 to n of the buffer, which are n − 0.
 module _ (img B : List ℕ) (n : ℕ) (W : List ℕ) (good : First (ofSheet img (length B) n (length W)) 0) where
-  abbrev text : List ℕ
-  text = take n B
-
-  text-long : length text ≡ n
-  text-long = length-take-le n B (loan img (length B) n (length W) good .text-fits)
-
-  short : length text ≤ 65535
-  short = let q = loan img (length B) n (length W) good in omega (arith, text-long, q .short, q .text-fits)
-
-  -- The code lends the bytes 0 to n, which are n − 0.
   pub part-short : {m : ℕ} → m ≡ n → length (take m B) ≤ 65535
-  part-short e = rw e short
+  part-short e =
+      let q = loan img (length B) n (length W) good in
+      rw (e, length-take-le n B (q .text-fits)) (omega (arith, q .short, q .text-fits))
 
-  pub read-refused :
-      {m word count : ℕ} {after : List ℕ}
-      → StartOver img (take m B) W 0 word after count
-      → m ≡ n
-      → word < 16
-      → ReadPromise img B n W (ReadAnswer.Refused word) (clearedTable (rules img) (length B) after)
-  read-refused {m} {word} {count} {after} run e h =
-      let g = subst (λ (k : ℕ). StartOver img (take k B) W 0 word after count) e run in
-      reads-refused img B n W (accepted-image img (length B) n (length W) good) (loan img (length B) n (length W) good) word after count
-      (was-refused short (omega arith) g h .is)
+  module _ {m word count : ℕ} {after : List ℕ} (run : StartOver img (take m B) W 0 word after count) (e : m ≡ n) where
+    whole-text : StartOver img (take n B) W 0 word after count
+    whole-text = subst (λ (k : ℕ). StartOver img (take k B) W 0 word after count) e run
 
-  pub read-answered :
-      {m word count : ℕ} {after : List ℕ}
-      → StartOver img (take m B) W 0 word after count
-      → m ≡ n
-      → 16 ≤ word
-      → ReadPromise img B n W (ReadAnswer.Read (sheetReading n (valueOf word) count)) after
-  read-answered {m} {word} {count} {after} run e h =
-      let g = subst (λ (k : ℕ). StartOver img (take k B) W 0 word after count) e run in
-      let f = found short (omega arith) g h in
-      subst (λ z. ReadPromise img B n W (ReadAnswer.Read (sheetReading n z count)) after) (sym (says short (omega arith) f))
-      (reads-answered img B n W (accepted-image img (length B) n (length W) good) (loan img (length B) n (length W) good) (f .value) after count (f .is))
+    pub read-refused : word < 16 → ReadPromise img B n W (ReadAnswer.Refused word) (clearedTable (rules img) (length B) after)
+    read-refused =
+        reads-number img B n W (accepted-image img (length B) n (length W) good) (loan img (length B) n (length W) good) whole-text
+
+    pub read-answered : 16 ≤ word → ReadPromise img B n W (ReadAnswer.Read (sheetReading n (valueOf word) count)) after
+    read-answered =
+        reads-word img B n W (accepted-image img (length B) n (length W) good) (loan img (length B) n (length W) good) whole-text
