@@ -11,22 +11,22 @@ use Rattle.ledger.specs.Reading.{ReadPromise}
 use Rattle.bridge.specs.declared.fields.Fields.{Fields}
 use Rattle.bridge.specs.Fields.{openFields, editFields, readFields, lookUpFields}
 
-pub record CodedOpen (img text B W : List ℕ) (r : Fields) (B′ W′ : List ℕ) : Type 0 where
+pub record CodedOpen (img text B W : List ℕ) (f : Fields) (B′ W′ : List ℕ) : Type 0 where
   pub answer : OpenAnswer
   pub promise : OpenPromise img text B W answer B′ W′
-  pub coded : r ≡ openFields answer
+  pub coded : f ≡ openFields answer
 
-pub record CodedEdit (img B : List ℕ) (n : ℕ) (W : List ℕ) (s e : ℕ) (k : List ℕ) (r : Fields) (B′ W′ : List ℕ) : Type 0 where
+pub record CodedEdit (img B : List ℕ) (n : ℕ) (W : List ℕ) (s e : ℕ) (r : List ℕ) (f : Fields) (B′ W′ : List ℕ) : Type 0 where
   pub answer : EditAnswer
-  pub promise : EditPromise img B n W s e k answer B′ W′
-  pub coded : r ≡ editFields answer
+  pub promise : EditPromise img B n W s e r answer B′ W′
+  pub coded : f ≡ editFields answer
 
-pub record CodedRead (img B : List ℕ) (n : ℕ) (W : List ℕ) (r : Fields) (W′ : List ℕ) : Type 0 where
+pub record CodedRead (img B : List ℕ) (n : ℕ) (W : List ℕ) (f : Fields) (W′ : List ℕ) : Type 0 where
   pub answer : ReadAnswer
   pub promise : ReadPromise img B n W answer W′
-  pub coded : r ≡ readFields answer
+  pub coded : f ≡ readFields answer
 
-pub record CodedLookUp (img B : List ℕ) (n : ℕ) (W : List ℕ) (rule position : ℕ) (r : Fields) : Type 0 where
+pub record CodedLookUp (img B : List ℕ) (n : ℕ) (W : List ℕ) (rule position : ℕ) (f : Fields) : Type 0 where
   pub answer : LookUpAnswer
   pub promise : LookUpPromise img B n W rule position answer
-  pub coded : r ≡ lookUpFields answer
+  pub coded : f ≡ lookUpFields answer

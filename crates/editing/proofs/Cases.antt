@@ -12,7 +12,8 @@ use Rattle.buffers.specs.Filled.{at}
 use Rattle.buffers.proofs.Fill.{cut}
 use Rattle.records.specs.Words.{isHeld, examinedOf}
 use Rattle.editing.specs.Text.{newLength}
-use Rattle.editing.specs.Table.{pick, slotOf, stays, comes, cameFrom, tabulate}
+use Rattle.editing.specs.Table.{pick, stays, comes, cameFrom, tabulate}
+use Rattle.records.specs.Slots.{slotOf}
 use Rattle.editing.specs.Words.{onlyHeld, keptWord}
 use Rattle.editing.proofs.Slots.{row-room}
 

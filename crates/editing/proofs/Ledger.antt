@@ -17,7 +17,8 @@ use Rattle.grammar.specs.Questions.{oneIf}
 use Rattle.evaluation.specs.Counts.{sumTo, countPairs}
 use Rattle.records.specs.Words.{isHeld, examinedOf}
 use Rattle.editing.specs.Text.{EditFits, newLength}
-use Rattle.editing.specs.Table.{pick, slotOf, wordOf, tableSize, stays, comes, cameFrom, wordAfter, tabulate, wordsAfter, tableAfter, heldIn}
+use Rattle.editing.specs.Table.{pick, tableWord, tableSize, stays, comes, cameFrom, wordAfter, tabulate, wordsAfter, tableAfter, heldIn}
+use Rattle.records.specs.Slots.{slotOf}
 use Rattle.editing.specs.Pairs.{standsAfter}
 use Rattle.editing.specs.Words.{heldBit, heldTo}
 use Rattle.editing.proofs.Held.{pick-by, held-add, held-same, held-list}
@@ -70,7 +71,7 @@ module _
     (fits : EditFits cap n s e k)
     (h : ℕ → ℕ → Bool)
     (examined W W′ : ℕ → ℕ → ℕ)
-    (before : (rule q : ℕ) → rule < R → q ≤ cap → wordOf R t rule q ≡ pick (h rule q) (W rule q) 0)
+    (before : (rule q : ℕ) → rule < R → q ≤ cap → tableWord R t rule q ≡ pick (h rule q) (W rule q) 0)
     (stored : (rule q : ℕ) → rule < R → h rule q ≡ true → (isHeld (W rule q) ≡ true) × (examinedOf (W rule q) ≡ examined rule q))
     (stay-true : (rule q : ℕ) → rule < R → h rule q ≡ true → q + examined rule q ≤ s → W′ rule q ≡ W rule q)
     (carry-true :
@@ -92,18 +93,18 @@ module _
         omega arith
 
     module _ (rule q : ℕ) (below : rule < R) (inside : q ≤ cap) where
-      first-case : stays s q (wordOf R t rule q) ≡ (leb q s && (h rule q && leb (q + examined rule q) s))
+      first-case : stays s q (tableWord R t rule q) ≡ (leb q s && (h rule q && leb (q + examined rule q) s))
       first-case =
           ap (stays s q) (before rule q below inside)
           ∙ stays-pair s q (examined rule q) (h rule q) (W rule q) (λ y. stored rule q below y .0) (λ y. stored rule q below y .1)
 
       second-case :
-          comes n s e k q (wordOf R t rule (cameFrom s e k q)) ≡ (leb (s + k) q && (leb q (newLength n s e k) && h rule (cameFrom s e k q)))
+          comes n s e k q (tableWord R t rule (cameFrom s e k q)) ≡ (leb (s + k) q && (leb q (newLength n s e k) && h rule (cameFrom s e k q)))
       second-case =
           comes-pair
           (leb (s + k) q)
           (leb q (newLength n s e k))
-          (isHeld (wordOf R t rule (cameFrom s e k q)))
+          (isHeld (tableWord R t rule (cameFrom s e k q)))
           (h rule (cameFrom s e k q))
           (λ a b.
           ap isHeld (before rule (cameFrom s e k q) below (came-inside q (leb-true (s + k) q a) (leb-true q (newLength n s e k) b)))
@@ -114,14 +115,14 @@ module _
       unfolding wordAfter standsAfter
       word-after =
           ap₂
-          (λ (a b : Bool). pick a (wordOf R t rule q) (pick b (wordOf R t rule (cameFrom s e k q)) 0))
+          (λ (a b : Bool). pick a (tableWord R t rule q) (pick b (tableWord R t rule (cameFrom s e k q)) 0))
           first-case
           second-case
           ∙ either
           (leb q s && (h rule q && leb (q + examined rule q) s))
           (leb (s + k) q && (leb q (newLength n s e k) && h rule (cameFrom s e k q)))
-          (wordOf R t rule q)
-          (wordOf R t rule (cameFrom s e k q))
+          (tableWord R t rule q)
+          (tableWord R t rule (cameFrom s e k q))
           (W′ rule q)
           (λ y.
           let z = and-second (leb q s) (h rule q && leb (q + examined rule q) s) y in
@@ -142,16 +143,16 @@ module _
       unfolding wordAfter standsAfter
       bit-after =
           either-bit
-          (stays s q (wordOf R t rule q))
-          (comes n s e k q (wordOf R t rule (cameFrom s e k q)))
-          (wordOf R t rule q)
-          (wordOf R t rule (cameFrom s e k q))
-          (λ y. and-first (isHeld (wordOf R t rule q)) (leb (q + examinedOf (wordOf R t rule q)) s) (and-second (leb q s) (isHeld (wordOf R t rule q) && leb (q + examinedOf (wordOf R t rule q)) s) y))
+          (stays s q (tableWord R t rule q))
+          (comes n s e k q (tableWord R t rule (cameFrom s e k q)))
+          (tableWord R t rule q)
+          (tableWord R t rule (cameFrom s e k q))
+          (λ y. and-first (isHeld (tableWord R t rule q)) (leb (q + examinedOf (tableWord R t rule q)) s) (and-second (leb q s) (isHeld (tableWord R t rule q) && leb (q + examinedOf (tableWord R t rule q)) s) y))
           (λ y.
           and-second
           (leb q (newLength n s e k))
-          (isHeld (wordOf R t rule (cameFrom s e k q)))
-          (and-second (leb (s + k) q) (leb q (newLength n s e k) && isHeld (wordOf R t rule (cameFrom s e k q))) y))
+          (isHeld (tableWord R t rule (cameFrom s e k q)))
+          (and-second (leb (s + k) q) (leb q (newLength n s e k) && isHeld (tableWord R t rule (cameFrom s e k q))) y))
           ∙ ap₂ (λ (a b : Bool). oneIf (a || b)) first-case second-case
 
     -- The table after the edit, pair by pair.
@@ -159,7 +160,7 @@ module _
         (rule q : ℕ)
         → rule < R
         → q ≤ cap
-        → wordOf R (tableAfter R cap n s e k t) rule q ≡ pick (standsAfter (h rule) (examined rule) n s e k q) (W′ rule q) 0
+        → tableWord R (tableAfter R cap n s e k t) rule q ≡ pick (standsAfter (h rule) (examined rule) n s e k q) (W′ rule q) 0
     unfolding wordsAfter
     ledger-after rule q below inside =
         let f : ℕ → ℕ = λ j. wordAfter R n s e k t (j % R) (j / R) in

@@ -11,7 +11,8 @@ use lib.Dec.{leb}
 use borrow.Author.Tests.{leb-true}
 use Rattle.buffers.proofs.Parts.{joined-first}
 use Rattle.editing.specs.Text.{EditFits, newLength, textAfter, opened, edited}
-use Rattle.editing.specs.Table.{slotOf, wordOf, tableSize, TableLent, wordAfter, wordsAfter, tableAfter, clearedTable}
+use Rattle.editing.specs.Table.{tableWord, tableSize, TableLent, wordAfter, wordsAfter, tableAfter, clearedTable}
+use Rattle.records.specs.Slots.{slotOf}
 use Rattle.editing.specs.Pairs.{standsAfter}
 use Rattle.editing.proofs.Slots.{row-room}
 use Rattle.editing.proofs.Cases.{tabulate-long}
@@ -65,7 +66,7 @@ module _ {R cap : ℕ} {t : List ℕ} (lent : TableLent R cap t) where
   pub cleared-tail : drop (tableSize R cap) (clearedTable R cap t) ≡ drop (tableSize R cap) t
   cleared-tail = drop-at (replicate (tableSize R cap) 0) (drop (tableSize R cap) t) (tableSize R cap) (length-replicate (tableSize R cap) 0)
 
-  pub cleared-word : (rule q : ℕ) → rule < R → q ≤ cap → wordOf R (clearedTable R cap t) rule q ≡ 0
+  pub cleared-word : (rule q : ℕ) → rule < R → q ≤ cap → tableWord R (clearedTable R cap t) rule q ≡ 0
   cleared-word rule q below inside =
       let m = row-room R q (cap + 1) (omega arith) in
       let slot : slotOf R rule q < tableSize R cap = omega arith in

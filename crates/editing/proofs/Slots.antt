@@ -6,7 +6,7 @@ use mathlib.Core.Path.{_≡_}
 use mathlib.Core.Logic.{⊎-elim}
 use lib.Arith.{digits-mod, digits-div}
 use Rattle.buffers.proofs.Fill.{cut}
-use Rattle.editing.specs.Table.{slotOf}
+use Rattle.records.specs.Slots.{slotOf}
 
 -- A row below others lies before their end.
 pub row-room : (R i rows : ℕ) → i < rows → i * R + R ≤ rows * R

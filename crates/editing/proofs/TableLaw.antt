@@ -16,7 +16,8 @@ use Rattle.buffers.proofs.Fill.{cut}
 use Rattle.buffers.proofs.Parts.{mid-at, mid-long, put-long, put-before, put-inside, put-past, joined-first, joined-second}
 use Rattle.records.specs.Words.{isHeld}
 use Rattle.editing.specs.Text.{EditFits, newLength}
-use Rattle.editing.specs.Table.{pick, slotOf, wordOf, tableSize, TableLent, stays, comes, cameFrom, wordAfter, tabulate, wordsAfter, tableAfter, heldIn}
+use Rattle.editing.specs.Table.{pick, tableWord, tableSize, TableLent, stays, comes, cameFrom, wordAfter, tabulate, wordsAfter, tableAfter, heldIn}
+use Rattle.records.specs.Slots.{slotOf}
 use Rattle.editing.specs.Words.{keptWord, heldTo, keptAt, Counted, cameWord, BackFits, Back}
 use Rattle.editing.proofs.TextLaw.{new-is}
 use Rattle.editing.proofs.Held.{held-add, held-same, held-list, held-most}
@@ -119,20 +120,20 @@ module _
           ap (λ (x : ℕ). s - x) (let z = position-of R (lent .some-rules) rule q below in let o : 0 + slotOf R rule q / R ≡ q = omega arith in o) in
           front-at (slotOf R rule q) (omega arith)
           ∙ ap₂ keptWord place (mid-at 0 (s * R - 0) t (slotOf R rule q) (omega arith) ∙ ap (at t) (let z : 0 + slotOf R rule q ≡ slotOf R rule q = omega arith in z))
-          ∙ kept-is n s e k q (wordOf R t rule q) (wordOf R t rule (cameFrom s e k q)) h
+          ∙ kept-is n s e k q (tableWord R t rule q) (tableWord R t rule (cameFrom s e k q)) h
 
       came-pair :
           (i : ℕ)
           → s + i ≤ cap
           → cameWord ((e - s) * R) (k * R) ((n - e + 1) * R) (midOf (s * R) (tableSize R cap - s * R) half) (slotOf R rule i)
-          ≡ pick (comes n s e k (s + i) (wordOf R t rule (cameFrom s e k (s + i)))) (wordOf R t rule (cameFrom s e k (s + i))) 0
+          ≡ pick (comes n s e k (s + i) (tableWord R t rule (cameFrom s e k (s + i)))) (tableWord R t rule (cameFrom s e k (s + i))) 0
       came-pair i h =
           came-is
           (leb (k * R) (slotOf R rule i))
           (ltb (slotOf R rule i) (k * R + (n - e + 1) * R))
           (leb (s + k) (s + i))
           (leb (s + i) (newLength n s e k))
-          (wordOf R t rule (cameFrom s e k (s + i)))
+          (tableWord R t rule (cameFrom s e k (s + i)))
           (at (midOf (s * R) (tableSize R cap - s * R) half) ((e - s) * R + (slotOf R rule i - k * R)))
           (from-new R s k rule below i)
           (to-end R s k rule below i (n - e) (newLength n s e k) (new-is n s e k (fits .ordered) (fits .within)))
@@ -142,7 +143,7 @@ module _
               s + k ≤ s + i
               → s + i ≤ newLength n s e k
               → at (midOf (s * R) (tableSize R cap - s * R) half) ((e - s) * R + (slotOf R rule i - k * R))
-              ≡ wordOf R t rule (cameFrom s e k (s + i))
+              ≡ tableWord R t rule (cameFrom s e k (s + i))
           word x y =
               let slot = came-from R s k rule below i e (omega arith) in
               let in-table = row-room R (cameFrom s e k (s + i)) (cap + 1) (was-inside n s e k i cap x y (fits .ordered) (fits .within) (fits .lent)) in
@@ -182,8 +183,8 @@ module _
           let slot : slotOf R rule (s + i) ≡ s * R + slotOf R rule i = omega arith in
           let m = row-room R (s + i) (cap + 1) (omega arith) in
           let inside : slotOf R rule i < tableSize R cap - s * R = omega arith in
-          let w : ℕ = wordOf R t rule (s + i) in
-          let u : ℕ = wordOf R t rule (cameFrom s e k (s + i)) in
+          let w : ℕ = tableWord R t rule (s + i) in
+          let u : ℕ = tableWord R t rule (cameFrom s e k (s + i)) in
           let came : ℕ = pick (comes n s e k (s + i) u) u 0 in
           let old : at (midOf (s * R) (tableSize R cap - s * R) half) (slotOf R rule i) ≡ w =
           old-at (slotOf R rule i) inside ∙ ap (at t) (sym slot) in

@@ -5,19 +5,16 @@ use mathlib.Core.List.{List, [], _∷_, _++_}
 use lib.ListN.{length, getD, drop, replicate}
 use lib.Dec.{leb}
 use Rattle.records.specs.Words.{isHeld, examinedOf}
+use Rattle.records.specs.Slots.{slotOf}
 use Rattle.editing.specs.Text.{newLength}
 
 abbrev pub pick : Bool → ℕ → ℕ → ℕ
 pick true a b = a
 pick false a b = b
 
--- "The slot of (rule, position) is position × rules + rule."
-abbrev pub slotOf : (rules rule position : ℕ) → ℕ
-slotOf rules rule position = position * rules + rule
-
 -- The word of a pair.
-abbrev pub wordOf : (rules : ℕ) (table : List ℕ) (rule position : ℕ) → ℕ
-wordOf rules table rule position = getD table (slotOf rules rule position) 0
+abbrev pub tableWord : (rules : ℕ) (table : List ℕ) (rule position : ℕ) → ℕ
+tableWord rules table rule position = getD table (slotOf rules rule position) 0
 
 -- "The first rules × (cap + 1) words are the table".
 abbrev pub tableSize : (rules cap : ℕ) → ℕ
@@ -46,9 +43,9 @@ cameFrom s e k q = q - k + (e - s)
 unfoldable pub wordAfter : (rules n s e k : ℕ) (table : List ℕ) (rule q : ℕ) → ℕ
 wordAfter rules n s e k table rule q =
     pick
-    (stays s q (wordOf rules table rule q))
-    (wordOf rules table rule q)
-    (pick (comes n s e k q (wordOf rules table rule (cameFrom s e k q))) (wordOf rules table rule (cameFrom s e k q)) 0)
+    (stays s q (tableWord rules table rule q))
+    (tableWord rules table rule q)
+    (pick (comes n s e k q (tableWord rules table rule (cameFrom s e k q))) (tableWord rules table rule (cameFrom s e k q)) 0)
 
 -- The list f 0, f 1, .. of so many.
 abbrev pub tabulate : (ℕ → ℕ) → ℕ → List ℕ

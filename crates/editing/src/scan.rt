@@ -8,7 +8,7 @@ pub struct Scan {
     pub every: bool,
 }
 
-// One less, and every bit for 0: the held bit is set for 0 and for a held word with another bit, and for no word that is not held.
+// One less, and every bit for 0: the held bit is set for 0 and for a held word with another bit, and for no other word.
 fn lowered(word: u64) -> u64
     ensures { λ r. ⌜ Lowered word r ⌝ }
 {

@@ -1,4 +1,5 @@
 // One word of the memo table in an edit.
+use records::Record;
 ghost use Prim.Native.Nat.{_<_};
 ghost use mathlib.Core.Path.{_≡_};
 ghost use Rattle.editing.specs.Table.{pick};
@@ -16,7 +17,11 @@ pub fn held_bit(word: u64) -> usize
 pub fn only_held(word: u64) -> u64
     ensures { λ r. ⌜ r ≡ onlyHeld word ⌝ }
 {
-    if records::is_held(word) { word } else { 0 }
+    if records::is_held(word) {
+        word
+    } else {
+        Record::EMPTY
+    }
 }
 
 // The word where it is held and examined at most `limit` bytes, else 0.
@@ -27,9 +32,9 @@ pub fn kept_word(word: u64, limit: usize) -> u64
         if records::examined_of(word) <= limit {
             return word;
         }
-        return 0;
+        return Record::EMPTY;
     }
-    0
+    Record::EMPTY
 }
 
 // The first word where it is held, else the second.

@@ -148,18 +148,18 @@ module _ {ev : Evaluations} {cap : ℕ} {rest : List ℕ} {l : Ledger} {B : List
         (newPairs ev l)
         (subst (λ (text : List ℕ). PlainRead (l .image) text x) (text-is v) q)
 
-    plain-step : (a ≡ inSession x (newPairs ev l)) × LedgersNumber (reads a)
+    plain-step : (a ≡ inSession x (newPairs ev l)) × LedgersNumber (reads a) × (take n B ≡ l .text)
     unfolding turn
     plain-step =
         let e : reads a ≡ readTurn ev (passes14 ev l) l .reply = read-step v p .0 in
         let f = by-nesting (passes14 ev l) given in
-        (cc, subst LedgersNumber (sym e) (read-number ev cap (passes14 ev l) l))
+        (cc, subst LedgersNumber (sym e) (read-number ev cap (passes14 ev l) l), text-is v)
 
 plain-after :
     (ev : Evaluations) (cap : ℕ) (rest : List ℕ) {l : Ledger} {img B W : List ℕ} {n : ℕ} → Holds ev cap rest l (loan img B n W)
     → (a : ReadAnswer) (W′ : List ℕ) → ReadPromise img B n W a W′
     → (x : PlainAnswer) → PlainRead img (take n B) x
-    → (a ≡ inSession x (newPairs ev l)) × LedgersNumber (reads a)
+    → (a ≡ inSession x (newPairs ev l)) × LedgersNumber (reads a) × (take n B ≡ l .text)
 plain-after ev cap rest (holds v) a W′ p x q = plain-step v p x q
 
 pub as-plain : AsPlain

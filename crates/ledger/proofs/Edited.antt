@@ -2,7 +2,7 @@
 -- stand too. Assumes nothing.
 --     stands-cases, stands-stay, stands-carry    the two cases of standing
 --     value-stay, value-carry                    a pair that stands has its old evaluation
---     calls-stay, calls-carry                    and its body calls the old pairs
+--     stay-calls, carry-there                    and its body calls the old pairs
 use Prim.Native.Nat.{ℕ, _+_, _-_, _≤_, _<_}
 use native.Mathlib.Omega.{arith}
 use mathlib.Core.Path.{_≡_, sym, ap, _∙_, subst}

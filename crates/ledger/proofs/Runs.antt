@@ -14,6 +14,7 @@ use borrow.Author.Tests.{leb-true, le-leb, ltb-true, lt-ltb}
 use Rattle.grammar.specs.Image.{rules}
 use Rattle.grammar.specs.Questions.{First, Accepted}
 use Rattle.reading.specs.Over.{wordAt}
+use Rattle.reading.specs.Session.{startRun}
 use Rattle.editing.specs.Text.{newLength, textAfter, opened}
 use Rattle.editing.specs.Table.{wordsAfter, tableAfter, clearedTable, heldIn, tableSize}
 use Rattle.ledger.specs.declared.OpenAnswer.{OpenAnswer}
@@ -21,9 +22,9 @@ use Rattle.ledger.specs.declared.EditAnswer.{EditAnswer}
 use Rattle.ledger.specs.declared.LookUpAnswer.{LookUpAnswer}
 use Rattle.ledger.specs.Questions.{Question8, Question9, ofSheet}
 use Rattle.ledger.specs.Promises.{OpenPromise, EditPromise, LookUpPromise}
-use Rattle.ledger.specs.Run.{startRun, answerOf, wordsOf}
+use Rattle.ledger.specs.Run.{answerOf, wordsOf}
 use Rattle.ledger.specs.Ledger.{Evaluations, Call, edit, reading, look-up, Reply, edits, reads, finds, Ledger, openedLedger, replies}
-use Rattle.ledger.specs.Demand.{Loan, loan, Link, edit-link, read-link, look-up-link, nextLength, Trace, done, next}
+use Rattle.ledger.specs.Demand.{Loan, loan, Link, edit-link, read-link, look-up-link, nextLength, Trace, done, next, RunsExist}
 use Rattle.ledger.proofs.Bools.{both, joined}
 use Rattle.ledger.proofs.Asked.{sheet-first, sheet-passed, edit-9, edit-10, look-up-11}
 use Rattle.ledger.proofs.Kept.{open-done, edit-refused, edit-done, look-up-refused, look-up-done}
@@ -77,7 +78,7 @@ asks11 img n rule position = ltb rule (rules img) && leb position n
 abbrev pub replyOf : Loan → Call → Reply
 replyOf (loan img B n W) (edit s e r) =
     edits (editAnswer (asks9 n s e) (asks10 (length B) n s e (length r)) img B n W s e r)
-replyOf (loan img B n W) reading = reads (answerOf n (startRun img (take n B) W))
+replyOf (loan img B n W) reading = reads (answerOf n (startRun img (take n B) W 0))
 replyOf (loan img B n W) (look-up rule position) = finds (lookUpAnswer (asks11 img n rule position) img W rule position)
 
 abbrev pub nextOf : Loan → Call → Loan
@@ -85,7 +86,7 @@ nextOf (loan img B n W) (edit s e r) =
     loan img (editBytes (asks9 n s e) (asks10 (length B) n s e (length r)) B n s e r)
     (nextLength n (editAnswer (asks9 n s e) (asks10 (length B) n s e (length r)) img B n W s e r))
     (editWords (asks9 n s e) (asks10 (length B) n s e (length r)) img (length B) n W s e (length r))
-nextOf (loan img B n W) reading = loan img B n (wordsOf img (length B) (startRun img (take n B) W))
+nextOf (loan img B n W) reading = loan img B n (wordsOf img (length B) (startRun img (take n B) W 0))
 nextOf (loan img B n W) (look-up rule position) = loan img B n W
 
 abbrev pub repliesOf : Loan → List Call → List Reply
@@ -157,6 +158,12 @@ a-run {img} {text} {B₀} {W₀} p calls =
     run-from evaluations (length B₀) (drop (tableSize (rules img) (length B₀)) W₀)
     {l = openedLedger img (opened-image p .0) text}
     (holds (opening evaluations (opened-image p .0) p)) calls
+
+pub runs-exist : RunsExist
+runs-exist = (
+  (λ img text B W a q. record { bytes = _; words = _; opens = an-opening img text B W a q }),
+  (λ img text B₀ W₀ B W n p calls. record { answers = _; end = _; run = a-run p calls }),
+)
 
 -- Whatever functions give the ledger its evaluations, and however it is known that the image is accepted, its replies are those.
 pub ledger-replies :

@@ -54,6 +54,7 @@ module _ (img text : List ℕ) (cap : ℕ) (accepted : Accepted img) (small : ca
   session-says calls answers e =
       record {
         accepted = accepted;
+        lent = record { short = small; text-fits = fits; whole-table = omega arith };
         ledger = λ ev. ledger-computed ev calls ∙ e;
         runs = λ B₀ W₀ B W n long p given img′ B′ W′ n′ t.
             demand-3 img text B₀ W₀ B W n p accepted evaluations calls given img′ B′ W′ n′ t .0

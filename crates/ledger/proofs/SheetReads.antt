@@ -30,13 +30,14 @@ use Rattle.reading.proofs.Gives.{found, was-refused, says}
 use Rattle.reading.proofs.Framed.{pair-framed, pair-impossible}
 use Rattle.reading.proofs.Stores.{determined}
 use Rattle.reading.proofs.TrueReads.{start-deep, only-14}
+use Rattle.reading.specs.Session.{startRun}
 use Rattle.editing.specs.Table.{tableSize, TableLent, clearedTable}
 use Rattle.editing.proofs.Loans.{cleared-long, cleared-tail}
 use Rattle.ledger.specs.declared.ReadAnswer.{ReadAnswer}
-use Rattle.ledger.specs.Answers.{sheetReading}
+use Rattle.ledger.specs.Answers.{readNumber, sheetReading}
 use Rattle.ledger.specs.Questions.{Question8, ofSheet}
 use Rattle.ledger.specs.Reading.{NotForeign, AnswersWith, SheetRead, ReadPromise}
-use Rattle.ledger.specs.Run.{startRun, answerOf, wordsOf}
+use Rattle.ledger.specs.Run.{answerOf, wordsOf}
 use Rattle.ledger.proofs.Asked.{sheet-first}
 use Rattle.ledger.proofs.Tables.{slot-in, size-up, lent-table, same-rest}
 
@@ -50,7 +51,7 @@ module _ (img text : List ℕ) (cap : ℕ) (W : List ℕ) (accepted : Accepted i
     room = let a = size-up (rules img) (length text) cap fits in omega arith
 
     -- What holds of the run over every table.
-    framed : Framed img text W 0 (startRun img text W)
+    framed : Framed img text W 0 (startRun img text W 0)
     framed = pair-framed img text (accepted .lawful .words) 4096 (start img) 0 (accepted .lawful .counts .start-rule) (omega arith) W 0
 
     -- No slot of the text is after the table.
@@ -66,7 +67,7 @@ module _ (img text : List ℕ) (cap : ℕ) (W : List ℕ) (accepted : Accepted i
 
     -- What an answer and words that are made of the run say, by cases of its answer.
     abbrev Made : Answer → Type 0
-    Made x = startRun img text W ≡ out x (framed .after) (framed .counted)
+    Made x = startRun img text W 0 ≡ out x (framed .after) (framed .counted)
 
     few : (ps : List Pair) → evaluations img text ps < 2 ^ 63
     few ps =
@@ -77,7 +78,7 @@ module _ (img text : List ℕ) (cap : ℕ) (W : List ℕ) (accepted : Accepted i
 
     determinate :
         (z : Evaluation) (d : Over img text W (a-pair (start img)) 0 z) → z .nesting ≤ 4096
-        → AnswersWith img text W z (bodiesOf d) (answerOf (length text) (startRun img text W)) (wordsOf img cap (startRun img text W))
+        → AnswersWith img text W z (bodiesOf d) (answerOf (length text) (startRun img text W 0)) (wordsOf img cap (startRun img text W 0))
     determinate z d k =
         let x =
         determined img text W (accepted .lawful .words) short room d (accepted .lawful .counts .start-rule) (omega arith) 4096
@@ -93,10 +94,10 @@ module _ (img text : List ℕ) (cap : ℕ) (W : List ℕ) (accepted : Accepted i
 
     deep :
         NotForeign img text W → TooDeep img text
-        → answerOf (length text) (startRun img text W) ≡ ReadAnswer.Refused 14
+        → readNumber (answerOf (length text) (startRun img text W 0)) ≡ 14
     deep f t =
         let x = start-deep img text W accepted short (f .true-words) (t .evaluated) (t .above) 0 in
-        ap (answerOf (length text)) (x .is)
+        ap (λ (o : Out). readNumber (answerOf (length text) o)) (x .is)
 
     not-12 : NotForeign img text W → (k : ℕ) → Made (refused k) → k ≡ 14
     not-12 f k e =
@@ -104,12 +105,12 @@ module _ (img text : List ℕ) (cap : ℕ) (W : List ℕ) (accepted : Accepted i
         (omega arith) 0 k
         (record { after = framed .after; counted = framed .counted; is = e })
 
-    pub sheet-read : SheetRead img text cap W (answerOf (length text) (startRun img text W)) (wordsOf img cap (startRun img text W))
+    pub sheet-read : SheetRead img text cap W (answerOf (length text) (startRun img text W 0)) (wordsOf img cap (startRun img text W 0))
     sheet-read = go (framed .answer) (framed .is) (framed .fits)
       where
         go :
             (x : Answer) → Made x → Fits (length text) 0 x
-            → SheetRead img text cap W (answerOf (length text) (startRun img text W)) (wordsOf img cap (startRun img text W))
+            → SheetRead img text cap W (answerOf (length text) (startRun img text W 0)) (wordsOf img cap (startRun img text W 0))
         go (answered z) e w =
             record {
               as-long = rw e (framed .as-long);
@@ -117,10 +118,10 @@ module _ (img text : List ℕ) (cap : ℕ) (W : List ℕ) (accepted : Accepted i
               in-text = λ x f. let g : z .length ≡ x .length = cc (e, f) in omega (arith, w .in-text);
               numbers = λ k f. absurd (let z : _≡_ {A = ℕ} 0 1 = cc (ap (answerOf (length text)) e, f) in omega arith);
               zeroed = λ k f. absurd (let z : _≡_ {A = ℕ} 0 1 = cc (ap (answerOf (length text)) e, f) in omega arith);
-              impossible = λ h p. ap (answerOf (length text)) (pair-impossible img text (nodeM img text 4096) 4096 (start img) 0 W 0 h p);
+              impossible = λ h p. ap (λ (o : Out). readNumber (answerOf (length text) o)) (pair-impossible img text (nodeM img text 4096) 4096 (start img) 0 W 0 h p);
               determinate = determinate;
               too-deep = deep;
-              never-12 = λ n f. let z : _≡_ {A = ℕ} 0 1 = cc (ap (answerOf (length text)) e, f) in omega arith;
+              never-12 = λ n f. let z = sym (ap (λ (o : Out). readNumber (answerOf (length text) o)) e) ∙ f in omega arith;
             }
         go (refused k) e w =
             record {
@@ -129,16 +130,16 @@ module _ (img text : List ℕ) (cap : ℕ) (W : List ℕ) (accepted : Accepted i
               in-text = λ x f. absurd (let z : _≡_ {A = ℕ} 0 1 = cc (ap (answerOf (length text)) e, f) in omega arith);
               numbers = λ j f. let g : k ≡ j = cc (ap (answerOf (length text)) e, f) in subst (λ (i : ℕ). (i ≡ 12) ⊎ (i ≡ 14)) g w;
               zeroed = λ j f. rw e (ap (λ (l : List ℕ). replicate (tableSize (rules img) cap) 0 ++ l) rest-same);
-              impossible = λ h p. ap (answerOf (length text)) (pair-impossible img text (nodeM img text 4096) 4096 (start img) 0 W 0 h p);
+              impossible = λ h p. ap (λ (o : Out). readNumber (answerOf (length text) o)) (pair-impossible img text (nodeM img text 4096) 4096 (start img) 0 W 0 h p);
               determinate = determinate;
               too-deep = deep;
-              never-12 = λ n f. let g : k ≡ 12 = cc (ap (answerOf (length text)) e, f) in let h = not-12 n k e in omega arith;
+              never-12 = λ n f. let g : k ≡ 12 = sym (ap (λ (o : Out). readNumber (answerOf (length text) o)) e) ∙ f in let h = not-12 n k e in omega arith;
             }
 
 -- The same as the whole promise, of the first n bytes of a buffer.
 pub reads-are :
     (img B : List ℕ) (n : ℕ) (W : List ℕ) → Accepted img → Question8 img (length B) n (length W)
-    → ReadPromise img B n W (answerOf n (startRun img (take n B) W)) (wordsOf img (length B) (startRun img (take n B) W))
+    → ReadPromise img B n W (answerOf n (startRun img (take n B) W 0)) (wordsOf img (length B) (startRun img (take n B) W 0))
 reads-are img B n W accepted q =
     let long : length (take n B) ≡ n = length-take-le n B (q .text-fits) in
     let read =
@@ -150,8 +151,8 @@ reads-are img B n W accepted q =
       read = λ e.
           subst
           (λ (k : ℕ).
-          SheetRead img (take n B) (length B) W (answerOf k (startRun img (take n B) W))
-          (wordsOf img (length B) (startRun img (take n B) W)))
+          SheetRead img (take n B) (length B) W (answerOf k (startRun img (take n B) W 0))
+          (wordsOf img (length B) (startRun img (take n B) W 0)))
           long
           read;
     }
@@ -160,7 +161,7 @@ reads-are img B n W accepted q =
 pub reads-answered :
     (img B : List ℕ) (n : ℕ) (W : List ℕ) → Accepted img → Question8 img (length B) n (length W)
     → (z : Evaluation) (W′ : List ℕ) (count : ℕ)
-    → startRun img (take n B) W ≡ out (answered z) W′ count
+    → startRun img (take n B) W 0 ≡ out (answered z) W′ count
     → ReadPromise img B n W (ReadAnswer.Read (sheetReading n z count)) W′
 reads-answered img B n W accepted q z W′ count e =
     subst (λ (o : Out). ReadPromise img B n W (answerOf n o) (wordsOf img (length B) o)) e (reads-are img B n W accepted q)
@@ -168,14 +169,14 @@ reads-answered img B n W accepted q z W′ count e =
 pub reads-refused :
     (img B : List ℕ) (n : ℕ) (W : List ℕ) → Accepted img → Question8 img (length B) n (length W)
     → (k : ℕ) (table : List ℕ) (count : ℕ)
-    → startRun img (take n B) W ≡ out (refused k) table count
+    → startRun img (take n B) W 0 ≡ out (refused k) table count
     → ReadPromise img B n W (ReadAnswer.Refused k) (clearedTable (rules img) (length B) table)
 reads-refused img B n W accepted q k table count e =
     subst (λ (o : Out). ReadPromise img B n W (answerOf n o) (wordsOf img (length B) o)) e (reads-are img B n W accepted q)
 
 -- The same by the word that the evaluator answers: a held word is an evaluation, a word below 16 is a refusal's number.
 module _ (img B : List ℕ) (n : ℕ) (W : List ℕ) (accepted : Accepted img) (q : Question8 img (length B) n (length W)) {word : ℕ}
-    {table : List ℕ} {count : ℕ} (g : Gives (length (take n B)) 0 4096 (startRun img (take n B) W) word table count)
+    {table : List ℕ} {count : ℕ} (g : Gives (length (take n B)) 0 4096 (startRun img (take n B) W 0) word table count)
   where
     short-part : length (take n B) ≤ 65535
     short-part = rw (length-take-le n B (q .text-fits)) (omega (arith, q .text-fits, q .short))

@@ -2,7 +2,7 @@
 -- invariant of an empty set, which an opening and a reading refused with 14 leave. Assumes nothing.
 --     inv-empty    the invariant where no pair is held and the table is zeroed
 --     read-step    a reading
-use Prim.Native.Nat.{ℕ, _+_, _≤_, _<_}
+use Prim.Native.Nat.{ℕ, suc, _+_, _≤_, _<_}
 use native.Mathlib.Omega.{arith}
 use mathlib.Core.Path.{_≡_, refl, sym, ap, _∙_}
 use mathlib.Core.Bool.{Bool, true, false, not, _&&_, _||_, true≢false}
@@ -31,7 +31,7 @@ use Rattle.editing.specs.Text.{opened}
 use Rattle.editing.specs.Table.{pick, tableSize, clearedTable}
 use Rattle.editing.proofs.Loans.{cleared-long, cleared-tail, cleared-word}
 use Rattle.ledger.specs.declared.ReadAnswer.{ReadAnswer}
-use Rattle.ledger.specs.Answers.{sheetReading}
+use Rattle.ledger.specs.Answers.{readNumber, sheetReading}
 use Rattle.ledger.specs.Reading.{AnswersWith, SheetRead, ReadPromise}
 use Rattle.ledger.specs.Ledger.{Evaluations, Ledger, Turn, reading, reads, openedLedger, valueIn, reachedIn, pairsOf}
 use Rattle.ledger.specs.Ledger.{passes14, readTurn, turn}
@@ -73,6 +73,11 @@ inv-empty ev cap img accepted text W rest small fits whole e =
       closed = λ r q f z u y i. absurd (true≢false (sym f));
       after-table = cleared-tail lent ∙ e;
     }
+
+-- An answer with a number above 0 is the refusal with that number.
+refused-is : (a : ReadAnswer) (k : ℕ) → readNumber a ≡ suc k → a ≡ ReadAnswer.Refused (suc k)
+refused-is (ReadAnswer.Read x) k e = absurd (omega arith)
+refused-is (ReadAnswer.Refused j) k e = ap ReadAnswer.Refused e
 
 module _ {ev : Evaluations} {cap : ℕ} {rest : List ℕ} {l : Ledger} {B : List ℕ} {n : ℕ} {W : List ℕ} (v : Inv ev cap rest l B n W)
     {a : ReadAnswer} {W′ : List ℕ} (sr : SheetRead (l .image) (l .text) cap W a W′)
@@ -202,7 +207,7 @@ module _ {ev : Evaluations} {cap : ℕ} {rest : List ℕ} {l : Ledger} {B : List
     -- And where it is.
     module _ (k : 4096 < z .nesting) where
       answer-14 : a ≡ ReadAnswer.Refused 14
-      answer-14 = sr .too-deep (not-foreign v) (record { value = z; evaluated = e; above = k })
+      answer-14 = refused-is a 13 (sr .too-deep (not-foreign v) (record { value = z; evaluated = e; above = k }))
 
       inv-deep : Inv ev cap rest (readTurn ev false l .left) B n W′
       inv-deep =

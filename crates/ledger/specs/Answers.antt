@@ -10,17 +10,14 @@ use Rattle.ledger.specs.declared.LookUpAnswer.{LookUpAnswer}
 use Rattle.ledger.specs.declared.ReadAnswer.{ReadAnswer}
 use Rattle.ledger.specs.declared.SheetReading.{SheetReading}
 
--- "The answer is the text's length n."
 abbrev pub openNumber : OpenAnswer → ℕ
 openNumber (OpenAnswer.Opened n) = 0
 openNumber (OpenAnswer.Refused k) = k
 
--- "The answer gives the new length and the number of pairs standing."
 abbrev pub editNumber : EditAnswer → ℕ
 editNumber (EditAnswer.Edited x) = 0
 editNumber (EditAnswer.Refused k) = k
 
--- "Look-up: gives the true word of a held pair, else 0."
 abbrev pub lookUpNumber : LookUpAnswer → ℕ
 lookUpNumber (LookUpAnswer.Word w) = 0
 lookUpNumber (LookUpAnswer.Refused k) = k

@@ -56,3 +56,4 @@ AsPlain =
     → PlainRead img′ (take n′ B′) x
     → (a ≡ inSession x (newPairs ev (leftBy ev (length B₀) (openedLedger img accepted text) calls)))
     × ((readNumber a ≡ 0) ⊎ (readNumber a ≡ 14))
+    × (take n′ B′ ≡ leftBy ev (length B₀) (openedLedger img accepted text) calls .text)

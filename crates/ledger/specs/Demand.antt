@@ -20,6 +20,7 @@ use Rattle.ledger.specs.Promises.{OpenPromise, EditPromise, LookUpPromis
 use Rattle.ledger.specs.Reading.{ReadPromise}
 use Rattle.ledger.specs.Ledger.{Evaluations, Call, Reply, edit, reading, look-up, edits, reads, finds}
 use Rattle.ledger.specs.Ledger.{Ledger, openedLedger, valueIn, replies, leftBy}
+use Rattle.ledger.specs.Questions.{Question8}
 
 -- What a call is lent: the image, the text buffer, the text's length and the words.
 pub data Loan : Type 0 where
@@ -82,3 +83,22 @@ Demand3 =
     × (img′ ≡ leftBy ev (length B₀) (openedLedger img accepted text) calls .image)
     × Agrees ev (length B₀) (drop (tableSize (rules img) (length B₀)) W₀)
     (leftBy ev (length B₀) (openedLedger img accepted text) calls) B′ n′ W′
+
+-- The claim is about something: every lent buffer that passes questions 1 to 8 has an opening,
+pub record AnOpening (img text B W : List ℕ) : Type 0 where
+  pub bytes : List ℕ
+  pub words : List ℕ
+  pub opens : OpenPromise img text B W (OpenAnswer.Opened (length text)) bytes words
+
+-- and from every accepted opening every list of calls has a run.
+pub record ARun (from : Loan) (calls : List Call) : Type 0 where
+  pub answers : List Reply
+  pub end : Loan
+  pub run : Trace from calls answers end
+
+abbrev pub RunsExist : Type 0
+RunsExist =
+    ((img text B W : List ℕ) → Accepted img → Question8 img (length B) (length text) (length W) → AnOpening img text B W)
+    × ((img text B₀ W₀ B W : List ℕ) (n : ℕ)
+    → OpenPromise img text B₀ W₀ (OpenAnswer.Opened n) B W
+    → (calls : List Call) → ARun (loan img B n W) calls)

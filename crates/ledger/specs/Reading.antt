@@ -20,7 +20,7 @@ use Rattle.reading.specs.Stores.{Stores, evaluations}
 use Rattle.editing.specs.Table.{tableSize, clearedTable}
 use Rattle.ledger.specs.declared.ReadAnswer.{ReadAnswer}
 use Rattle.ledger.specs.declared.SheetReading.{SheetReading}
-use Rattle.ledger.specs.Answers.{sheetReading}
+use Rattle.ledger.specs.Answers.{readNumber, sheetReading}
 use Rattle.ledger.specs.Questions.{ofSheet}
 
 -- No foreign records: every held word of a pair of the text is true, its nesting is at most 4,096 (TrueTable), and the pairs that its
@@ -35,7 +35,9 @@ pub record AnswersWith (img text W : List ℕ) (z : Evaluation) (ps : List Pair)
   pub answer-is : a ≡ ReadAnswer.Read (sheetReading (length text) z (evaluations img text ps))
   pub stores : Stores img text W ps W′
 
--- A reading that passed questions 1 to 8, of a text in a buffer of cap bytes.
+-- A reading that passed questions 1 to 8, of a text in a buffer of cap bytes. Free is, over foreign records where none of `impossible`,
+-- `determinate` and `too-deep` applies: whether it is answered or refused with 12 or 14; outcome, examined, nesting and evaluations; and, if
+-- it is answered, the words of the table. Nothing else is free.
 pub record SheetRead (img text : List ℕ) (cap : ℕ) (W : List ℕ) (a : ReadAnswer) (W′ : List ℕ) : Type 0 where
   -- Over every table: "it ends, changes only the table", "words after it are never touched",
   pub as-long : length W′ ≡ length W
@@ -48,7 +50,7 @@ pub record SheetRead (img text : List ℕ) (cap : ℕ) (W : List ℕ) (a : ReadA
   pub impossible :
       isHeld (wordAt img W (start img) 0) ≡ true
       → possible (wordAt img W (start img) 0) 0 (length text) ≡ false
-      → a ≡ ReadAnswer.Refused 12
+      → readNumber a ≡ 12
   -- "A reading that is no listing isn't free where Ford's rules, each held pair that is called, and the start pair too, taking what its
   -- word says, true or not, give the start pair a nesting of at most 4,096 and meet only possible words and no star round of length 0".
   -- An evaluation over a table meets no other: an impossible word answers nothing, and a star with a matched round of length 0 has none
@@ -58,13 +60,13 @@ pub record SheetRead (img text : List ℕ) (cap : ℕ) (W : List ℕ) (a : ReadA
       → z .nesting ≤ 4096
       → AnswersWith img text W z (bodiesOf d) a W′
   -- Over a table without foreign records: "14. Is the start pair's nesting at most 4,096? No: 14."
-  pub too-deep : NotForeign img text W → TooDeep img text → a ≡ ReadAnswer.Refused 14
+  pub too-deep : NotForeign img text W → TooDeep img text → readNumber a ≡ 14
   -- "Over all other tables 12 is never given."
-  pub never-12 : NotForeign img text W → a ≡ ReadAnswer.Refused 12 → ⊥
+  pub never-12 : NotForeign img text W → readNumber a ≡ 12 → ⊥
 
 -- What a reading promises: the first number of questions 1 to 8 that fails, and then every word as it was; or a reading of the text.
 pub record ReadPromise (img B : List ℕ) (n : ℕ) (W : List ℕ) (a : ReadAnswer) (W′ : List ℕ) : Type 0 where
   pub number : ℕ
   pub first : First (ofSheet img (length B) n (length W)) number
-  pub refused : 1 ≤ number → (a ≡ ReadAnswer.Refused number) × (W′ ≡ W)
+  pub refused : 1 ≤ number → (readNumber a ≡ number) × (W′ ≡ W)
   pub read : number ≡ 0 → SheetRead img (take n B) (length B) W a W′

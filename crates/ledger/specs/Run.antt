@@ -2,15 +2,11 @@
 -- cite these; proofs/SheetReads.antt shows that they keep it.
 use Prim.Native.Nat.{ℕ}
 use mathlib.Core.List.{List}
-use Rattle.grammar.specs.Image.{rules, start}
-use Rattle.reading.specs.Model.{answered, refused, Out, out, ruleM, nodeM}
+use Rattle.grammar.specs.Image.{rules}
+use Rattle.reading.specs.Model.{answered, refused, Out, out}
 use Rattle.editing.specs.Table.{clearedTable}
 use Rattle.ledger.specs.declared.ReadAnswer.{ReadAnswer}
 use Rattle.ledger.specs.Answers.{sheetReading}
-
--- The run of the start pair over the words W, on a text.
-abbrev pub startRun : (img text W : List ℕ) → Out
-startRun img text W = ruleM img text (nodeM img text 4096) 4096 (start img) 0 W 0
 
 -- An answered run is reported, of a text of n bytes, with the count of evaluated pairs; a refused one gives its number.
 abbrev pub answerOf : (n : ℕ) → Out → ReadAnswer

@@ -11,6 +11,7 @@ use Rattle.grammar.specs.Evaluates.{Fresh, a-node}
 use Rattle.evaluation.specs.Calls.{Pair, In, isIn, callsOf}
 use Rattle.evaluation.specs.Counts.{countPairs}
 use Rattle.records.specs.Words.{isHeld}
+use Rattle.records.specs.Slots.{slotOf}
 use Rattle.reading.specs.Model.{answered, Out, out}
 use Rattle.reading.specs.Over.{wordAt}
 use Rattle.reading.specs.True.{TrueTable}
@@ -38,7 +39,7 @@ pub record Gains (img text before : List ℕ) (ps : List Pair) (after : List ℕ
       → isHeld (wordAt img after r q) ≡ isHeld (wordAt img before r q) || isIn r q ps
   pub kept :
       (j : ℕ)
-      → ((r q : ℕ) → In (record { rule = r; position = q }) ps → isHeld (wordAt img before r q) ≡ false → j ≡ q * rules img + r → ⊥)
+      → ((r q : ℕ) → In (record { rule = r; position = q }) ps → isHeld (wordAt img before r q) ≡ false → j ≡ slotOf (rules img) r q → ⊥)
       → getD after j 0 ≡ getD before j 0
 
 -- "Evaluations counts reached pairs not held before."

@@ -7,6 +7,7 @@ use mathlib.Core.Logic.{_⊎_}
 use lib.ListN.{length, getD}
 use Rattle.grammar.specs.Image.{rules}
 use Rattle.evaluation.specs.Within.{Within}
+use Rattle.records.specs.Slots.{slotOf}
 use Rattle.reading.specs.Model.{Answer, answered, refused, Out, out}
 
 abbrev pub Fits : (n p : ℕ) → Answer → Type 0
@@ -23,5 +24,5 @@ pub record Framed (img text before : List ℕ) (p : ℕ) (o : Out) : Type 0 wher
   pub as-long : length after ≡ length before
   pub kept :
       (j : ℕ)
-      → ((r q : ℕ) → r < rules img → q ≤ length text → j ≡ q * rules img + r → ⊥)
+      → ((r q : ℕ) → r < rules img → q ≤ length text → j ≡ slotOf (rules img) r q → ⊥)
       → getD after j 0 ≡ getD before j 0

@@ -1,4 +1,6 @@
--- The plain reading's promise (Plain), what the evaluator computes (Model), and what its functions promise each other (Gives).
+-- The plain reading's promise (Plain) and its code (Code); the evaluator as a function (Model), over a loaded grammar (Loaded), what its
+-- functions promise each other (Gives) and what a session starts (Session); evaluation over records (Over), true and closed tables (True,
+-- Closed), what a run stores (Stores) and what it never touches (Framed).
 pub mod Plain
 pub mod Model
 pub mod Gives

@@ -11,6 +11,7 @@ use Rattle.grammar.specs.Image.{Node, empty, terminal, sequence, choice, star, 
 use Rattle.grammar.specs.Terminal.{terminalAt}
 use Rattle.grammar.specs.Evaluates.{emptyHere, firstFailed, inSequence, takenOver, secondChoice, lastRound, roundThen, negated}
 use Rattle.records.specs.Words.{isHeld, possible, nestingOf, valueOf, wordOf}
+use Rattle.records.specs.Slots.{slotOf}
 
 -- An evaluation, or the number of the question that failed.
 pub data Answer : Type 0 where
@@ -63,13 +64,13 @@ met true false word t c = out (refused 14) t c
 -- A pair of a grammar of so many rules, whose rule has that root: whether its word is held.
 unfoldable pub looked : Bool → (rules root : ℕ) → (text : List ℕ) → Evaluator → (left rule at : ℕ) → List ℕ → ℕ → Out
 looked true rules root text ev left r at t c =
-    let word = getD t (at * rules + r) 0 in
+    let word = getD t (slotOf rules r at) 0 in
     met (possible word at (length text)) (leb (nestingOf word) left) word t c
 looked false rules root text ev left r at t c =
-    bind (ev root at t c) (λ x u d. out (answered x) (set u (at * rules + r) (wordOf x)) ((d + 1) % 2 ^ 64))
+    bind (ev root at t c) (λ x u d. out (answered x) (set u (slotOf rules r at) (wordOf x)) ((d + 1) % 2 ^ 64))
 
 unfoldable pub pairM : (rules root : ℕ) → (text : List ℕ) → Evaluator → (left : ℕ) → Evaluator
-pairM rules root text ev left r at t c = looked (isHeld (getD t (at * rules + r) 0)) rules root text ev left r at t c
+pairM rules root text ev left r at t c = looked (isHeld (getD t (slotOf rules r at) 0)) rules root text ev left r at t c
 
 abbrev pub ruleM : (img text : List ℕ) → Evaluator → (left : ℕ) → Evaluator
 ruleM img text ev left r = pairM (rules img) (root img r) text ev left r

@@ -8,10 +8,11 @@ use Rattle.grammar.specs.declared.Evaluation.{Evaluation}
 use Rattle.grammar.specs.Image.{rules}
 use Rattle.grammar.specs.Evaluates.{Evaluates, Subject, CallAnswer, by-body, by-record, no-answer}
 use Rattle.records.specs.Words.{isHeld, possible, valueOf}
+use Rattle.records.specs.Slots.{slotOf}
 
--- "The slot of (rule, position) is position × rules + rule."
+-- The word of a pair.
 abbrev pub wordAt : (img table : List ℕ) → (rule position : ℕ) → ℕ
-wordAt img table r p = getD table (p * rules img + r) 0
+wordAt img table r p = getD table (slotOf (rules img) r p) 0
 
 abbrev pub taken : (held possible : Bool) → ℕ → CallAnswer
 taken false possible word = by-body

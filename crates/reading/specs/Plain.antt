@@ -14,8 +14,7 @@ use Rattle.reading.specs.declared.plain.Outcome.the-variants.{Whole, Par
 use Rattle.reading.specs.declared.plain.Reading.{Reading}
 use Rattle.reading.specs.declared.plain.PlainAnswer.{PlainAnswer}
 use Rattle.reading.specs.declared.plain.PlainAnswer.the-variants.{Read, Refused}
-use Rattle.reading.specs.Model.{nodeM, ruleM}
-use Rattle.reading.specs.Gives.{Gives}
+use Rattle.reading.specs.Session.{StartOver}
 
 -- "A reading is whole (matched, length n), part (matched, shorter) or none"
 abbrev pub Says : Outcome → (n : ℕ) → Evaluation → Type 0
@@ -92,4 +91,4 @@ readingOf n z =
 pub record StartWord (img text : List ℕ) (word : ℕ) : Type 0 where
   pub table : List ℕ
   pub count : ℕ
-  pub gives : Gives (length text) 0 4096 (ruleM img text (nodeM img text 4096) 4096 (start img) 0 [] 0) word table count
+  pub gives : StartOver img text [] 0 word table count

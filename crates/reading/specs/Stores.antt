@@ -10,6 +10,7 @@ use Rattle.grammar.specs.Evaluates.{a-pair}
 use Rattle.evaluation.specs.Calls.{Pair, In, isIn}
 use Rattle.evaluation.specs.Counts.{countPairs}
 use Rattle.records.specs.Words.{wordOf}
+use Rattle.records.specs.Slots.{slotOf}
 use Rattle.reading.specs.Model.{answered, refused, Out, out}
 use Rattle.reading.specs.Over.{wordAt, Over}
 
@@ -31,7 +32,7 @@ pub record Stores (img text before : List ℕ) (ps : List Pair) (after : List �
   pub gained : (r q : ℕ) → In (record { rule = r; position = q }) ps → IsStored img text before r q (wordAt img after r q)
   pub kept :
       (j : ℕ)
-      → ((r q : ℕ) → In (record { rule = r; position = q }) ps → j ≡ q * rules img + r → ⊥)
+      → ((r q : ℕ) → In (record { rule = r; position = q }) ps → j ≡ slotOf (rules img) r q → ⊥)
       → getD after j 0 ≡ getD before j 0
 
 -- How many pairs of the text are among ps, each counted once.

@@ -11,7 +11,7 @@ use Rattle.grammar.specs.Evaluates.{Fresh, a-pair}
 use Rattle.records.specs.Words.{isHeld, wordOf}
 use Rattle.reading.specs.Over.{wordAt}
 
--- The word is the one of its pair's evaluation, whose nesting is at most 4,096.
+-- The word is the one of its pair's evaluation, whose nesting is at most 4,096: "whose nesting is above 4,096" makes a record foreign.
 pub record IsTrue (img text : List ℕ) (rule position word : ℕ) : Type 0 where
   pub value : Evaluation
   pub evaluated : Fresh img text (a-pair rule) position value

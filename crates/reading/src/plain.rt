@@ -7,7 +7,8 @@ ghost use mathlib.Core.Path.{_≡_};
 ghost use lib.ListN.{length};
 ghost use Rattle.grammar.specs.Questions.{Accepted};
 ghost use Rattle.records.specs.Words.{valueOf};
-ghost use Rattle.reading.specs.Plain.{PlainRead, StartWord, readingOf};
+ghost use lib.Dec.{eqb};
+ghost use Rattle.reading.specs.Plain.{PlainRead, StartWord, outcomeOf, readingOf};
 
 // "A reading is whole (matched, length n), part (matched, shorter) or none"
 pub enum Outcome {
@@ -29,34 +30,30 @@ pub enum PlainAnswer {
     Refused(u8),
 }
 
+pub fn outcome_of(matched: bool, length: usize, n: usize) -> Outcome
+    ensures { λ r. ⌜ r ≡ outcomeOf matched (eqb length n) ⌝ }
+{
+    if !matched {
+        return Outcome::Nothing;
+    }
+    if length == n {
+        return Outcome::Whole;
+    }
+    Outcome::Part
+}
+
 // What a held word says of a text of n bytes.
 fn reading_of(word: u64, n: usize) -> Reading
     ensures { λ r. ⌜ r ≡ readingOf n (valueOf word) ⌝ }
 {
     let length = records::length_of(word);
     let examined = records::examined_of(word);
-    let nesting = records::nesting_of(word);
-    if !records::matched_of(word) {
-        return Reading {
-            outcome: Outcome::Nothing,
-            length,
-            examined,
-            nesting,
-        };
-    }
-    if length == n {
-        return Reading {
-            outcome: Outcome::Whole,
-            length,
-            examined,
-            nesting,
-        };
-    }
+    let outcome = outcome_of(records::matched_of(word), length, n);
     Reading {
-        outcome: Outcome::Part,
+        outcome,
         length,
         examined,
-        nesting,
+        nesting: records::nesting_of(word),
     }
 }
 

@@ -2,34 +2,18 @@
 use crate::questions;
 use ledger::ReadAnswer;
 use ledger::SheetReading;
-use reading::plain::Outcome;
 ghost use Prim.Native.Nat.{_<_};
 ghost use mathlib.Core.Path.{_≡_};
 ghost use Rattle.records.specs.Words.{valueOf};
-ghost use lib.Dec.{eqb};
-ghost use Rattle.reading.specs.Plain.{outcomeOf};
 ghost use Rattle.ledger.specs.Answers.{sheetReading};
 ghost use Rattle.ledger.specs.Reading.{ReadPromise};
-
-// "whole (matched, length n), part (matched, shorter) or none"
-fn outcome_of(matched: bool, length: usize, n: usize) -> Outcome
-    ensures { λ r. ⌜ r ≡ outcomeOf matched (eqb length n) ⌝ }
-{
-    if !matched {
-        return Outcome::Nothing;
-    }
-    if length == n {
-        return Outcome::Whole;
-    }
-    Outcome::Part
-}
 
 // What a held word says of a text of n bytes, with so many evaluations.
 fn reading_of(word: u64, n: usize, evaluations: u64) -> SheetReading
     ensures { λ r. ⌜ r ≡ sheetReading n (valueOf word) evaluations ⌝ }
 {
     let length = records::length_of(word);
-    let outcome = outcome_of(records::matched_of(word), length, n);
+    let outcome = reading::plain::outcome_of(records::matched_of(word), length, n);
     SheetReading {
         outcome,
         length,
