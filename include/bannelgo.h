@@ -1,0 +1,109 @@
+/* Bannelgo's gap-sheet reader from C.
+ *
+ * bannelgo_check_image and bannelgo_plain_reading are in libexports.a, the sheet's calls in libbridge.a. Both libraries need only
+ * the C library's memcpy and memset. Every image, text, number and table content has an answer.
+ *
+ * How to lend: a slice passes as a pointer and its length, in bytes or, for the table, in words of 64 bits. It is lent until the
+ * call returns; nothing is kept. A pointer is never NULL, also where the length is 0, and one to the table is aligned to 8 bytes. What
+ * a call may write to overlaps nothing else that is lent to it.
+ *
+ * Stack: where the nesting comes near 4,096, bannelgo_plain_reading and bannelgo_read need up to 2 MiB. */
+#ifndef BANNELGO_H
+#define BANNELGO_H
+
+#include <stddef.h>
+#include <stdint.h>
+
+/* The number of an answer: 0, or the first question that is answered no. n is the length of the text in bytes, cap the length of
+ * the text buffer; s, e and n' are an edit's start, end and new length. */
+enum bannelgo_number {
+    BANNELGO_NONE = 0,         /* The call is answered, the image accepted. */
+    BANNELGO_EDITION = 1,      /* Are there 4 bytes, and edition 1? */
+    BANNELGO_COUNTS = 2,       /* Rules 1 to 64, nodes 1 to 1,024, start below rules? */
+    BANNELGO_SIZE = 3,         /* Are there exactly 4 + 2 * rules + 4 * nodes bytes? */
+    BANNELGO_WORDS = 4,        /* Is every word lawful: zero bits and unused fields 0, kind 0 to 7, A <= B <= 255 in kind 2,
+                                * references in range, children above parents? */
+    BANNELGO_OCCURRENCES = 5,  /* Does each node occur exactly once among roots and children? */
+    BANNELGO_STAR_BODIES = 6,  /* Does every star's body lack outcome 0? */
+    BANNELGO_WELL_FORMED = 7,  /* Is every node in the well-formed set? */
+    BANNELGO_LOAN = 8,         /* Is cap at most 65,535, the text at most cap, the table wholly lent?
+                                * A plain reading asks only for n <= 65,535. */
+    BANNELGO_EDIT_RANGE = 9,   /* Edit: s <= e <= n? */
+    BANNELGO_EDIT_ROOM = 10,   /* Edit: n' <= cap? */
+    BANNELGO_PAIR = 11,        /* Look-up: rule below rules, position <= n? */
+    BANNELGO_RECORDS = 12,     /* Reading: is each record met possible, and no star round of length 0? */
+    BANNELGO_STAR_ROUNDS = 13, /* Plain reading: did every star round consume? Under an accepted image every round does. */
+    BANNELGO_NESTING = 14      /* Is the start pair's nesting at most 4,096? */
+};
+
+/* How much of the text a reading matched. */
+enum bannelgo_outcome {
+    BANNELGO_NOTHING = 0, /* Not matched. */
+    BANNELGO_PART = 1,    /* Matched, shorter than the text. */
+    BANNELGO_WHOLE = 2    /* Matched, with the text's length. */
+};
+
+/* The most bytes that a text buffer may have. */
+#define BANNELGO_MAX_CAP 65535
+
+/* A record's word, and the word of an answered plain reading: bit 63 set, matched in bit 62, zero in bits 61 to 46, nesting in bits
+ * 45 to 33, examined in bits 32 to 16, length in bits 15 to 0. */
+static inline int bannelgo_is_held(uint64_t word) { return (int)(word >> 63); }
+static inline int bannelgo_is_matched(uint64_t word) { return (int)(word >> 62 & 1); }
+static inline uint64_t bannelgo_nesting(uint64_t word) { return word >> 33 & 0x1FFF; }
+static inline uint64_t bannelgo_examined(uint64_t word) { return word >> 16 & 0x1FFFF; }
+static inline uint64_t bannelgo_length(uint64_t word) { return word & 0xFFFF; }
+
+/* libexports.a */
+
+/* The number of the first of questions 1 to 7 that the image fails, 0 where it passes all seven. */
+uint64_t bannelgo_check_image(const uint8_t *image, size_t image_length);
+
+/* Reads a text without records. The answer is a word as above, or without bit 63 the number of a refusal: 1 to 8, 13 or 14. The
+ * reading is whole where it matched with the length of the text. For some grammars the time grows exponentially with the text. */
+uint64_t bannelgo_plain_reading(const uint8_t *image, size_t image_length, const uint8_t *text, size_t text_length);
+
+/* libbridge.a
+ *
+ * For a sheet the caller lends
+ *   buffer  the text and the room behind it: cap bytes, at most BANNELGO_MAX_CAP;
+ *   table   the records: at least bannelgo_table_words(image, cap) words. Words behind these are not touched.
+ * bannelgo_open fills both. Later calls are lent the same image, buffer and table, and as n the length that bannelgo_open or the last
+ * answered bannelgo_edit gave. In between nobody else writes to them: a reading over other words can differ from the text's. */
+
+/* rules * (cap + 1). The image has at least 2 bytes. */
+static inline size_t bannelgo_table_words(const uint8_t *image, size_t cap) {
+    size_t rules = (size_t)(image[0] & 0xF) << 4 | (size_t)image[1] >> 4;
+    return rules * (cap + 1);
+}
+
+/* What a sheet's call answers. Fields that it does not use are 0; a refusal has its number alone. */
+struct bannelgo_answer {
+    uint64_t number;      /* 0 where the call is answered, else a number of enum bannelgo_number. */
+    uint64_t outcome;     /* Reading: a number of enum bannelgo_outcome. */
+    uint64_t length;      /* Open, edit: the text's length in bytes. Reading: the match's length. */
+    uint64_t examined;    /* Reading: the examined length in bytes. */
+    uint64_t nesting;     /* Reading. */
+    uint64_t evaluations; /* Reading: the reached pairs that had no record. */
+    uint64_t value;       /* Edit: the number of pairs that stand. Look-up: the word. */
+};
+
+/* Copies the text to the buffer, whose rest becomes 0, and so does the table. Refusals: 1 to 8. */
+struct bannelgo_answer bannelgo_open(const uint8_t *image, size_t image_length, const uint8_t *text, size_t text_length,
+                                     uint8_t *buffer, size_t cap, uint64_t *table, size_t table_length);
+
+/* Bytes start to end - 1 of the text give way to the replacement. Refusals: 1 to 8, 9, 10; they change nothing. */
+struct bannelgo_answer bannelgo_edit(const uint8_t *image, size_t image_length, uint8_t *buffer, size_t cap, size_t n,
+                                     uint64_t *table, size_t table_length, size_t start, size_t end,
+                                     const uint8_t *replacement, size_t replacement_length);
+
+/* Reads the text by the grammar's start rule; the table gains a record for each pair that is evaluated. Refusals: 1 to 8, which
+ * change nothing; 12 and 14, which make the table 0. */
+struct bannelgo_answer bannelgo_read(const uint8_t *image, size_t image_length, const uint8_t *buffer, size_t cap, size_t n,
+                                     uint64_t *table, size_t table_length);
+
+/* The word in the slot of a rule and a position: 0 where the sheet holds no record of them. Refusals: 1 to 8, 11. */
+struct bannelgo_answer bannelgo_look_up(const uint8_t *image, size_t image_length, const uint8_t *buffer, size_t cap, size_t n,
+                                        const uint64_t *table, size_t table_length, size_t rule, size_t position);
+
+#endif
