@@ -2,10 +2,13 @@
 
 mod checks;
 mod keys;
+mod plot;
 mod readings;
 mod timing;
+mod typing;
 
-/// Prints all parts, or those that the arguments name: checks, readings, keys.
+/// Prints the parts that the arguments name: checks, readings, keys; all of these where none is named.
+/// The part `plot` writes a file, so it runs only where it is named.
 fn main() {
     let named: Vec<String> = std::env::args().skip(1).collect();
     let parts: [(&str, fn()); 3] = [
@@ -18,5 +21,8 @@ fn main() {
             print();
             println!();
         }
+    }
+    if named.iter().any(|part| part == "plot") {
+        plot::make();
     }
 }
