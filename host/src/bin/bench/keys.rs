@@ -26,7 +26,7 @@ pub fn print() {
         for (name, grammar) in &grammars {
             let text = long_sheet_of_days(bytes);
             for (place, cursor) in typing_places(&text) {
-                let times = Times::of(grammar, &text, cursor);
+                let times = Times::of(grammar, &text, cursor, KEYS);
                 times.print(&format!("{name:<22}{bytes:>6}{place:>8}"));
             }
         }

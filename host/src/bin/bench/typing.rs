@@ -16,7 +16,7 @@ use std::hint::black_box;
 use std::time::Instant;
 
 pub const KEYS: usize = 1_000;
-const TURN: usize = 100;
+pub const TURN: usize = 100;
 
 /// The room that is left for the keys, in bytes.
 pub const ROOM: usize = KEYS + 10;
@@ -40,7 +40,8 @@ pub struct Times {
 }
 
 impl Times {
-    pub fn of(grammar: &Grammar, text: &[u8], cursor: usize) -> Times {
+    /// Opens and reads a text, and types so many keys, at most `KEYS`.
+    pub fn of(grammar: &Grammar, text: &[u8], cursor: usize, count: usize) -> Times {
         let image = image_of(grammar, Numbering::Preorder);
         let opened = Sheet::open(&image, text, text.len() + ROOM);
         let mut sheet = opened.expect("the sheet is opened");
@@ -51,7 +52,7 @@ impl Times {
         packrats_text.reserve(ROOM);
 
         let mut times = Times::default();
-        let typed: Vec<(usize, u8)> = (cursor..).zip(keys()).take(KEYS).collect();
+        let typed: Vec<(usize, u8)> = (cursor..).zip(keys()).take(count).collect();
         for turn in typed.chunks(TURN) {
             for &(at, key) in turn {
                 times.type_key(&mut sheet, at, key);

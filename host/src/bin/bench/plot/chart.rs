@@ -89,7 +89,7 @@ fn draw_axes(picture: &mut Picture, x: &Axis, y: &Axis) {
 }
 
 /// A whole number below a million with a comma before its last three digits.
-pub fn with_commas(number: usize) -> String {
+fn with_commas(number: usize) -> String {
     match number {
         0..=999 => number.to_string(),
         _ => format!("{},{:03}", number / 1_000, number % 1_000),
