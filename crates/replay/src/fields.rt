@@ -1,6 +1,8 @@
 // The fields of a line: where they lie, decimal numbers, and bytes in hexadecimal digits.
 ghost use Prim.Native.Nat.{_≤_, _<_};
+ghost use mathlib.Core.Path.{_≡_};
 ghost use lib.ListN.{length};
+ghost use Rattle.replay.specs.Fields.{DecimalOf};
 
 // The end of the first field: the first space, or the end of the line.
 pub fn end_of(line: &[u8]) -> usize
@@ -33,39 +35,34 @@ pub enum Number {
     None,
 }
 
-// A decimal digit's value, 10 for any other byte.
-fn digit_of(byte: u8) -> usize
-    ensures { λ r. ⌜ r ≤ 10 ⌝ }
-{
-    match byte {
-        48..=57 => wide(byte - 48),
-        _ => 10,
-    }
-}
-
 fn wide(byte: u8) -> usize
-    requires { ⌜ byte ≤ 10 ⌝ }
-    ensures { λ r. ⌜ r ≤ 10 ⌝ }
+    ensures { λ r. ⌜ r ≡ byte ⌝ }
 {
     byte as usize
 }
 
 // The number that a field of digits is, where it is below 2^64.
-pub fn decimal(field: &[u8]) -> Number {
+pub fn decimal(field: &[u8]) -> Number
+    ensures { λ r. ⌜ DecimalOf (now (field .entry)) r ⌝ }
+{
     if field.len() == 0 {
         return Number::None;
     }
     let mut value: usize = 0;
     let mut i: usize = 0;
     while i < field.len() {
-        let digit = digit_of(field[i]);
-        if digit == 10 {
+        let byte = field[i];
+        if byte < 48 {
+            return Number::None;
+        }
+        if 57 < byte {
             return Number::None;
         }
         if 1844674407370955161 < value {
             return Number::None;
         }
         let tens = value * 10;
+        let digit = wide(byte - 48);
         if 18446744073709551615 - tens < digit {
             return Number::None;
         }

@@ -1,0 +1,2 @@
+-- The laws of decimal fields.
+pub mod Decimal

@@ -1,0 +1,2 @@
+-- What the fields of a line mean.
+pub mod Fields
