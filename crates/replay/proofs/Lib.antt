@@ -1,2 +1,4 @@
--- The laws of decimal fields.
+-- The laws of decimal fields (Decimal) and of hexadecimal ones (Digits, Hexadecimal).
 pub mod Decimal
+pub mod Digits
+pub mod Hexadecimal

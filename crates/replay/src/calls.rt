@@ -51,7 +51,7 @@ pub fn open(
             answers::too_long(line);
             n
         }
-        Decoded::None => {
+        Decoded::Wrong => {
             answers::not_understood(line);
             n
         }
@@ -94,7 +94,7 @@ fn edit_from(
             answers::too_long(line);
             n
         }
-        Decoded::None => {
+        Decoded::Wrong => {
             answers::not_understood(line);
             n
         }

@@ -1,8 +1,8 @@
 // The fields of a line: where they lie, decimal numbers, and bytes in hexadecimal digits.
-ghost use Prim.Native.Nat.{_≤_, _<_};
+ghost use Prim.Native.Nat.{_+_, _*_, _≤_, _<_};
 ghost use mathlib.Core.Path.{_≡_};
 ghost use lib.ListN.{length};
-ghost use Rattle.replay.specs.Fields.{DecimalOf};
+ghost use Rattle.replay.specs.Fields.{DecimalOf, hexValue, HexOf};
 
 // The end of the first field: the first space, or the end of the line.
 pub fn end_of(line: &[u8]) -> usize
@@ -97,32 +97,48 @@ pub fn two_numbers(line: &[u8]) -> Numbers {
 pub enum Decoded {
     Bytes(usize),
     TooLong,
-    None,
+    Wrong,
 }
 
 // A hexadecimal digit's value, 16 for any other byte.
 fn hex_digit(byte: u8) -> u8
-    ensures { λ r. ⌜ r ≤ 16 ⌝ }
+    ensures { λ r. ⌜ r ≡ hexValue byte ⌝ }
 {
-    match byte {
-        48..=57 => byte - 48,
-        65..=70 => byte - 55,
-        97..=102 => byte - 87,
-        _ => 16,
+    if byte < 48 {
+        return 16;
     }
+    if byte < 58 {
+        return byte - 48;
+    }
+    if byte < 65 {
+        return 16;
+    }
+    if byte < 71 {
+        return byte - 55;
+    }
+    if byte < 97 {
+        return 16;
+    }
+    if byte < 103 {
+        return byte - 87;
+    }
+    16
 }
 
-// The byte of two digits below 16.
+// The byte of two digits' values.
 fn byte_of(high: u8, low: u8) -> u8
     requires { ⌜ (high < 16) × (low < 16) ⌝ }
+    ensures { λ r. ⌜ r ≡ high * 16 + low ⌝ }
 {
     high * 16 + low
 }
 
 // Puts the bytes that a field of hexadecimal digits means at the start of `given`, and answers how many there are.
-pub fn hex(field: &[u8], given: &mut [u8]) -> Decoded {
+pub fn hex(field: &[u8], given: &mut [u8]) -> Decoded
+    ensures { λ r. ⌜ HexOf (now (field .entry)) (now (given .entry)) (now (given .exit)) r ⌝ }
+{
     if field.len() % 2 == 1 {
-        return Decoded::None;
+        return Decoded::Wrong;
     }
     let count = field.len() / 2;
     if given.len() < count {
@@ -131,12 +147,12 @@ pub fn hex(field: &[u8], given: &mut [u8]) -> Decoded {
     let mut i: usize = 0;
     while i < count {
         let high = hex_digit(field[2 * i]);
-        let low = hex_digit(field[2 * i + 1]);
-        if high == 16 {
-            return Decoded::None;
+        if 16 <= high {
+            return Decoded::Wrong;
         }
-        if low == 16 {
-            return Decoded::None;
+        let low = hex_digit(field[2 * i + 1]);
+        if 16 <= low {
+            return Decoded::Wrong;
         }
         given[i] = byte_of(high, low);
         i += 1;

@@ -40,7 +40,7 @@ fn image_line(
             next.image = k;
         }
         Decoded::TooLong => answers::too_long(line),
-        Decoded::None => answers::not_understood(line),
+        Decoded::Wrong => answers::not_understood(line),
     }
     next
 }
