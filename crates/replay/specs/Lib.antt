@@ -1,2 +1,3 @@
--- What the fields of a line mean.
+-- What the fields of a line mean (Fields), and what a call that the program makes keeps (Calls).
 pub mod Fields
+pub mod Calls

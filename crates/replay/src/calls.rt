@@ -5,15 +5,21 @@ use crate::fields::Decoded;
 use crate::fields::Numbers;
 use ledger::EditAnswer;
 use ledger::OpenAnswer;
+ghost use mathlib.Core.Path.{_≡_};
+ghost use Rattle.replay.specs.Calls.{afterOpen, afterEdit, Opens, Edits, ReadsSheet};
 
-fn opened(answer: OpenAnswer, n: usize) -> usize {
+fn opened(answer: OpenAnswer, n: usize) -> usize
+    ensures { λ r. ⌜ r ≡ afterOpen answer n ⌝ }
+{
     match answer {
         OpenAnswer::Opened(length) => length,
         OpenAnswer::Refused(_) => n,
     }
 }
 
-fn edited(answer: EditAnswer, n: usize) -> usize {
+fn edited(answer: EditAnswer, n: usize) -> usize
+    ensures { λ r. ⌜ r ≡ afterEdit answer n ⌝ }
+{
     match answer {
         EditAnswer::Edited(sheet) => sheet.length,
         EditAnswer::Refused(_) => n,
@@ -27,7 +33,9 @@ fn open_text(
     buffer: &mut [u8],
     table: &mut [u64],
     text: &[u8],
-) -> usize {
+) -> usize
+    ensures { λ r. ⌜ Opens (now (image .entry)) (now (text .entry)) (now (buffer .entry)) (now (table .entry)) n r (now (buffer .exit)) (now (table .exit)) ⌝ }
+{
     let answer = sheet::open::open(image, text, buffer, table);
     answers::of_open(line, answer);
     opened(answer, n)
@@ -67,7 +75,9 @@ fn edit_text(
     s: usize,
     e: usize,
     replacement: &[u8],
-) -> usize {
+) -> usize
+    ensures { λ r. ⌜ Edits (now (image .entry)) (now (buffer .entry)) n (now (table .entry)) s e (now (replacement .entry)) r (now (buffer .exit)) (now (table .exit)) ⌝ }
+{
     let answer = sheet::edit::edit(image, buffer, n, table, s, e, replacement);
     answers::of_edit(line, answer);
     edited(answer, n)
@@ -121,13 +131,19 @@ pub fn edit(
     }
 }
 
+fn read_text(line: usize, n: usize, image: &[u8], buffer: &[u8], table: &mut [u64])
+    ensures { λ _. ⌜ ReadsSheet (now (image .entry)) (now (buffer .entry)) n (now (table .entry)) (now (table .exit)) ⌝ }
+{
+    let answer = sheet::read::read_sheet(image, buffer, n, table);
+    answers::of_read(line, answer);
+}
+
 pub fn read(rest: &[u8], line: usize, n: usize, image: &[u8], buffer: &[u8], table: &mut [u64]) {
     if rest.len() != 0 {
         answers::not_understood(line);
         return;
     }
-    let answer = sheet::read::read_sheet(image, buffer, n, table);
-    answers::of_read(line, answer);
+    read_text(line, n, image, buffer, table);
 }
 
 pub fn look_up(rest: &[u8], line: usize, n: usize, image: &[u8], buffer: &[u8], table: &[u64]) {

@@ -65,7 +65,8 @@ loop-less c = search needs
 loop-again : tie.Need-loop-again Inv-loop μ-loop
 loop-again c =
     let w = c .before .wide .ensures in
-    up (c .before .before .before .before .before .before .before .loop .inv) (omega arith) (omega arith) (omega arith) (omega arith) (omega arith)
+    let inv = c .before .before .before .before .before .before .before .loop .inv in
+    up inv (omega arith) (omega arith) (omega arith) (omega arith) (omega arith)
 
 returns-6 : tie.Need-returns-6 Inv-loop μ-loop
 returns-6 c = whole (c .before .loop .inv) (omega arith)

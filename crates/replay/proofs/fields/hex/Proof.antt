@@ -35,9 +35,11 @@ same-length c = let e = c .before .before .before .before .loop .inv .filled .lo
 
 returns-3 : tie.Need-returns-3 Inv-loop μ-loop
 returns-3 c =
+    let at = c .before .before .before .before in
+    let i = at .loop .i in
+    let p = at .loop .inv .pairs in
     let e = c .before .hex-digit .ensures in
-    let p = c .before .before .before .before .loop .inv .pairs in
-    no-digit (c .before .before .before .before .before .before .before .before .before .args .field .now) (2 * (c .before .before .before .before .loop .i)) (omega arith) (omega arith)
+    no-digit (at .before .before .before .before .before .args .field .now) (2 * i) (omega arith) (omega arith)
 
 mul-hex-digit-2 : tie.Need-mul-hex-digit-2 Inv-loop μ-loop
 mul-hex-digit-2 c = search needs
@@ -56,9 +58,11 @@ same-length-2 c = let e = c .before .before .before .before .before .before .bef
 
 returns-4 : tie.Need-returns-4 Inv-loop μ-loop
 returns-4 c =
+    let at = c .before .before .before .before .before .before .before in
+    let i = at .loop .i in
+    let p = at .loop .inv .pairs in
     let e = c .before .hex-digit2 .ensures in
-    let p = c .before .before .before .before .before .before .before .loop .inv .pairs in
-    no-digit (c .before .before .before .before .before .before .before .before .before .before .before .before .args .field .now) (2 * (c .before .before .before .before .before .before .before .loop .i) + 1) (omega arith) (omega arith)
+    no-digit (at .before .before .before .before .before .args .field .now) (2 * i + 1) (omega arith) (omega arith)
 
 byte-of-requires : tie.Need-byte-of-requires Inv-loop μ-loop
 byte-of-requires c κs = (omega arith, omega arith)
@@ -77,7 +81,8 @@ loop-again c =
     let h = c .before .before .before .before .before .hex-digit .ensures in
     let l = c .before .before .hex-digit2 .ensures in
     let b = c .byte-of .ensures in
-    next (c .before .before .before .before .before .before .before .before .loop .inv) (omega arith) (omega arith) (omega arith) (omega arith)
+    let inv = c .before .before .before .before .before .before .before .before .loop .inv in
+    next inv (omega arith) (omega arith) (omega arith) (omega arith)
 
 same-length-3 : tie.Need-same-length-3 Inv-loop μ-loop
 same-length-3 c = let e = c .before .loop .inv .filled .long in search needs

@@ -1,0 +1,33 @@
+-- A call that the program makes keeps the library's promise for the answer that is printed, and the text's length that the next call
+-- is lent is the one answered, the former one where the call is refused.
+use Prim.Native.Nat.{ℕ}
+use mathlib.Core.Path.{_≡_}
+use mathlib.Core.List.{List}
+use Rattle.ledger.specs.declared.OpenAnswer.{OpenAnswer}
+use Rattle.ledger.specs.declared.EditAnswer.{EditAnswer}
+use Rattle.ledger.specs.declared.EditedSheet.{EditedSheet}
+use Rattle.ledger.specs.declared.ReadAnswer.{ReadAnswer}
+use Rattle.ledger.specs.Promises.{OpenPromise, EditPromise}
+use Rattle.ledger.specs.Reading.{ReadPromise}
+
+abbrev pub afterOpen : OpenAnswer → ℕ → ℕ
+afterOpen (OpenAnswer.Opened k) n = k
+afterOpen (OpenAnswer.Refused q) n = n
+
+abbrev pub afterEdit : EditAnswer → ℕ → ℕ
+afterEdit (EditAnswer.Edited x) n = x .length
+afterEdit (EditAnswer.Refused q) n = n
+
+pub record Opens (img text B W : List ℕ) (n next : ℕ) (B′ W′ : List ℕ) : Type 0 where
+  pub answer : OpenAnswer
+  pub keeps : OpenPromise img text B W answer B′ W′
+  pub gives : next ≡ afterOpen answer n
+
+pub record Edits (img B : List ℕ) (n : ℕ) (W : List ℕ) (s e : ℕ) (r : List ℕ) (next : ℕ) (B′ W′ : List ℕ) : Type 0 where
+  pub answer : EditAnswer
+  pub keeps : EditPromise img B n W s e r answer B′ W′
+  pub gives : next ≡ afterEdit answer n
+
+pub record ReadsSheet (img B : List ℕ) (n : ℕ) (W W′ : List ℕ) : Type 0 where
+  pub answer : ReadAnswer
+  pub keeps : ReadPromise img B n W answer W′
