@@ -1,0 +1,3 @@
+-- Theorems about rows and about the walk.
+pub mod RowsOnce
+pub mod RowsInside
