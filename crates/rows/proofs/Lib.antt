@@ -1,3 +1,6 @@
 -- Theorems about rows and about the walk.
 pub mod RowsOnce
 pub mod RowsInside
+pub mod Windows
+pub mod Pairs
+pub mod Looks

@@ -1,3 +1,4 @@
--- The rows of a text (Rows), and the walk that lists them (Walk).
+-- The rows of a text (Rows), windows on them (Window), and the walk that lists them (Walk).
 pub mod Rows
+pub mod Window
 pub mod Walk

@@ -1,7 +1,7 @@
 -- The walk that lists rows, as a function over a loaded grammar and any table of records: what it answers and the words of the rows
 -- that it gives, in order. It is not the definition of the rows, which is `rowsOf`; proofs/ show how the two agree.
--- A walk has a window from lo to hi: it lists the rows that the window touches and enters no other call. The window (0, n) touches all;
--- (n + 1, 0) touches nothing: the walk then only tells whether a node matches, and how long, from the records.
+-- A walk has a window: it lists the rows that the window touches and enters no other call. In the window (n + 1, 0), which touches
+-- nothing, it only tells whether a node matches, and how long, from the records.
 use Prim.Native.Nat.{ℕ, zero, suc, _+_, _*_}
 use mathlib.Core.Bool.{Bool, true, false, not, _&&_}
 use mathlib.Core.List.{List, [], _∷_, _++_}
@@ -12,6 +12,7 @@ use Rattle.grammar.specs.Terminal.{terminalAt}
 use Rattle.records.specs.Words.{isHeld, possible, matchedOf, lengthOf}
 use Rattle.reading.specs.Loaded.{wordB, wordNode, rulesIn}
 use Rattle.rows.specs.Rows.{rowWord}
+use Rattle.rows.specs.Window.{touches}
 
 -- Whether it matched, how long, and how many rows stand then; or the number of the question that failed.
 pub data Walked : Type 0 where
@@ -30,10 +31,6 @@ after e (trail a f) = trail a (e ++ f)
 unfoldable pub bind : Trail → (Bool → ℕ → ℕ → Trail) → Trail
 bind (trail (walked m l c) e) next = after e (next m l c)
 bind (trail (stopped k) e) next = trail (stopped k) e
-
--- The window from lo to hi touches what starts at `at` and has that length.
-unfoldable pub touches : (lo hi at len : ℕ) → Bool
-touches lo hi at len = leb at hi && leb lo (at + len)
 
 -- What walks the node with a number at a position: window, rows around it, rows before it.
 abbrev pub Walker : Type 0
