@@ -4,3 +4,5 @@ pub mod RowsInside
 pub mod Windows
 pub mod Pairs
 pub mod Looks
+pub mod Fits
+pub mod Lists

@@ -74,7 +74,7 @@ rounds-match (ev-round u m v e) = ap (λ (w : Evaluation). w .matched) e
 module _ (img text table : List ℕ) (words : Question4 img) (short : length text ≤ 65535) (true-words : TrueTable img text table)
     {ws : List ℕ} (loaded : Loaded img ws) (room : ℕ)
   where
-    abbrev Looks : Subject → ℕ → Evaluation → Type 0
+    abbrev pub Looks : Subject → ℕ → Evaluation → Type 0
     Looks (a-node m) p z =
         (ρ left : ℕ) → z .nesting ≤ suc left → (k c : ℕ)
         → kindV text (nodeV room ws text table left) (pairV (rulesIn ws) ρ room text table (nodeV room ws text table left)) m p
@@ -88,7 +88,7 @@ module _ (img text table : List ℕ) (words : Question4 img) (short : length tex
         ≡ trail (walked true (before + z .length) c) []
 
     -- A node by its number.
-    by-number :
+    pub by-number :
         (i p : ℕ) {x : Evaluation} (u : Fresh img text (a-node (node img i)) p x) → p ≤ length text → Looks (a-node (node img i)) p x
         → (left : ℕ) → x .nesting ≤ left → (k c : ℕ)
         → nodeV room ws text table left i p (length text + 1) 0 k c ≡ told x c
@@ -97,7 +97,7 @@ module _ (img text table : List ℕ) (words : Question4 img) (short : length tex
         numbered img text table loaded room left i p (length text + 1) 0 k c ∙ f (wordB (getD ws i 0)) left most k c
 
     -- The same in a position where the node may fail.
-    part-look :
+    pub part-look :
         (i p : ℕ) {x : Evaluation} (u : Fresh img text (a-node (node img i)) p x) → p ≤ length text → Looks (a-node (node img i)) p x
         → (left : ℕ) → x .nesting ≤ left → (k c : ℕ)
         → partV (length text) (nodeV room ws text table left) i p (length text + 1) 0 k c ≡ told x c
