@@ -24,6 +24,9 @@ module _ {room c : ℕ} where
   pub same-length : {m : Bool} {len l : ℕ} {ws : List ℕ} {o : Trail} → len ≡ l → Fits room c m l ws o → Fits room c m len ws o
   same-length {m} {ws = ws} {o = o} e f = subst (λ (t : ℕ). Fits room c m t ws o) (sym e) f
 
+  pub same-match : {m n : Bool} {len : ℕ} {ws : List ℕ} {o : Trail} → m ≡ n → Fits room c n len ws o → Fits room c m len ws o
+  same-match {len = len} {ws = ws} {o = o} e f = subst (λ (t : Bool). Fits room c t len ws o) (sym e) f
+
   -- One walk after the other.
   pub in-turn :
       {m n : Bool} {len l : ℕ} {ws vs : List ℕ} {o : Trail} → Fits room c m len ws o → (f : Bool → ℕ → ℕ → Trail)

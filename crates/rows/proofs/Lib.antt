@@ -6,3 +6,5 @@ pub mod Pairs
 pub mod Looks
 pub mod Fits
 pub mod Lists
+pub mod Listed
+pub mod Bounds

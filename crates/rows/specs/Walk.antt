@@ -7,7 +7,7 @@ use mathlib.Core.Bool.{Bool, true, false, not, _&&_}
 use mathlib.Core.List.{List, [], _∷_, _++_}
 use lib.ListN.{length, getD}
 use lib.Dec.{leb, eqb}
-use Rattle.grammar.specs.Image.{Node, empty, terminal, sequence, choice, star, not-predicate, call, unlawful}
+use Rattle.grammar.specs.Image.{start, root, Node, empty, terminal, sequence, choice, star, not-predicate, call, unlawful}
 use Rattle.grammar.specs.Terminal.{terminalAt}
 use Rattle.records.specs.Words.{isHeld, possible, matchedOf, lengthOf}
 use Rattle.reading.specs.Loaded.{wordB, wordNode, rulesIn}
@@ -113,3 +113,8 @@ nodeV room ws text table (suc left) i at lo hi k c =
     kindV text (nodeV room ws text table left)
     (pairV (rulesIn ws) (wordB (getD ws i 0)) room text table (nodeV room ws text table left))
     (wordNode (getD ws i 0)) at lo hi k c
+
+-- The start pair, with the whole allowance.
+unfoldable pub startV : (room : ℕ) → (img ws text table : List ℕ) → (lo hi : ℕ) → Trail
+startV room img ws text table lo hi =
+    pairV (rulesIn ws) (root img (start img)) room text table (nodeV room ws text table 4096) (start img) 0 lo hi 0 0
