@@ -1,7 +1,7 @@
 -- Over any table the walk ends, gives no more rows than fit, stays in the text, and is refused with 12, 14 or 15 if at all.
 -- Assumes nothing.
 --     node-bounded, pair-bounded    for every loaded grammar, text, table, window and number of rows before
-use Prim.Native.Nat.{ℕ, zero, suc, _+_, _*_, _≤_, _<_}
+use Prim.Native.Nat.{ℕ, zero, suc, _+_, _*_, _%_, _≤_, _<_}
 use native.Mathlib.Omega.{arith}
 use mathlib.Core.Path.{_≡_, refl, sym, ap, _∙_, subst}
 use mathlib.Core.Bool.{Bool, true, false, not, _&&_, true≢false}
@@ -161,14 +161,14 @@ module _ (rules root room : ℕ) (text table : List ℕ) (ev : Walker) (stays : 
           → Bounded (length text) room at c
           (met known m c
           (entered (touches lo hi at (lengthOf (getD table (at * rules + r) 0))) (leb room c) (lengthOf (getD table (at * rules + r) 0))
-          (rowWord (record { rule = r; depth = k; start = at; length = lengthOf (getD table (at * rules + r) 0) }))
+          (rowWord (record { rule = r % 256; depth = k; start = at; length = lengthOf (getD table (at * rules + r) 0) }))
           (ev root at lo hi (k + 1)) c))
       go false e m = refuses impossible few
       go true e false = answers (omega arith) few
       go true e true =
           let word = getD table (at * rules + r) 0 in
           entered-bounded (touches lo hi at (lengthOf word)) (leb room c) at (lengthOf word)
-          (rowWord (record { rule = r; depth = k; start = at; length = lengthOf word })) (ev root at lo hi (k + 1)) c refl
+          (rowWord (record { rule = r % 256; depth = k; start = at; length = lengthOf word })) (ev root at lo hi (k + 1)) c refl
           (says-possible word at (length text) (both (isHeld word) (possible word at (length text)) e .1) .in-text) few
           (λ d j. stays root at lo hi (k + 1) d h j)
 

@@ -59,14 +59,14 @@ module _ (img text table : List ℕ) (accepted : Accepted img) (short : length t
         go true m =
             same-words (sym (all-shown (length text) (start-rows img text accepted u)))
             (same-match m
-            (lists img text table (accepted .lawful .words) short true-words closed loaded room u (accepted .lawful .counts .start-rule)
+            (lists img text table (accepted .lawful .words) (accepted .lawful .counts .few-rules) short true-words closed loaded room u (accepted .lawful .counts .start-rule)
             (omega arith) held m 4096 deep 0 (length text) 0 0 (omega arith)))
         go false m =
             same-words (ap rowWords (no-match u 0 m))
             (same-length (fresh-within u (omega arith) .failure m)
             (same-match m
             (no-row (omega arith)
-            (pair-says img text table short true-words loaded u (accepted .lawful .counts .start-rule) (omega arith) held
+            (pair-says img text table (accepted .lawful .counts .few-rules) short true-words loaded u (accepted .lawful .counts .start-rule) (omega arith) held
             (root img (start img)) room (nodeV room ws text table 4096) 0 (length text) 0 0
             ∙ ap (λ (b : Bool). met true b 0 inner) m))))
 

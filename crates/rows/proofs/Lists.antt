@@ -35,7 +35,8 @@ use Rattle.rows.proofs.Pairs.{Held, pair-says, numbered}
 use Rattle.rows.proofs.Looks.{step, told, looks, by-number, part-look, rounds-match}
 use Rattle.rows.proofs.Fits.{same-walk, same-words, same-length, no-row, in-turn, at-end, row-first}
 
-module _ (img text table : List ℕ) (words : Question4 img) (short : length text ≤ 65535) (true-words : TrueTable img text table)
+module _ (img text table : List ℕ) (words : Question4 img) (narrow : rules img ≤ 64) (short : length text ≤ 65535)
+    (true-words : TrueTable img text table)
     (closed : ClosedTable img text table) {ws : List ℕ} (loaded : Loaded img ws) (room : ℕ)
   where
     abbrev Lists : Subject → ℕ → Evaluation → (ℕ → List Row) → Type 0
@@ -74,8 +75,8 @@ module _ (img text table : List ℕ) (words : Question4 img) (short : length tex
     part-lists i p {x} u r h held m f left most lo hi k c few =
         same-walk
         (step (λ m l c. afterLook m (touches lo hi p l) l (nodeV room ws text table left i p lo hi k) c)
-        (by-number img text table words short true-words loaded room i p u h
-        (looks img text table words short true-words loaded room u r h held) left most k c)
+        (by-number img text table words narrow short true-words loaded room i p u h
+        (looks img text table words narrow short true-words loaded room u r h held) left most k c)
         ∙ ap (λ (b : Bool). afterLook b (touches lo hi p (x .length)) (x .length) (nodeV room ws text table left i p lo hi k) c) m)
         (go (touches lo hi p (x .length)) refl)
       where
@@ -99,8 +100,8 @@ module _ (img text table : List ℕ) (words : Question4 img) (short : length tex
     unfolding partV afterLook
     part-fails i p {x} u r h held m left most lo hi k c =
         step (λ m l c. afterLook m (touches lo hi p l) l (nodeV room ws text table left i p lo hi k) c)
-        (by-number img text table words short true-words loaded room i p u h
-        (looks img text table words short true-words loaded room u r h held) left most k c)
+        (by-number img text table words narrow short true-words loaded room i p u h
+        (looks img text table words narrow short true-words loaded room u r h held) left most k c)
         ∙ ap (λ (b : Bool). afterLook b (touches lo hi p (x .length)) (x .length) (nodeV room ws text table left i p lo hi k) c) m
 
     -- A pair that matched: its row, then those of its body.
@@ -115,7 +116,7 @@ module _ (img text table : List ℕ) (words : Question4 img) (short : length tex
     unfolding met entered shown
     pair-lists r p {z} v u l h held m rows f left most lo hi k c few =
         same-walk
-        (pair-says img text table short true-words loaded v l h held (root img r) room (nodeV room ws text table left) lo hi k c
+        (pair-says img text table narrow short true-words loaded v l h held (root img r) room (nodeV room ws text table left) lo hi k c
         ∙ ap (λ (b : Bool). met true b c (Entered (touches lo hi p (z .length)) (leb room c))) m)
         (go (touches lo hi p (z .length)) refl (leb room c) refl)
       where
@@ -253,8 +254,8 @@ module _ (img text table : List ℕ) (words : Question4 img) (short : length tex
         same-length (ap (λ (w : Evaluation). w .length) e)
         (no-row few
         (step (λ m l c. trail (walked (not m) 0 c) [])
-        (by-number img text table words short true-words loaded room a p u h
-        (looks img text table words short true-words loaded room u (refers img words a r) h held) left (omega arith) k c)
+        (by-number img text table words narrow short true-words loaded room a p u h
+        (looks img text table words narrow short true-words loaded room u (refers img words a r) h held) left (omega arith) k c)
         ∙ ap (λ (b : Bool). trail (walked b 0 c) []) (sym (ap (λ (w : Evaluation). w .matched) e) ∙ t)))
     lists {p = p} (ev-call {r} {x = x} u e) l h held t = λ ρ root-is left most lo hi k c few.
         let n = ap (λ (w : Evaluation). w .nesting) e in

@@ -71,7 +71,8 @@ pub rounds-match : {img text : List ℕ} {a p : ℕ} {z : Evaluation} → Fresh 
 rounds-match (ev-last-round u m e) = ap (λ (w : Evaluation). w .matched) e
 rounds-match (ev-round u m v e) = ap (λ (w : Evaluation). w .matched) e
 
-module _ (img text table : List ℕ) (words : Question4 img) (short : length text ≤ 65535) (true-words : TrueTable img text table)
+module _ (img text table : List ℕ) (words : Question4 img) (narrow : rules img ≤ 64) (short : length text ≤ 65535)
+    (true-words : TrueTable img text table)
     {ws : List ℕ} (loaded : Loaded img ws) (room : ℕ)
   where
     abbrev pub Looks : Subject → ℕ → Evaluation → Type 0
@@ -212,7 +213,7 @@ module _ (img text table : List ℕ) (words : Question4 img) (short : length tex
         looks u l h (held (record { rule = r; position = p }) here) ρ (nodeV room ws text table left) k c ∙ tells c e
     looks {p = p} {z = z} (ev-body {r} q u) l h held = λ ρ ev k c.
         let w = fresh-within u h in
-        pair-says img text table short true-words loaded (ev-body q u) l h held ρ room ev (length text + 1) 0 k c
+        pair-says img text table narrow short true-words loaded (ev-body q u) l h held ρ room ev (length text + 1) 0 k c
         ∙ pair-missed (z .matched) (touches (length text + 1) 0 p (z .length)) (leb room c) (z .length) _ c _
         (touches-nothing (length text) p (z .length) (w .in-text)) (w .failure)
     looks (ev-record q) r h held = absurd (no-record q)

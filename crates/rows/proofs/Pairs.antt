@@ -2,7 +2,8 @@
 --     pair-says       the pair's word says its evaluation
 --     numbered        a node by its number
 --     Held            the pair itself is held, or the pairs that are called in what is not a pair
-use Prim.Native.Nat.{ℕ, suc, _+_, _≤_, _<_}
+use Prim.Native.Nat.{ℕ, suc, _+_, _%_, _≤_, _<_}
+use native.Mathlib.Omega.{arith}
 use mathlib.Core.Path.{_≡_, refl, sym, ap, _∙_}
 use mathlib.Core.Bool.{Bool, true, false, _&&_}
 use mathlib.Core.List.{List}
@@ -40,7 +41,7 @@ module _ (img text table : List ℕ) where
   Held (a-pair r) p calls = isHeld (wordAt img table r p) ≡ true
   Held (rounds-of a) p calls = (y : Pair) → In y calls → isHeld (wordAt img table (y .rule) (y .position)) ≡ true
 
-module _ (img text table : List ℕ) (short : length text ≤ 65535) (true-words : TrueTable img text table) where
+module _ (img text table : List ℕ) (few : rules img ≤ 64) (short : length text ≤ 65535) (true-words : TrueTable img text table) where
   word-says :
       {r p : ℕ} {z : Evaluation} → Fresh img text (a-pair r) p z → r < rules img → p ≤ length text
       → isHeld (wordAt img table r p) ≡ true → Says (length text) p (wordAt img table r p) z
@@ -69,11 +70,12 @@ module _ (img text table : List ℕ) (short : length text ≤ 65535) (true-words
   unfolding pairV
   pair-says {ws} loaded {r} {p} {z} u l h e ρ room ev lo hi k c =
       let s = word-says u l h e in
+      let narrow : r % 256 ≡ r = omega (arith, few) in
       ap (λ (R : ℕ). pairV R ρ room text table ev r p lo hi k c) (loaded .rules-are)
       ∙ (λ i.
       met (s .known i) (s .matched-is i) c
       (entered (touches lo hi p (s .length-is i)) (leb room c) (s .length-is i)
-      (rowWord (record { rule = r; depth = k; start = p; length = s .length-is i }))
+      (rowWord (record { rule = narrow i; depth = k; start = p; length = s .length-is i }))
       (ev ρ p lo hi (k + 1)) c))
 
 -- The node with a number is the image's.

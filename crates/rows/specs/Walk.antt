@@ -2,7 +2,7 @@
 -- that it gives, in order. It is not the definition of the rows, which is `rowsOf`; proofs/ show how the two agree.
 -- A walk has a window: it lists the rows that the window touches and enters no other call. In the window (n + 1, 0), which touches
 -- nothing, it only tells whether a node matches, and how long, from the records.
-use Prim.Native.Nat.{ℕ, zero, suc, _+_, _*_}
+use Prim.Native.Nat.{ℕ, zero, suc, _+_, _*_, _%_}
 use mathlib.Core.Bool.{Bool, true, false, not, _&&_}
 use mathlib.Core.List.{List, [], _∷_, _++_}
 use lib.ListN.{length, getD}
@@ -82,13 +82,14 @@ met false matched c go = trail (stopped 12) []
 met true false c go = trail (walked false 0 c) []
 met true true c go = go
 
--- A pair of a grammar of so many rules, whose rule has that root, where `room` rows fit.
+-- A pair of a grammar of so many rules, whose rule has that root, where `room` rows fit. A rule that is too wide for its field of
+-- the row loses its upper bits; a grammar of at most 64 rules has none.
 unfoldable pub pairV : (rules root room : ℕ) → (text table : List ℕ) → Walker → Walker
 pairV rules root room text table ev r at lo hi k c =
     let word = getD table (at * rules + r) 0 in
     met (isHeld word && possible word at (length text)) (matchedOf word) c
     (entered (touches lo hi at (lengthOf word)) (leb room c) (lengthOf word)
-    (rowWord (record { rule = r; depth = k; start = at; length = lengthOf word }))
+    (rowWord (record { rule = r % 256; depth = k; start = at; length = lengthOf word }))
     (ev root at lo hi (k + 1)) c)
 
 -- A terminal or the empty node: nothing is entered.
