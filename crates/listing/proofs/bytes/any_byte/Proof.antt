@@ -1,0 +1,17 @@
+use Rattle.listing.proofs.Terminals.{match-told, end-told}
+use Rattle.grammar.specs.Terminal.{accepts}
+use Rattle.grammar.specs.Image.{any}
+use mathlib.Core.Path.{refl}
+use borrow.Author.Needs.{needs}
+use Rattle.listing.proofs.bytes.any_byte.Statement.{statement}
+use Rattle.listing.proofs.bytes.any_byte.Tie as tie
+
+returns : tie.Need-returns
+unfolding accepts
+returns c = match-told any (c .before .args .text .now) (c .before .args .at) (c .if1 .taken) refl
+
+returns-2 : tie.Need-returns-2
+returns-2 c = end-told any (c .before .args .text .now) (c .before .args .at) (c .if1 .left)
+
+pub any-byte-spec : {M : Type 1} → statement M
+any-byte-spec = tie.close (tie.spec returns returns-2)

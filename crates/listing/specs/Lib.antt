@@ -1,0 +1,2 @@
+-- What the functions of the walk promise each other.
+pub mod Gives

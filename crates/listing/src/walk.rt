@@ -1,0 +1,440 @@
+// The walk that lists rows. "the calls that made the match, parents first, left to right": a call is entered where its record says
+// that it matched and the window touches it. `left` is the remaining allowance of nesting, as in a reading. An answer is the length of
+// a match, 65,536 for a failure, or 65,536 and the number of a refusal.
+use crate::bytes;
+use crate::slots;
+use records::Decoded;
+use records::Record;
+ghost use Prim.Native.Nat.{_+_, _<_, _^_};
+ghost use mathlib.Core.Path.{_≡_};
+ghost use lib.ListN.{length, getD};
+ghost use Rattle.grammar.specs.Image.{sequence, choice, star, not-predicate};
+ghost use Rattle.reading.specs.Loaded.{rulesIn};
+ghost use Rattle.rows.specs.Walk.{partV, pairV, kindV, nodeV};
+ghost use Rattle.listing.specs.Gives.{Gives, Steady};
+
+const FAILED: usize = 65536;
+
+// A node at a position.
+fn walk_node(
+    words: &[u32; 4097],
+    text: &[u8],
+    table: &[u64],
+    rows: &mut [u64],
+    count: &mut usize,
+    room: usize,
+    node: usize,
+    at: usize,
+    lo: usize,
+    hi: usize,
+    depth: usize,
+    left: usize,
+) -> usize
+    requires { ⌜ Steady (now text) room (now count) at depth left × (node < 4096) ⌝ }
+    ensures { λ r. ⌜ Gives (now (count .entry)) (now (rows .entry)) r (now (rows .exit)) (now (count .exit)) (nodeV room (now (words .entry)) (now (text .entry)) (now (table .entry)) left node at lo hi depth (now (count .entry))) ⌝ }
+{
+    if left == 0 {
+        return FAILED + 14;
+    }
+    let fields = image::node_of(words[node]);
+    let kind = fields.kind;
+    let a = fields.a;
+    let b = fields.b;
+    match kind {
+        0 => 0,
+        1 => bytes::any_byte(text, at),
+        2 => bytes::byte_between(text, a, b, at),
+        3 => walk_sequence(
+            words,
+            text,
+            table,
+            rows,
+            count,
+            room,
+            a,
+            b,
+            at,
+            lo,
+            hi,
+            depth,
+            left - 1,
+        ),
+        4 => walk_choice(
+            words,
+            text,
+            table,
+            rows,
+            count,
+            room,
+            a,
+            b,
+            at,
+            lo,
+            hi,
+            depth,
+            left - 1,
+        ),
+        5 => walk_star(
+            words,
+            text,
+            table,
+            rows,
+            count,
+            room,
+            a,
+            at,
+            lo,
+            hi,
+            depth,
+            left - 1,
+        ),
+        6 => walk_not(
+            words,
+            text,
+            table,
+            rows,
+            count,
+            room,
+            a,
+            at,
+            depth,
+            left - 1,
+        ),
+        7 => walk_rule(
+            words,
+            text,
+            table,
+            rows,
+            count,
+            room,
+            a,
+            b,
+            at,
+            lo,
+            hi,
+            depth,
+            left - 1,
+        ),
+        8..=15 => FAILED + 12,
+        _ => FAILED + 12,
+    }
+}
+
+// A then B. What fails or is refused ends it.
+fn walk_sequence(
+    words: &[u32; 4097],
+    text: &[u8],
+    table: &[u64],
+    rows: &mut [u64],
+    count: &mut usize,
+    room: usize,
+    a: usize,
+    b: usize,
+    at: usize,
+    lo: usize,
+    hi: usize,
+    depth: usize,
+    left: usize,
+) -> usize
+    requires { ⌜ Steady (now text) room (now count) at depth (left + 1) × (a < 4096) × (b < 4096) ⌝ }
+    ensures { λ r. ⌜ Gives (now (count .entry)) (now (rows .entry)) r (now (rows .exit)) (now (count .exit)) (kindV (now (text .entry)) (nodeV room (now (words .entry)) (now (text .entry)) (now (table .entry)) left) (pairV (rulesIn (now (words .entry))) b room (now (text .entry)) (now (table .entry)) (nodeV room (now (words .entry)) (now (text .entry)) (now (table .entry)) left)) (sequence a b) at lo hi depth (now (count .entry))) ⌝ }
+{
+    let x = walk_node(
+        words,
+        text,
+        table,
+        rows,
+        count,
+        room,
+        a,
+        at,
+        lo,
+        hi,
+        depth,
+        left,
+    );
+    if FAILED <= x {
+        return x;
+    }
+    let y = walk_node(
+        words,
+        text,
+        table,
+        rows,
+        count,
+        room,
+        b,
+        at + x,
+        lo,
+        hi,
+        depth,
+        left,
+    );
+    if FAILED <= y {
+        return y;
+    }
+    x + y
+}
+
+// A else B.
+fn walk_choice(
+    words: &[u32; 4097],
+    text: &[u8],
+    table: &[u64],
+    rows: &mut [u64],
+    count: &mut usize,
+    room: usize,
+    a: usize,
+    b: usize,
+    at: usize,
+    lo: usize,
+    hi: usize,
+    depth: usize,
+    left: usize,
+) -> usize
+    requires { ⌜ Steady (now text) room (now count) at depth (left + 1) × (a < 4096) × (b < 4096) ⌝ }
+    ensures { λ r. ⌜ Gives (now (count .entry)) (now (rows .entry)) r (now (rows .exit)) (now (count .exit)) (kindV (now (text .entry)) (nodeV room (now (words .entry)) (now (text .entry)) (now (table .entry)) left) (pairV (rulesIn (now (words .entry))) b room (now (text .entry)) (now (table .entry)) (nodeV room (now (words .entry)) (now (text .entry)) (now (table .entry)) left)) (choice a b) at lo hi depth (now (count .entry))) ⌝ }
+{
+    let x = walk_part(
+        words,
+        text,
+        table,
+        rows,
+        count,
+        room,
+        a,
+        at,
+        lo,
+        hi,
+        depth,
+        left,
+    );
+    if x != FAILED {
+        return x;
+    }
+    walk_node(
+        words,
+        text,
+        table,
+        rows,
+        count,
+        room,
+        b,
+        at,
+        lo,
+        hi,
+        depth,
+        left,
+    )
+}
+
+// Not A: only looked at.
+fn walk_not(
+    words: &[u32; 4097],
+    text: &[u8],
+    table: &[u64],
+    rows: &mut [u64],
+    count: &mut usize,
+    room: usize,
+    a: usize,
+    at: usize,
+    depth: usize,
+    left: usize,
+) -> usize
+    requires { ⌜ Steady (now text) room (now count) at depth (left + 1) × (a < 4096) ⌝ }
+    ensures { λ r. ⌜ Gives (now (count .entry)) (now (rows .entry)) r (now (rows .exit)) (now (count .exit)) (kindV (now (text .entry)) (nodeV room (now (words .entry)) (now (text .entry)) (now (table .entry)) left) (pairV (rulesIn (now (words .entry))) 0 room (now (text .entry)) (now (table .entry)) (nodeV room (now (words .entry)) (now (text .entry)) (now (table .entry)) left)) (not-predicate a) at 0 0 depth (now (count .entry))) ⌝ }
+{
+    let x = walk_node(
+        words,
+        text,
+        table,
+        rows,
+        count,
+        room,
+        a,
+        at,
+        text.len() + 1,
+        0,
+        depth,
+        left,
+    );
+    if FAILED < x {
+        return x;
+    }
+    if x < FAILED {
+        return FAILED;
+    }
+    0
+}
+
+// A zero or more times: rounds until one fails.
+fn walk_star(
+    words: &[u32; 4097],
+    text: &[u8],
+    table: &[u64],
+    rows: &mut [u64],
+    count: &mut usize,
+    room: usize,
+    a: usize,
+    at: usize,
+    lo: usize,
+    hi: usize,
+    depth: usize,
+    left: usize,
+) -> usize
+    requires { ⌜ Steady (now text) room (now count) at depth (left + 1) × (a < 4096) ⌝ }
+    ensures { λ r. ⌜ Gives (now (count .entry)) (now (rows .entry)) r (now (rows .exit)) (now (count .exit)) (kindV (now (text .entry)) (nodeV room (now (words .entry)) (now (text .entry)) (now (table .entry)) left) (pairV (rulesIn (now (words .entry))) 0 room (now (text .entry)) (now (table .entry)) (nodeV room (now (words .entry)) (now (text .entry)) (now (table .entry)) left)) (star a) at lo hi depth (now (count .entry))) ⌝ }
+{
+    let mut before = 0usize;
+    loop {
+        let x = walk_part(
+            words,
+            text,
+            table,
+            rows,
+            count,
+            room,
+            a,
+            at + before,
+            lo,
+            hi,
+            depth,
+            left,
+        );
+        if FAILED < x {
+            return x;
+        }
+        if x == FAILED {
+            return before;
+        }
+        if x == 0 {
+            return FAILED + 12;
+        }
+        before = before + x;
+    }
+}
+
+// A node that may fail: looked at first, then walked where it matched and the window touches it.
+fn walk_part(
+    words: &[u32; 4097],
+    text: &[u8],
+    table: &[u64],
+    rows: &mut [u64],
+    count: &mut usize,
+    room: usize,
+    a: usize,
+    at: usize,
+    lo: usize,
+    hi: usize,
+    depth: usize,
+    left: usize,
+) -> usize
+    requires { ⌜ Steady (now text) room (now count) at depth left × (a < 4096) ⌝ }
+    ensures { λ r. ⌜ Gives (now (count .entry)) (now (rows .entry)) r (now (rows .exit)) (now (count .exit)) (partV (length (now (text .entry))) (nodeV room (now (words .entry)) (now (text .entry)) (now (table .entry)) left) a at lo hi depth (now (count .entry))) ⌝ }
+{
+    let x = walk_node(
+        words,
+        text,
+        table,
+        rows,
+        count,
+        room,
+        a,
+        at,
+        text.len() + 1,
+        0,
+        depth,
+        left,
+    );
+    if FAILED <= x {
+        return x;
+    }
+    if !slots::touched(lo, hi, at, x) {
+        return x;
+    }
+    walk_node(
+        words,
+        text,
+        table,
+        rows,
+        count,
+        room,
+        a,
+        at,
+        lo,
+        hi,
+        depth,
+        left,
+    )
+}
+
+fn wide(word: u32) -> usize
+    ensures { λ r. ⌜ (r ≡ word) × (r < 2 ^ 32) ⌝ }
+{
+    word as usize
+}
+
+fn look(table: &[u64], slot: usize) -> u64
+    ensures { λ r. ⌜ r ≡ getD (now (table .entry)) slot 0 ⌝ }
+{
+    if slot < table.len() { table[slot] } else { 0 }
+}
+
+// A rule at a position: its record, its row, and the rows of its body, which has that root.
+pub fn walk_rule(
+    words: &[u32; 4097],
+    text: &[u8],
+    table: &[u64],
+    rows: &mut [u64],
+    count: &mut usize,
+    room: usize,
+    rule: usize,
+    root: usize,
+    at: usize,
+    lo: usize,
+    hi: usize,
+    depth: usize,
+    left: usize,
+) -> usize
+    requires { ⌜ Steady (now text) room (now count) at depth (left + 1) × (rule < 4096) × (root < 4096) ⌝ }
+    ensures { λ r. ⌜ Gives (now (count .entry)) (now (rows .entry)) r (now (rows .exit)) (now (count .exit)) (pairV (rulesIn (now (words .entry))) root room (now (text .entry)) (now (table .entry)) (nodeV room (now (words .entry)) (now (text .entry)) (now (table .entry)) left) rule at lo hi depth (now (count .entry))) ⌝ }
+{
+    let rules = wide(words[4096]);
+    let word = look(table, at * rules + rule);
+    if !records::is_held(word) {
+        return FAILED + 12;
+    }
+    let Decoded::Possible(held) = Record::from_word(word, at, text.len()) else {
+        return FAILED + 12;
+    };
+    if !held.matched {
+        return FAILED;
+    }
+    let length = held.length;
+    if !slots::touched(lo, hi, at, length) {
+        return length;
+    }
+    if room <= *count {
+        return FAILED + 15;
+    }
+    slots::put(rows, *count, slots::row_word(rule, depth, at, length));
+    *count = *count + 1;
+    let y = walk_node(
+        words,
+        text,
+        table,
+        rows,
+        count,
+        room,
+        root,
+        at,
+        lo,
+        hi,
+        depth + 1,
+        left,
+    );
+    if FAILED < y {
+        return y;
+    }
+    length
+}
