@@ -19,10 +19,10 @@ pub sets-both : (l : List ℕ) (c : ℕ) (ws vs : List ℕ) → sets l c (ws ++ 
 sets-both l c [] vs = ap (λ (d : ℕ). sets l d vs) (omega arith)
 sets-both l c (w ∷ ws) vs = sets-both (set l c w) (suc c) ws vs ∙ ap (λ (d : ℕ). sets (sets (set l c w) (suc c) ws) d vs) (omega arith)
 
-abbrev OnTrail : (n room p c : ℕ) → Trail → Type 0
+abbrev pub OnTrail : (n room p c : ℕ) → Trail → Type 0
 OnTrail n room p c (trail a ws) = May n p c (length ws) a × (c + length ws ≤ room)
 
-on-trail : {n room p c : ℕ} {o : Trail} {a : Walked} {ws : List ℕ} → Bounded n room p c o → o ≡ trail a ws → OnTrail n room p c (trail a ws)
+pub on-trail : {n room p c : ℕ} {o : Trail} {a : Walked} {ws : List ℕ} → Bounded n room p c o → o ≡ trail a ws → OnTrail n room p c (trail a ws)
 on-trail {n} {room} {p} {c} b e = subst (OnTrail n room p c) (sym (b .is) ∙ e) (b .may, b .fit)
 
 -- A match of that length.

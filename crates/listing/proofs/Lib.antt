@@ -3,3 +3,4 @@ pub mod Terminals
 pub mod Gives
 pub mod Paths
 pub mod Rules
+pub mod Passes

@@ -1,5 +1,6 @@
 // Listing: the walk over the records that a reading left, which counts and writes rows.
 
 mod bytes;
+pub mod list;
 mod slots;
 mod walk;
