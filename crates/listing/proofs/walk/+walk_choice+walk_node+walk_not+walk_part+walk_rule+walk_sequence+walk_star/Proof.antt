@@ -1,3 +1,5 @@
+-- The cycle of the walk: each function answers, writes and counts as the walk of crate rows does. Each answer is a way of proofs/Paths
+-- or proofs/Rules. The measure is three times the allowance, a node below a part, a part below the kinds. Assumes nothing.
 use Rattle.listing.proofs.Paths.{sequence-first, sequence-ends, sequence-second-ends, sequence-second, sequence-both, not-stops, not-fails, not-matches, part-found, part-ends, part-missed, part-goes, choice-first, choice-failed, choice-second, Rounds, star-start, star-stops, star-last, star-found, star-still, star-more}
 use Rattle.listing.proofs.Rules.{rule-empty, rule-impossible, rule-failed, rule-in-text, rule-missed, rule-full, rule-stops, rule-goes, node-too-deep, node-goes, empty-goes, unlawful-goes, terminal-goes}
 use Rattle.listing.proofs.Gives.{found}
