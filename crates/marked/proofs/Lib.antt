@@ -2,3 +2,4 @@ pub mod Images
 pub mod Sessions
 pub mod Nested
 pub mod Marked
+pub mod Foreign
