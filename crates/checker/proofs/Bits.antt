@@ -1,9 +1,8 @@
 -- Outcome sets as numbers: which outcomes a packed set has, and how a union grows. Assumes nothing.
 use Prim.Native.Nat.{ℕ, zero, suc, _≤_, _<_}
 use native.Mathlib.Omega.{arith}
-use mathlib.Core.Path.{_≡_, refl, sym}
-use mathlib.Core.Bool.{Bool, true, false, _&&_, _||_, true≢false}
-use mathlib.Core.Logic.{_⊎_, inl, inr}
+use mathlib.Core.Path.{_≡_, refl}
+use mathlib.Core.Bool.{Bool, true, false, _||_}
 use mir.Val.{boolByte}
 use Rattle.grammar.specs.Outcomes.{Outcome, matches-empty, consumes, fails}
 use Rattle.checker.specs.Sets.{bit, pack, union}
@@ -87,10 +86,3 @@ union-above a b h =
     )
 
 -- Tests joined by "and" and by "or", taken apart.
-pub both : (a b : Bool) → (a && b) ≡ true → (a ≡ true) × (b ≡ true)
-both true b e = (refl, e)
-both false b e = absurd (true≢false (sym e))
-
-pub either : (a b : Bool) → (a || b) ≡ true → (a ≡ true) ⊎ (b ≡ true)
-either true b e = inl refl
-either false b e = inr e

@@ -9,6 +9,7 @@ use mathlib.Core.Logic.{⊎-elim}
 use mathlib.Core.List.{List}
 use lib.ListN.{getD}
 use borrow.Author.Tests.{not-true}
+use Rattle.grammar.proofs.Bools.{both, either}
 use Rattle.grammar.specs.Image.{nodes, root, node, body}
 use Rattle.grammar.specs.Image.{Node, empty, terminal, sequence, choice, star, not-predicate, call, unlawful}
 use Rattle.grammar.specs.Outcomes.{matches-empty, Has}
@@ -17,7 +18,6 @@ use Rattle.grammar.specs.Questions.{Question4}
 use Rattle.grammar.proofs.References.{Refers, refers, root-in-range}
 use Rattle.checker.specs.Sets.{bit}
 use Rattle.checker.specs.Rounds.{formedFrom, Outcomes}
-use Rattle.checker.proofs.Bits.{both, either}
 
 -- The nodes marked so far are well formed.
 abbrev pub OnlyFormed : (img : List ℕ) → List Bool → Type 0

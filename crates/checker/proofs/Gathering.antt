@@ -8,6 +8,7 @@ use mathlib.Core.Bool.{true, true≢false, or-true}
 use mathlib.Core.Logic.{⊎-elim}
 use mathlib.Core.List.{List}
 use lib.ListN.{getD}
+use Rattle.grammar.proofs.Bools.{both, either}
 use Rattle.grammar.specs.Image.{nodes, root, node, body}
 use Rattle.grammar.specs.Image.{Node, empty, terminal, sequence, choice, star, not-predicate, call, unlawful}
 use Rattle.grammar.specs.Outcomes.{Outcome, matches-empty, consumes, fails, Has, empty-0, terminal-1, terminal-f, call-body}
@@ -17,7 +18,7 @@ use Rattle.grammar.specs.Questions.{Question4}
 use Rattle.grammar.proofs.References.{Refers, refers, root-in-range}
 use Rattle.checker.specs.Sets.{bit, thenSet, elseSet, starSet, notSet}
 use Rattle.checker.specs.Rounds.{gathered}
-use Rattle.checker.proofs.Bits.{bit-pack, both, either}
+use Rattle.checker.proofs.Bits.{bit-pack}
 
 -- The sets tell nothing wrong.
 abbrev pub Only : (img known : List ℕ) → Type 0

@@ -7,6 +7,7 @@ use mathlib.Core.Bool.{Bool, true, _||_, or-true, true≢false}
 use mathlib.Core.Logic.{⊎-elim}
 use mathlib.Core.List.{List}
 use lib.ListN.{length, getD, set, replicate, length-set, length-replicate}
+use Rattle.grammar.proofs.Bools.{either}
 use Rattle.grammar.specs.Image.{nodes, node}
 use Rattle.grammar.specs.Outcomes.{Outcome, matches-empty, consumes, fails, Has}
 use Rattle.grammar.specs.Questions.{Question4}
@@ -14,7 +15,7 @@ use Rattle.grammar.proofs.References.{refers}
 use Rattle.checker.specs.Sets.{bit, union}
 use Rattle.checker.specs.Order.{VisitsAll}
 use Rattle.checker.specs.Rounds.{gathered, Outcomes}
-use Rattle.checker.proofs.Bits.{bit-union, either, union-above}
+use Rattle.checker.proofs.Bits.{bit-union, union-above}
 use Rattle.checker.proofs.Gathering.{Only, Closed, gathered-only, gathered-all}
 use Rattle.lawful.proofs.Writes.{after-write, all-the-same}
 use Rattle.checker.proofs.Weights.{weightBy, weight-set, weight-most}

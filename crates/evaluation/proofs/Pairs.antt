@@ -6,6 +6,7 @@ use mathlib.Core.List.{List, [], _∷_, _++_}
 use mathlib.Core.Logic.{_⊎_, inl, inr, ⊎-elim}
 use lib.Dec.{eqb}
 use borrow.Author.Tests.{eqb-true, eq-eqb}
+use Rattle.grammar.proofs.Bools.{or-right}
 use Rattle.evaluation.specs.Calls.{Pair, In, here, later, isIn}
 
 pub none-in : {x : Pair} → In x [] → ⊥
@@ -36,10 +37,6 @@ both-on true true c e f = refl
 both-on true false c e f = absurd (true≢false (sym f))
 both-on false b c e f = absurd (true≢false (sym e))
 
-right-on : (a b : Bool) → b ≡ true → a || b ≡ true
-right-on true b e = refl
-right-on false b e = e
-
 -- The test says what the type says.
 pub in-is : {x : Pair} {ps : List Pair} → In x ps → isIn (x .rule) (x .position) ps ≡ true
 unfolding isIn
@@ -47,7 +44,7 @@ in-is {x} (here {xs}) =
     both-on (eqb (x .rule) (x .rule)) (eqb (x .position) (x .position)) (isIn (x .rule) (x .position) xs)
     (eq-eqb (x .rule) (x .rule) refl)
     (eq-eqb (x .position) (x .position) refl)
-in-is {x} (later {y} i) = right-on (eqb (y .rule) (x .rule) && eqb (y .position) (x .position)) _ (in-is i)
+in-is {x} (later {y} i) = or-right (eqb (y .rule) (x .rule) && eqb (y .position) (x .position)) _ (in-is i)
 
 pub is-in : (r q : ℕ) (ps : List Pair) → isIn r q ps ≡ true → In (record { rule = r; position = q }) ps
 unfolding isIn

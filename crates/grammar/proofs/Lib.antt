@@ -1,4 +1,5 @@
 -- The theorems of the language.
+pub mod Bools
 pub mod Nodes
 pub mod References
 pub mod First

@@ -13,6 +13,7 @@ use mathlib.Core.List.{List, _++_}
 use lib.ListN.{length, getD, take, length-append}
 use lib.Dec.{ltb}
 use lib.Seq.{getD-take, getD-append-add}
+use Rattle.grammar.proofs.Bools.{both}
 use Rattle.grammar.specs.declared.Evaluation.{Evaluation}
 use Rattle.grammar.specs.Image.{byteAt, Terminal}
 use Rattle.grammar.specs.Terminal.{accepts, tested, terminalAt}
@@ -34,15 +35,11 @@ tested-shape text p false h inside =
     record { examines = omega arith; in-examined = omega arith; up-to-end = omega arith; consumes = λ e. absurd (true≢false (sym e)); in-text = omega arith; failure = λ e. refl; flat = refl }
 
 -- A test that passes passes its first part.
-first-part : (a b : Bool) → (a && b) ≡ true → a ≡ true
-first-part true b e = refl
-first-part false b e = e
-
 pub shape : (t : Terminal) (text : List ℕ) (p : ℕ) → p ≤ length text → Shape text p (terminalAt t text p)
 unfolding terminalAt
 shape t text p h =
     tested-shape text p (ltb p (length text) && accepts t (byteAt text p)) h
-    (λ e. ltb-true p (length text) (first-part (ltb p (length text)) (accepts t (byteAt text p)) e))
+    (λ e. ltb-true p (length text) (both (ltb p (length text)) (accepts t (byteAt text p)) e .0))
 
 -- The two texts agree up to m, which both reach: "what it examined" lies below m.
 pub prefix :

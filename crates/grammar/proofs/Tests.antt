@@ -8,13 +8,10 @@ use mathlib.Core.Bool.{Bool, true, false, _&&_, true≢false}
 use mathlib.Core.List.{List, _++_}
 use lib.ListN.{length}
 use lib.Dec.{eqb, leb, ltb}
+use Rattle.grammar.proofs.Bools.{both, joined}
 use Rattle.grammar.specs.Image.{edition, rules, nodes, start, ruleZero, root, kind, nodeZero, fieldA, fieldB}
 use Rattle.grammar.specs.Questions.{Question1, Question2, Question3, Question4, Question5, Lawful, LawfulRule, LawfulNode}
 use Rattle.grammar.specs.Questions.{roots, childrenBelow, occurrences}
-
-both : (a b : Bool) → (a && b) ≡ true → (a ≡ true) × (b ≡ true)
-both true b e = (refl, e)
-both false b e = absurd (true≢false (sym e))
 
 -- A test that is asked only where another passes.
 abbrev pub where-so : Bool → Bool → Bool
@@ -101,9 +98,6 @@ module _ (img : List ℕ) where
         child-B = λ h l. let t = both _ _ (asked _ _ (t8 .0) (joined (le-leb 3 k h) (le-leb k 4 l))) in (ltb-true n b (t .0), ltb-true b (nodes img) (t .1));
         called = λ h. ltb-true a (rules img) (asked _ _ (t8 .1) (eq-eqb k 7 h));
       }
-    where
-      joined : {a b : Bool} → a ≡ true → b ≡ true → (a && b) ≡ true
-      joined p q = simp (p, q)
 
   -- Questions 1 to 3.
   pub header-asked : headerTest ≡ true → Question1 img × Question2 img × Question3 img

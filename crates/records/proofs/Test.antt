@@ -1,19 +1,13 @@
 -- The test of question 12 says what question 12 says; what the decoder answers. Assumes nothing.
 use Prim.Native.Nat.{ℕ, _+_}
 use mathlib.Core.Path.{_≡_, refl, sym, ap, _∙_}
-use mathlib.Core.Bool.{Bool, true, false, _&&_, _||_, true≢false}
+use mathlib.Core.Bool.{Bool, true, false, _||_, true≢false}
 use borrow.Author.Tests.{leb-true, le-leb, eqb-true, eq-eqb}
 use lib.Dec.{eqb}
+use Rattle.grammar.proofs.Bools.{both, joined}
 use Rattle.records.specs.declared.Record.{Record}
 use Rattle.records.specs.declared.Decoded.the-variants.{Possible, Impossible}
 use Rattle.records.specs.Words.{matchedOf, spareOf, nestingOf, examinedOf, lengthOf, IsPossible, possible, recordOf, pick, decoded}
-
-both : (a b : Bool) → (a && b) ≡ true → (a ≡ true) × (b ≡ true)
-both true b e = (refl, e)
-both false b e = absurd (true≢false (sym e))
-
-joined : {a b : Bool} → a ≡ true → b ≡ true → (a && b) ≡ true
-joined p q = simp (p, q)
 
 module _ (word at n : ℕ) where
   pub says-possible : possible word at n ≡ true → IsPossible word at n

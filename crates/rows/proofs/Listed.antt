@@ -5,10 +5,11 @@
 use Prim.Native.Nat.{ℕ, _+_, _≤_}
 use native.Mathlib.Omega.{arith}
 use mathlib.Core.Path.{_≡_, refl, sym, ap, _∙_}
-use mathlib.Core.Bool.{Bool, true, false, _||_}
+use mathlib.Core.Bool.{Bool, true, false}
 use mathlib.Core.List.{List, [], _∷_}
 use lib.ListN.{length}
 use lib.Dec.{leb}
+use Rattle.grammar.proofs.Bools.{or-right}
 use Rattle.grammar.specs.declared.Evaluation.{Evaluation}
 use Rattle.grammar.specs.Image.{start, root}
 use Rattle.grammar.specs.Questions.{Accepted}
@@ -79,11 +80,7 @@ pub reading-lists :
 reading-lists img text before accepted short loaded room u deep reads =
     start-lists img text (reads .after) accepted short (reads .gains .true-words) (reads .gains .closed) loaded room u held deep
   where
-    or-true : (a b : Bool) → b ≡ true → a || b ≡ true
-    or-true true b e = refl
-    or-true false b e = e
-
     held : isHeld (wordAt img (reads .after) (start img) 0) ≡ true
     held =
         reads .gains .holds (start img) 0 (accepted .lawful .counts .start-rule) (omega arith)
-        ∙ or-true (isHeld (wordAt img before (start img) 0)) (isIn (start img) 0 (bodiesOf u)) (in-is (own-body u))
+        ∙ or-right (isHeld (wordAt img before (start img) 0)) (isIn (start img) 0 (bodiesOf u)) (in-is (own-body u))

@@ -5,10 +5,11 @@
 use Prim.Native.Nat.{ℕ, suc, _+_, _%_, _≤_, _<_}
 use native.Mathlib.Omega.{arith}
 use mathlib.Core.Path.{_≡_, ap, _∙_}
-use mathlib.Core.Bool.{Bool, true, _&&_}
+use mathlib.Core.Bool.{true, _&&_}
 use mathlib.Core.List.{List}
 use lib.ListN.{length, getD}
 use lib.Dec.{leb}
+use Rattle.grammar.proofs.Bools.{joined}
 use Rattle.grammar.specs.declared.Evaluation.{Evaluation}
 use Rattle.grammar.specs.Image.{Node, rules, node}
 use Rattle.grammar.specs.Evaluates.{Fresh, Subject, bodiesOnly, a-node, a-pair, rounds-of}
@@ -25,9 +26,6 @@ use Rattle.reading.proofs.OverTables.{word-possible}
 use Rattle.rows.specs.Rows.{rowWord}
 use Rattle.rows.specs.Window.{touches}
 use Rattle.rows.specs.Walk.{Walker, met, entered, pairV, kindV, nodeV}
-
-both-true : {a b : Bool} → a ≡ true → b ≡ true → a && b ≡ true
-both-true e f = simp (e, f)
 
 pub record Says (n p word : ℕ) (z : Evaluation) : Type 0 where
   pub known : isHeld word && possible word p n ≡ true
@@ -50,7 +48,7 @@ module _ (img text table : List ℕ) (few : rules img ≤ 64) (short : length te
       let v = one img text bodiesOnly (t .evaluated) u in
       record {
         known =
-            both-true e
+            joined e
             (ap (λ (w : ℕ). possible w p (length text)) (t .word-is) ∙ passes-test (wordOf (t .value)) p (length text) (q .1));
         matched-is = ap matchedOf (t .word-is) ∙ matched-back (t .value) (q .0) ∙ ap (λ (x : Evaluation). x .matched) v;
         length-is = ap lengthOf (t .word-is) ∙ length-back (t .value) (q .0) ∙ ap (λ (x : Evaluation). x .length) v;

@@ -7,6 +7,7 @@ use mathlib.Core.Bool.{Bool, true, false, _&&_, true≢false}
 use mathlib.Core.List.{List, [], _∷_, _++_}
 use lib.Dec.{leb}
 use borrow.Author.Tests.{leb-true, le-leb, lt-leb}
+use Rattle.grammar.proofs.Bools.{both, joined}
 use Rattle.rows.specs.Rows.{Row, rowWord, rowWords}
 use Rattle.rows.specs.Window.{touches, wordIf, shown}
 use Rattle.rows.proofs.RowsInside.{AllInside, none-left, and-then}
@@ -15,30 +16,23 @@ and-false : (a b : Bool) → b ≡ false → a && b ≡ false
 and-false true b e = e
 and-false false b e = refl
 
-both-true : {a b : Bool} → a ≡ true → b ≡ true → a && b ≡ true
-both-true e f = simp (e, f)
-
-of-both : (a b : Bool) → a && b ≡ true → (a ≡ true) × (b ≡ true)
-of-both true b e = (refl, e)
-of-both false b e = absurd (true≢false (sym e))
-
 pub touches-nothing : (n at len : ℕ) → at + len ≤ n → touches (n + 1) 0 at len ≡ false
 unfolding touches
 touches-nothing n at len h = and-false (leb at 0) (leb (n + 1) (at + len)) (lt-leb (n + 1) (at + len) (omega arith))
 
 touches-all : (n at len : ℕ) → at + len ≤ n → touches 0 n at len ≡ true
 unfolding touches
-touches-all n at len h = both-true (le-leb at n (omega arith)) (le-leb 0 (at + len) (omega arith))
+touches-all n at len h = joined (le-leb at n (omega arith)) (le-leb 0 (at + len) (omega arith))
 
 -- What touches a part touches the whole.
 part-touched :
     (lo hi at len from to : ℕ) → from ≤ at → at + len ≤ from + to → touches lo hi at len ≡ true → touches lo hi from to ≡ true
 unfolding touches
 part-touched lo hi at len from to a b e =
-    let d = of-both (leb at hi) (leb lo (at + len)) e in
+    let d = both (leb at hi) (leb lo (at + len)) e in
     let x = leb-true at hi (d .0) in
     let y = leb-true lo (at + len) (d .1) in
-    both-true (le-leb from hi (omega arith)) (le-leb lo (from + to) (omega arith))
+    joined (le-leb from hi (omega arith)) (le-leb lo (from + to) (omega arith))
 
 part-missed :
     (lo hi at len from to : ℕ) → from ≤ at → at + len ≤ from + to → touches lo hi from to ≡ false → touches lo hi at len ≡ false
