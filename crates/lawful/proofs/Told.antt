@@ -26,3 +26,7 @@ module _ {b : Bool} {P : Type 0} (t : Tells b P) where
       go : (b : Bool) → not b ≡ false → T b
       go true e = tt
       go false e = absurd (true≢false e)
+
+-- What is told of P is told of what says the same.
+pub told-of : {b : Bool} {P Q : Type 0} → Tells b P → (P → Q) → (Q → P) → Tells b Q
+told-of t f g = record { yes = λ y. f (t .yes y); no = λ q. t .no (g q) }

@@ -1,5 +1,6 @@
 -- The parts of question 4 that a function each asks.
-use Prim.Native.Nat.{ℕ, _<_}
+use Prim.Native.Nat.{ℕ, _≤_, _<_}
+use mathlib.Core.Path.{_≡_}
 use mathlib.Core.List.{List}
 use Rattle.grammar.specs.Image.{rules, nodes}
 use Rattle.grammar.specs.Questions.{LawfulRule, LawfulNode}
@@ -14,3 +15,28 @@ pub record NodesLawful (img : List ℕ) : Type 0 where
 pub record Child (img : List ℕ) (n field : ℕ) : Type 0 where
   pub above : n < field
   pub in-range : field < nodes img
+
+-- The fields A and B of a lawful node, by its kind: 0 and 1,
+pub record Unused (a b : ℕ) : Type 0 where
+  pub a-zero : a ≡ 0
+  pub b-zero : b ≡ 0
+
+-- 2,
+pub record ByteRange (a b : ℕ) : Type 0 where
+  pub rising : a ≤ b
+  pub a-byte : b ≤ 255
+
+-- 3 and 4,
+pub record TwoChildren (img : List ℕ) (n a b : ℕ) : Type 0 where
+  pub first : Child img n a
+  pub second : Child img n b
+
+-- 5 and 6,
+pub record OneChild (img : List ℕ) (n a b : ℕ) : Type 0 where
+  pub child : Child img n a
+  pub b-zero : b ≡ 0
+
+-- and 7.
+pub record CallOf (img : List ℕ) (a b : ℕ) : Type 0 where
+  pub a-rule : a < rules img
+  pub b-zero : b ≡ 0

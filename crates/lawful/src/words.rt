@@ -2,7 +2,7 @@
 // children above parents?"
 ghost use Rattle.grammar.specs.Questions.{Question4, LawfulRule, LawfulNode};
 ghost use Rattle.lawful.specs.Tells.{Tells};
-ghost use Rattle.lawful.specs.Words.{RulesLawful, NodesLawful, Child};
+ghost use Rattle.lawful.specs.Words.{RulesLawful, NodesLawful, Child, Unused, ByteRange, TwoChildren, OneChild, CallOf};
 
 fn rule_lawful(image: &[u8], r: usize) -> bool
     ensures { λ yes. ⌜ Tells yes (LawfulRule (now (image .entry)) r) ⌝ }
@@ -44,61 +44,86 @@ fn child_lawful(image: &[u8], n: usize, field: usize) -> bool
     true
 }
 
+// Kinds 0 and 1: neither field is used.
+fn fields_unused(a: usize, b: usize) -> bool
+    ensures { λ yes. ⌜ Tells yes (Unused a b) ⌝ }
+{
+    if a != 0 {
+        return false;
+    }
+    if b != 0 {
+        return false;
+    }
+    true
+}
+
+// Kind 2: "A ≤ B ≤ 255".
+fn range_lawful(a: usize, b: usize) -> bool
+    ensures { λ yes. ⌜ Tells yes (ByteRange a b) ⌝ }
+{
+    if b < a {
+        return false;
+    }
+    if 255 < b {
+        return false;
+    }
+    true
+}
+
+// Kinds 3 and 4: two children.
+fn children_lawful(image: &[u8], n: usize, a: usize, b: usize) -> bool
+    ensures { λ yes. ⌜ Tells yes (TwoChildren (now (image .entry)) n a b) ⌝ }
+{
+    if !child_lawful(image, n, a) {
+        return false;
+    }
+    if !child_lawful(image, n, b) {
+        return false;
+    }
+    true
+}
+
+// Kinds 5 and 6: one child.
+fn only_child_lawful(image: &[u8], n: usize, a: usize, b: usize) -> bool
+    ensures { λ yes. ⌜ Tells yes (OneChild (now (image .entry)) n a b) ⌝ }
+{
+    if !child_lawful(image, n, a) {
+        return false;
+    }
+    if b != 0 {
+        return false;
+    }
+    true
+}
+
+// Kind 7: A is a rule.
+fn call_lawful(image: &[u8], a: usize, b: usize) -> bool
+    ensures { λ yes. ⌜ Tells yes (CallOf (now (image .entry)) a b) ⌝ }
+{
+    let header = image::header_of(image);
+    if header.rules <= a {
+        return false;
+    }
+    if b != 0 {
+        return false;
+    }
+    true
+}
+
 fn node_lawful(image: &[u8], n: usize) -> bool
     ensures { λ yes. ⌜ Tells yes (LawfulNode (now (image .entry)) n) ⌝ }
 {
-    let header = image::header_of(image);
     let word = image::node_at(image, n);
     if word.zero != 0 {
         return false;
     }
     let kind = word.kind;
     match kind {
-        0 | 1 => {
-            if word.a != 0 {
-                return false;
-            }
-            if word.b != 0 {
-                return false;
-            }
-            true
-        }
-        2 => {
-            if word.b < word.a {
-                return false;
-            }
-            if 255 < word.b {
-                return false;
-            }
-            true
-        }
-        3 | 4 => {
-            if !child_lawful(image, n, word.a) {
-                return false;
-            }
-            if !child_lawful(image, n, word.b) {
-                return false;
-            }
-            true
-        }
-        5 | 6 => {
-            if !child_lawful(image, n, word.a) {
-                return false;
-            }
-            if word.b != 0 {
-                return false;
-            }
-            true
-        }
-        7 => {
-            if header.rules <= word.a {
-                return false;
-            }
-            if word.b != 0 {
-                return false;
-            }
-            true
-        }
+        0 | 1 => fields_unused(word.a, word.b),
+        2 => range_lawful(word.a, word.b),
+        3 | 4 => children_lawful(image, n, word.a, word.b),
+        5 | 6 => only_child_lawful(image, n, word.a, word.b),
+        7 => call_lawful(image, word.a, word.b),
         8..=15 => false,
         _ => false,
     }
