@@ -1,5 +1,6 @@
 // The back of the table, lent from the slot of position s on: the words behind the edit are carried to their new rows, each row between
 // and behind is zeroed, and the words that stay at s are put over the rest.
+use crate::words;
 ghost use Prim.Native.Nat.{_+_, _≤_};
 ghost use lib.ListN.{length};
 ghost use Rattle.editing.specs.Words.{RowOf, Put, Carried, BackFits, Back};
@@ -13,8 +14,8 @@ fn carry_down(part: &mut [u64], from: usize, to: usize, count: usize) -> usize
     let mut i: usize = 0;
     while i < count {
         let word = part[from + i];
-        c += super::words::held_bit(word);
-        part[to + i] = super::words::only_held(word);
+        c += words::held_bit(word);
+        part[to + i] = words::only_held(word);
         i += 1;
     }
     c
@@ -30,8 +31,8 @@ fn carry_up(part: &mut [u64], from: usize, to: usize, count: usize) -> usize
     while 0 < i {
         i -= 1;
         let word = part[from + i];
-        c += super::words::held_bit(word);
-        part[to + i] = super::words::only_held(word);
+        c += words::held_bit(word);
+        part[to + i] = words::only_held(word);
     }
     c
 }
@@ -45,8 +46,8 @@ fn keep_held(part: &mut [u64], to: usize, count: usize) -> usize
     let mut i: usize = 0;
     while i < count {
         let word = part[to + i];
-        c += super::words::held_bit(word);
-        part[to + i] = super::words::only_held(word);
+        c += words::held_bit(word);
+        part[to + i] = words::only_held(word);
         i += 1;
     }
     c
@@ -73,7 +74,7 @@ fn staying_row(part: &[u64], rules: usize) -> [u64; 64]
 {
     let mut row = [0u64; 64];
     for rule in 0..rules {
-        row[rule] = super::words::kept_word(part[rule], 0);
+        row[rule] = words::kept_word(part[rule], 0);
     }
     row
 }
@@ -86,8 +87,8 @@ fn put_row(part: &mut [u64], row: &[u64; 64], rules: usize) -> usize
     let mut c: usize = 0;
     for rule in 0..rules {
         let old = part[rule];
-        let word = super::words::first_held(row[rule], old);
-        c = c + super::words::held_bit(word) - super::words::held_bit(old);
+        let word = words::first_held(row[rule], old);
+        c = c + words::held_bit(word) - words::held_bit(old);
         part[rule] = word;
     }
     c

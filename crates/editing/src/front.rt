@@ -1,12 +1,30 @@
 // The front of the table: the rows of positions before s. There a pair stands where its record examined nothing from s on.
+use crate::scan;
+use crate::words;
 ghost use Prim.Native.Nat.{_+_, _-_, _*_, _≤_, _<_};
 ghost use mathlib.Core.Path.{_≡_};
 ghost use lib.ListN.{length};
 ghost use Rattle.buffers.specs.Filled.{at};
 ghost use Rattle.editing.specs.Words.{Counted, keptWord, KeptRows};
 
+// The rows of a block and of a group in it.
+const BLOCK: usize = 64;
+
+const GROUP: usize = 4;
+
+// So many rows as are left, and at most `most`.
+fn at_most(left: usize, most: usize) -> usize
+    requires { ⌜ (1 ≤ left) × (1 ≤ most) ⌝ }
+    ensures { λ r. ⌜ (1 ≤ r) × (r ≤ left) ⌝ }
+{
+    if left < most {
+        return left;
+    }
+    most
+}
+
 // Of one row: keeps the held words that examined at most `limit` bytes, zeroes the others. Answers how many it keeps.
-pub fn keep_row(row: &mut [u64], limit: usize) -> usize
+fn keep_row(row: &mut [u64], limit: usize) -> usize
     ensures { λ c. ⌜ Counted
         (λ j. keptWord limit (at (now (row .entry)) j))
         (now (row .entry))
@@ -20,8 +38,8 @@ pub fn keep_row(row: &mut [u64], limit: usize) -> usize
     let mut c: usize = 0;
     let mut i: usize = 0;
     while i < row.len() {
-        let word = super::words::kept_word(row[i], limit);
-        c += super::words::held_bit(word);
+        let word = words::kept_word(row[i], limit);
+        c += words::held_bit(word);
         row[i] = word;
         i += 1;
     }
@@ -49,7 +67,7 @@ fn keep_group(part: &mut [u64], rules: usize, q: usize, rows: usize, s: usize) -
     requires { ⌜ (1 ≤ rules) × (1 ≤ rows) × (q + rows ≤ s) × (length (now part) ≡ rows * rules) ⌝ }
     ensures { λ c. ⌜ KeptRows rules s q (now (part .entry)) (now (part .exit)) (rows * rules) c ⌝ }
 {
-    let seen = super::scan::scan_words(part, s - (q + rows - 1));
+    let seen = scan::scan_words(part, s - (q + rows - 1));
     let every = seen.every;
     if every {
         return seen.held;
@@ -79,7 +97,7 @@ fn keep_block(part: &mut [u64], rules: usize, q: usize, rows: usize, s: usize) -
     requires { ⌜ (1 ≤ rules) × (1 ≤ rows) × (q + rows ≤ s) × (length (now part) ≡ rows * rules) ⌝ }
     ensures { λ c. ⌜ KeptRows rules s q (now (part .entry)) (now (part .exit)) (rows * rules) c ⌝ }
 {
-    let seen = super::scan::scan_words(part, s - (q + rows - 1));
+    let seen = scan::scan_words(part, s - (q + rows - 1));
     let every = seen.every;
     if every {
         return seen.held;
@@ -102,20 +120,4 @@ pub fn keep_front(part: &mut [u64], rules: usize, s: usize) -> usize
         q += next;
     }
     c
-}
-
-// The rows of a block and of a group in it.
-const BLOCK: usize = 64;
-
-const GROUP: usize = 4;
-
-// So many rows as are left, and at most `most`.
-fn at_most(left: usize, most: usize) -> usize
-    requires { ⌜ (1 ≤ left) × (1 ≤ most) ⌝ }
-    ensures { λ r. ⌜ (1 ≤ r) × (r ≤ left) ⌝ }
-{
-    if left < most {
-        return left;
-    }
-    most
 }

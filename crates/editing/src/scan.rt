@@ -1,4 +1,5 @@
 // What there is in a stretch of words, in one pass that stores nothing.
+use crate::words;
 ghost use Rattle.editing.specs.Words.{Scanned, Lowered};
 
 // Of a stretch of words: how many are held, and whether it was seen that every word stays: that each is 0 or held, and that no held word
@@ -30,7 +31,7 @@ pub fn scan_words(part: &[u64], limit: usize) -> Scan
         let word = part[i];
         any = any | word;
         all = all & lowered(word);
-        held = held + super::words::held_bit(word);
+        held = held + words::held_bit(word);
         i += 1;
     }
     if all < 0x8000_0000_0000_0000 {

@@ -1,4 +1,6 @@
 // The memo table in its lent words, the first rules × (cap + 1) of them.
+use crate::back;
+use crate::front;
 ghost use mathlib.Core.Path.{_≡_};
 ghost use Rattle.editing.specs.Text.{EditFits};
 ghost use Rattle.editing.specs.Table.{TableLent, clearedTable, wordsAfter, tableAfter, heldIn};
@@ -29,9 +31,9 @@ pub fn edit_table(
 {
     let size = rules * (cap + 1);
     let from = s * rules;
-    let kept = super::front::keep_front(&mut table[0..from], rules, s);
+    let kept = front::keep_front(&mut table[0..from], rules, s);
     let gone = (e - s) * rules;
     let tail = (n - e + 1) * rules;
-    let carried = super::back::edit_back(&mut table[from..size], rules, gone, k * rules, tail);
+    let carried = back::edit_back(&mut table[from..size], rules, gone, k * rules, tail);
     kept + carried
 }
