@@ -65,8 +65,7 @@ module _ {ev : Evaluations} {cap : ℕ} {rest : List ℕ} {l : Ledger} {B : List
     deep f =
         let e : s .reading ≡ ReadAnswer.Refused 14 = ap answerIn (f .0) in
         let t : RefusedAlso 14 (s .words) R a W′ R′ =
-        subst (λ (x : ReadAnswer). ThenListed (l .image) (l .text) cap W x (s .words) R a W′ R′) e (s .then) in
-        (
+        subst (λ (x : ReadAnswer). ThenListed (l .image) (l .text) cap W x (s .words) R a W′ R′) e (s .then) in (
           ap (λ (x : ListAnswer). lists x (rowsGiven x R′)) (t .answer-is),
           subst (λ (w : List ℕ). Inv ev cap rest (readTurn ev false l .left) B n w) (sym (t .words-are)) (f .1),
         )
@@ -89,8 +88,7 @@ module _ {ev : Evaluations} {cap : ℕ} {rest : List ℕ} {l : Ledger} {B : List
 
         go : (b : Bool) → passes15 ev l (length R) ≡ b → Listed (listTurn ev true b l)
         go true e =
-            let x = rows .0 .written (leb-true (length (rowsIn ev l)) (length R) e) in
-            (
+            let x = rows .0 .written (leb-true (length (rowsIn ev l)) (length R) e) in (
               ap (λ (y : ListAnswer). lists y (rowsGiven y R′)) (x .0) ∙ rows-given (readAnswer ev l) (rowsIn ev l) R R′ (x .1),
               left,
             )

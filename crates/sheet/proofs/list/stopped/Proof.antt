@@ -11,11 +11,10 @@ use Rattle.sheet.proofs.list.stopped.Statement.{statement}
 use Rattle.sheet.proofs.list.stopped.Tie as tie
 
 returns : tie.Need-returns
-returns c =
-    (
-      sym (c .if1 .taken),
-      ap (λ (b : Bool). stoppedWords b (c .before .before .before .args .image .now) (c .before .before .before .args .cap) (c .before .before .before .args .table .now)) (sym (eq-eqb (c .before .before .before .args .number) 15 (c .if1 .taken))),
-    )
+returns c = (
+  sym (c .if1 .taken),
+  ap (λ (b : Bool). stoppedWords b (c .before .before .before .args .image .now) (c .before .before .before .args .cap) (c .before .before .before .args .table .now)) (sym (eq-eqb (c .before .before .before .args .number) 15 (c .if1 .taken))),
+)
 
 header-of-requires : tie.Need-header-of-requires
 header-of-requires c κs = search needs
@@ -30,13 +29,12 @@ same-length : tie.Need-same-length
 same-length c = search needs
 
 returns-2 : tie.Need-returns-2
-returns-2 c =
-    (
-      refl,
-      c .before .before .clear-table .ensures
+returns-2 c = (
+  refl,
+  c .before .before .clear-table .ensures
       ∙ ap (λ (k : ℕ). clearedTable k (c .before .before .before .before .before .before .before .before .args .cap) (c .before .before .before .before .before .before .before .before .args .table .now)) (c .before .before .before .before .header-of .ensures .its-rules)
       ∙ ap (λ (b : Bool). stoppedWords b (c .before .before .before .before .before .before .before .before .args .image .now) (c .before .before .before .before .before .before .before .before .args .cap) (c .before .before .before .before .before .before .before .before .args .table .now)) (sym (ne-eqb (c .before .before .before .before .before .before .before .before .args .number) 15 (c .before .before .before .before .before .if1 .left))),
-    )
+)
 
 pub stopped-spec : {M : Type 1} → statement M
 stopped-spec =
