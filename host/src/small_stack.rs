@@ -1,4 +1,4 @@
-//! Readings of every nesting run in a thread of 2 MiB, which is what Rust gives a thread by default.
+//! Readings and listings of every nesting run in a thread of 2 MiB, which is what Rust gives a thread by default.
 
 use std::panic::resume_unwind;
 use std::thread::Builder;
@@ -6,9 +6,17 @@ use std::thread::Builder;
 /// The stack that a reading may count on, in bytes.
 pub const STACK_BYTES: usize = 2 << 20;
 
-/// Does `work` in a thread with that stack and gives back what it gives.
+/// The stack that a listing may count on, in bytes.
+pub const LISTING_STACK_BYTES: usize = STACK_BYTES;
+
+/// Does `work` in a thread with the stack of a reading and gives back what it gives.
 pub fn on_small_stack<T: Send + 'static>(work: impl FnOnce() -> T + Send + 'static) -> T {
     on_stack_of(STACK_BYTES, work)
+}
+
+/// The same with the stack of a listing.
+pub fn on_listing_stack<T: Send + 'static>(work: impl FnOnce() -> T + Send + 'static) -> T {
+    on_stack_of(LISTING_STACK_BYTES, work)
 }
 
 /// Does `work` in a thread with a stack of so many bytes. A panic there is a panic here.

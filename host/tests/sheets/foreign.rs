@@ -1,5 +1,6 @@
 //! Calls over tables with any words in them.
 
+use super::answers::MOST_SLOTS;
 use super::any_table::AnyTable;
 use super::tally::Tally;
 use super::words::any_table;
@@ -11,8 +12,26 @@ use bannelgo_host::rng::Rng;
 
 /// A single call over any table, and then some over what it leaves.
 pub fn foreign(seed: u64) -> Tally {
-    let mut tally = Tally::drawn("any words", seed);
-    let rng = &mut Rng::new(seed);
+    calls(Tally::drawn("any words", seed), &mut Rng::new(seed), |_| {
+        Call::Read
+    })
+}
+
+/// The same with listings in the place of many calls.
+pub fn listings(seed: u64) -> Tally {
+    let tally = Tally::drawn("any words, listings", seed);
+    calls(tally, &mut Rng::new(seed), |rng| {
+        let slots = match rng.below(3) {
+            0 => rng.below(4),
+            1 => rng.below(40),
+            _ => MOST_SLOTS,
+        };
+        Call::List { slots }
+    })
+}
+
+/// Every third call is of the sort that is given.
+fn calls(mut tally: Tally, rng: &mut Rng, third: fn(&mut Rng) -> Call) -> Tally {
     for _ in 0..150_000 {
         let grammar = small_grammar(rng);
         let loan = any_loan(rng, &grammar);
@@ -21,7 +40,7 @@ pub fn foreign(seed: u64) -> Tally {
             let Loan { buffer, n, .. } = &table.loan;
             let cap = buffer.len();
             let call = match rng.below(3) {
-                0 => Call::Read,
+                0 => third(rng),
                 _ => Typist::default().call(rng, &grammar, &buffer[..*n], cap),
             };
             table.call(&call);
