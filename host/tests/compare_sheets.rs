@@ -71,10 +71,11 @@ fn listings_are_the_ledgers_and_the_papers() {
     on_listing_stack(|| {
         let tallies = [
             listings::near_the_limit(3301),
-            listings::under_choices(3302),
+            listings::by_choices_and_calls(3302),
             listings::doubling(3303),
             listings::long_texts(3304),
             foreign::listings(3305),
+            foreign::endless(3307),
             true_tables::listings(3306),
         ];
         let fewest = [

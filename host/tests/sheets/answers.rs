@@ -7,7 +7,7 @@ use bannelgo_host::reference::Refusal;
 use bannelgo_host::rng::Rng;
 
 /// More row slots than the lists lend, except where a text has more rows just by its length.
-pub const MOST_SLOTS: usize = 2_000;
+pub const MOST_SLOTS: usize = 5_000;
 
 /// The fields that stand for the ledger's answer or number.
 pub fn fields_of(answer: &Result<Answer, Refusal>) -> AnswerFields {

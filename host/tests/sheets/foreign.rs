@@ -5,7 +5,7 @@ use super::any_table::AnyTable;
 use super::tally::Tally;
 use super::words::any_table;
 use bannelgo_host::calls::Call;
-use bannelgo_host::expr::Grammar;
+use bannelgo_host::expr::{then, Expr, Grammar};
 use bannelgo_host::generate::{small_grammar, some_letters, text_of, Typist};
 use bannelgo_host::reference::lent::Loan;
 use bannelgo_host::rng::Rng;
@@ -29,6 +29,29 @@ pub fn listings(seed: u64) -> Tally {
         Call::List { slots }
     })
 }
+
+/// 63 rules call each other in a ring that the grammar leaves only after a byte; records that say
+/// that the byte's rule matched nothing close it. No greater nesting takes more stack.
+pub fn endless(seed: u64) -> Tally {
+    let mut tally = Tally::drawn("a ring of records", seed);
+    let rng = &mut Rng::new(seed);
+    let mut rules: Vec<Expr> = (1..63).map(Expr::Call).collect();
+    rules.extend([then(Expr::Call(63), Expr::Call(0)), Expr::AnyByte]);
+    let grammar = Grammar { start: 0, rules };
+    let loan = Loan {
+        buffer: b"a".to_vec(),
+        n: 1,
+        words: [[MATCHED_NOTHING; 64], [0; 64]].concat(),
+    };
+    for slots in [0, 1, 63, 64, 4_095, 4_096, 5_000] {
+        let mut table = AnyTable::new(&mut tally, rng, &grammar, loan.clone());
+        table.call(&Call::List { slots });
+    }
+    tally
+}
+
+/// Held, matched, nesting 1, examined 0, length 0.
+const MATCHED_NOTHING: u64 = 0xC000_0002_0000_0000;
 
 /// Every third call is of the sort that is given.
 fn calls(mut tally: Tally, rng: &mut Rng, third: fn(&mut Rng) -> Call) -> Tally {

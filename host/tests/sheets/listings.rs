@@ -26,13 +26,15 @@ pub fn near_the_limit(seed: u64) -> Tally {
     tally
 }
 
-/// The same nestings with brackets under many choices, which take the most stack: each is a level.
-pub fn under_choices(seed: u64) -> Tally {
-    let mut tally = Tally::drawn("listings under choices", seed);
+/// The same nestings, most of them made of choices or of calls; a chain of calls takes the most stack.
+pub fn by_choices_and_calls(seed: u64) -> Tally {
+    let mut tally = Tally::drawn("listings by choices, calls", seed);
     let rng = &mut Rng::new(seed);
-    for choices in [1, 2, 10, 100, 250] {
+    let choices = [1, 2, 10, 100, 250].map(many_choices);
+    let calls = [1, 2, 20, 62].map(chain_of_calls);
+    for (rules, each) in choices.iter().chain(&calls) {
         for nesting in 4_093..4_099 {
-            let (grammar, brackets) = choices_of_nesting(choices, nesting);
+            let (grammar, brackets) = with_nesting(rules, *each, nesting);
             let text = vec![b'('; brackets];
             let session = &mut Session::open(&mut tally, rng, &grammar, brackets, &text);
             let fields = session.call(Call::Read);
@@ -43,19 +45,27 @@ pub fn under_choices(seed: u64) -> Tally {
     tally
 }
 
-/// Rule 1 = ("(" then rule 1) else empty, under so many choices in all. k brackets have there the
-/// nesting (choices + 2) × (k + 1). Rule 0 calls it with the rest of the nesting around.
-fn choices_of_nesting(choices: usize, nesting: usize) -> (Grammar, usize) {
-    let each = choices + 2;
-    let bracket = or_else(then(byte(b'('), Rule(1)), Empty);
-    let rule_1 = (1..choices).fold(bracket, |inner, _| or_else(inner, Empty));
-    let levels = nesting / each;
-    let (levels, rest) = match nesting % each {
-        0 => (levels - 1, each),
-        rest => (levels, rest),
-    };
+/// Rule 1 = ("(" then rule 1) else empty, under so many choices in all, and its nesting for k brackets
+/// divided by k + 1.
+fn many_choices(choices: usize) -> (Vec<Expr>, usize) {
+    let under_one = or_else(then(byte(b'('), Rule(1)), Empty);
+    let rule_1 = (1..choices).fold(under_one, |inner, _| or_else(inner, Empty));
+    (vec![rule_1], choices + 2)
+}
+
+/// The same with so many rules each of which is a call of the next.
+fn chain_of_calls(calls: u8) -> (Vec<Expr>, usize) {
+    let last = or_else(then(byte(b'('), Rule(1)), Empty);
+    let rules = (0..calls).map(|call| Rule(call + 2)).chain([last]);
+    (rules.collect(), usize::from(calls) + 3)
+}
+
+/// Rule 0, which calls rule 1, with these rules, and the number of brackets with that nesting.
+fn with_nesting(rules: &[Expr], each: usize, nesting: usize) -> (Grammar, usize) {
+    let levels = (nesting - 1) / each;
+    let rest = nesting - levels * each;
     let rule_0 = (1..rest).fold(Rule(1), |inner, _| then(Empty, inner));
-    let rules = vec![rule_0, rule_1];
+    let rules = [&[rule_0], rules].concat();
     (Grammar { start: 0, rules }, levels - 1)
 }
 
