@@ -37,7 +37,8 @@ pub fn table_frame(
     }
 }
 
-/// "Changes only the table and, if answered, the lent row slots." The fields are an answer's.
+/// "Changes only the table and, if answered, the lent row slots." The fields and rows are an answer's,
+/// and rows past the last written stay.
 pub fn row_frame(lent: &Lent, call: &Call, fields: AnswerFields) -> Result<(), &'static str> {
     let rows = lent.rows();
     let coded = match call {
