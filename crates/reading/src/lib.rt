@@ -3,7 +3,7 @@
 mod answers;
 pub mod code;
 mod evaluate;
-mod loaded;
+pub mod loaded;
 mod memo;
 pub mod plain;
 pub mod session;
