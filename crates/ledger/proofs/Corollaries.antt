@@ -2,13 +2,13 @@
 -- Assumes nothing.
 --     only-these-numbers    1 to 8, 12 and 13 never occur
 --     as-plain              a reading answers what the plain reading answers, with the number of pairs reached and not held
---     lists-as-plain        and so does a listing that is not refused with 15
+--     lists-as-plain        a listing answers that too, with the text's rows, or 15 exactly where they do not fit
 use Prim.Native.Nat.{ℕ, _≤_, _<_}
 use native.Mathlib.Omega.{arith}
 use mathlib.Core.Path.{_≡_, refl, sym, ap, _∙_, subst}
-use mathlib.Core.Bool.{Bool, true, false}
+use mathlib.Core.Bool.{Bool, true, false, true≢false}
 use mathlib.Core.List.{List, [], _∷_}
-use mathlib.Core.Logic.{_⊎_, inl, inr}
+use mathlib.Core.Logic.{inl, inr}
 use lib.ListN.{length, take, drop}
 use lib.Dec.{leb, eqb}
 use borrow.Author.Tests.{le-leb, lt-leb, eq-eqb, ne-eqb}
@@ -25,13 +25,14 @@ use Rattle.reading.specs.Plain.{Says, Reports, ShortText, DepthAllowed, ofPlain
 use Rattle.editing.specs.Table.{tableSize}
 use Rattle.ledger.specs.declared.ReadAnswer.{ReadAnswer}
 use Rattle.ledger.specs.declared.ListAnswer.{ListAnswer}
-use Rattle.ledger.specs.Answers.{sheetReading}
+use Rattle.ledger.specs.declared.SheetReading.{SheetReading}
+use Rattle.ledger.specs.Answers.{sheetReading, readNumber, listNumber}
 use Rattle.ledger.specs.Reading.{ReadPromise}
 use Rattle.ledger.specs.Listing.{ListPromise}
 use Rattle.ledger.specs.Ledger.{Evaluations, Call, edit, reading, look-up, listing, Reply, edits, reads, finds, lists, Ledger, openedLedger, turn, replies}
-use Rattle.ledger.specs.Ledger.{valueIn, newPairs, passes9, passes10, passes11, passes14, passes15, editTurn, readTurn, lookUpTurn, listTurn}
+use Rattle.ledger.specs.Ledger.{valueIn, rowsIn, newPairs, passes9, passes10, passes11, passes14, passes15, editTurn, readTurn, lookUpTurn, listTurn}
 use Rattle.ledger.specs.Demand.{loan, rowsGiven}
-use Rattle.ledger.specs.Corollaries.{LedgersNumber, All, OnlyTheseNumbers, inSession, AsPlain, listedReading, ListsAsPlain}
+use Rattle.ledger.specs.Corollaries.{LedgersNumber, All, OnlyTheseNumbers, inSession, AsPlain, inListing, rowsIf, ListsAsPlain}
 use Rattle.ledger.proofs.Asked.{first-rest, image-numbers}
 use Rattle.ledger.proofs.Fresh.{evaluations}
 use Rattle.ledger.proofs.Inv.{Inv, text-is, short-text}
@@ -77,15 +78,18 @@ only-these-numbers img text B₀ W₀ B W n p calls answers img′ B′ W′ n�
     let x = demand-3 img text B₀ W₀ B W n p accepted evaluations calls answers img′ B′ W′ n′ t in
     subst (All LedgersNumber) (sym (x .0)) (all-numbers evaluations (length B₀) (openedLedger img accepted text) calls)
 
--- The answer of a listing's reply, and its reading.
+-- The answer of a listing's reply, and its rows.
 abbrev listingIn : Reply → ListAnswer
 listingIn (edits a) = ListAnswer.Refused 0
 listingIn (reads a) = ListAnswer.Refused 0
 listingIn (finds a) = ListAnswer.Refused 0
 listingIn (lists a rows) = a
 
-abbrev readingIn : Reply → ReadAnswer
-readingIn r = listedReading (listingIn r)
+abbrev rowsOfReply : Reply → List ℕ
+rowsOfReply (edits a) = []
+rowsOfReply (reads a) = []
+rowsOfReply (finds a) = []
+rowsOfReply (lists a rows) = rows
 
 -- The outcome that a reading says.
 outcome-is : (o : Outcome) (n : ℕ) (z : Evaluation) → Says o n z → o ≡ outcomeOf (z .matched) (eqb (z .length) n)
@@ -150,6 +154,18 @@ module _ (img text : List ℕ) (accepted : Accepted img) (short : length text �
         subst (λ (b : Bool). Answered (length text) z b (PlainAnswer.Refused k) count)
         (sym (lt-leb (z .nesting) 4096 deep)) (ap ReadAnswer.Refused (sym n))
 
+-- The reading of an answer that has one.
+abbrev readingOr : ReadAnswer → SheetReading
+readingOr (ReadAnswer.Read x) = x
+readingOr (ReadAnswer.Refused k) = record { outcome = Outcome.Nothing; length = 0; examined = 0; nesting = 0; evaluations = 0 }
+
+abbrev isRead : ReadAnswer → Bool
+isRead (ReadAnswer.Read x) = true
+isRead (ReadAnswer.Refused k) = false
+
+refused-not-read : {x : SheetReading} {k : ℕ} → ReadAnswer.Read x ≡ ReadAnswer.Refused k → ⊥
+refused-not-read e = true≢false (ap isRead e)
+
 -- The plain reading of the ledger's text.
 module _ {ev : Evaluations} {cap : ℕ} {rest : List ℕ} {l : Ledger} {B : List ℕ} {n : ℕ} {W : List ℕ} (v : Inv ev cap rest l B n W)
     (x : PlainAnswer) (q : PlainRead (l .image) (take n B) x)
@@ -177,22 +193,42 @@ module _ {ev : Evaluations} {cap : ℕ} {rest : List ℕ} {l : Ledger} {B : List
         let f = by-nesting (passes14 ev l) given in
         (cc, subst LedgersNumber (sym e) (read-number ev cap (passes14 ev l) l), text-is v)
 
-    -- A listing, by the answers to questions 14 and 15.
+    -- A listing: the answer that the plain reading's is made into.
+    abbrev AsListing : (slots : ℕ) (a : ListAnswer) (rows : List ℕ) → Type 0
+    AsListing slots a rows = (a ≡ inListing x (newPairs ev l) slots (rowsIn ev l)) × (listNumber a ≡ 0 → rows ≡ rowsIn ev l)
+
+    -- By the answers to questions 14 and 15.
     by-questions :
-        (b c : Bool) (a : ListAnswer) (rows : List ℕ)
-        → Answered (length (l .text)) (valueIn ev l (start (l .image)) 0) b x (newPairs ev l)
-        → lists a rows ≡ listTurn ev b c l .reply
-        → (a ≡ ListAnswer.Refused 15) ⊎ (listedReading a ≡ inSession x (newPairs ev l))
-    by-questions false c a rows f e = inr (ap readingIn e ∙ f)
-    by-questions true false a rows f e = inl (ap listingIn e)
-    by-questions true true a rows f e = inr (ap readingIn e ∙ f)
+        (slots : ℕ) (b c : Bool) → passes15 ev l slots ≡ c → (y : PlainAnswer)
+        → Answered (length (l .text)) (valueIn ev l (start (l .image)) 0) b y (newPairs ev l)
+        → listingIn (listTurn ev b c l .reply) ≡ inListing y (newPairs ev l) slots (rowsIn ev l)
+    by-questions slots false c e (PlainAnswer.Read y) f = absurd (let z : _≡_ {A = ℕ} 14 0 = ap readNumber f in omega arith)
+    by-questions slots false c e (PlainAnswer.Refused k) f = ap ListAnswer.Refused (ap readNumber f)
+    by-questions slots true c e (PlainAnswer.Refused k) f = absurd (refused-not-read f)
+    by-questions slots true true e (PlainAnswer.Read y) f =
+        ap (λ (r : ReadAnswer). ListAnswer.Listed (record { reading = readingOr r; rows = length (rowsIn ev l) })) f
+        ∙ ap (λ (b : Bool). rowsIf b (readingOr (inSession (PlainAnswer.Read y) (newPairs ev l))) (rowsIn ev l)) (sym e)
+    by-questions slots true false e (PlainAnswer.Read y) f =
+        ap (λ (b : Bool). rowsIf b (readingOr (inSession (PlainAnswer.Read y) (newPairs ev l))) (rowsIn ev l)) (sym e)
+
+    -- An answered listing's reply has the ledger's rows.
+    by-number : (b c : Bool) → listNumber (listingIn (listTurn ev b c l .reply)) ≡ 0 → rowsOfReply (listTurn ev b c l .reply) ≡ rowsIn ev l
+    by-number false c e = absurd (omega arith)
+    by-number true false e = absurd (omega arith)
+    by-number true true e = refl
 
     list-plain :
         {R : List ℕ} {a : ListAnswer} {W′ R′ : List ℕ} → ListPromise (l .image) B n W R a W′ R′
-        → (a ≡ ListAnswer.Refused 15) ⊎ (listedReading a ≡ inSession x (newPairs ev l))
+        → AsListing (length R) a (rowsGiven a R′)
     unfolding turn
     list-plain {R} {a} {W′} {R′} p =
-        by-questions (passes14 ev l) (passes15 ev l (length R)) a (rowsGiven a R′) given (list-step v p .0)
+        let e : lists a (rowsGiven a R′) ≡ listTurn ev (passes14 ev l) (passes15 ev l (length R)) l .reply = list-step v p .0 in
+        (
+          ap listingIn e ∙ by-questions (length R) (passes14 ev l) (passes15 ev l (length R)) refl x given,
+          λ k.
+              ap rowsOfReply e
+              ∙ by-number (passes14 ev l) (passes15 ev l (length R)) (sym (ap (λ (r : Reply). listNumber (listingIn r)) e) ∙ k),
+        )
 
 plain-after :
     (ev : Evaluations) (cap : ℕ) (rest : List ℕ) {l : Ledger} {img B W : List ℕ} {n : ℕ} → Holds ev cap rest l (loan img B n W)
@@ -205,7 +241,7 @@ list-after :
     (ev : Evaluations) (cap : ℕ) (rest : List ℕ) {l : Ledger} {img B W : List ℕ} {n : ℕ} → Holds ev cap rest l (loan img B n W)
     → (R : List ℕ) (a : ListAnswer) (W′ R′ : List ℕ) → ListPromise img B n W R a W′ R′
     → (x : PlainAnswer) → PlainRead img (take n B) x
-    → (a ≡ ListAnswer.Refused 15) ⊎ (listedReading a ≡ inSession x (newPairs ev l))
+    → (a ≡ inListing x (newPairs ev l) (length R) (rowsIn ev l)) × (listNumber a ≡ 0 → rowsGiven a R′ ≡ rowsIn ev l)
 list-after ev cap rest (holds v) R a W′ R′ p x q = list-plain v x q p
 
 pub as-plain : AsPlain

@@ -165,6 +165,7 @@ a-run {img} {text} {B₀} {W₀} p calls =
 
 pub runs-exist : RunsExist
 runs-exist = (
+  evaluations,
   (λ img text B W a q. record { bytes = _; words = _; opens = an-opening img text B W a q }),
   (λ img text B₀ W₀ B W n p calls. record { answers = _; end = _; run = a-run p calls }),
 )

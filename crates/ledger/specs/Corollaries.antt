@@ -1,22 +1,25 @@
--- What follows from demand 3, for every list of calls from an accepted opening: which numbers occur, and what a reading answers beside the
--- plain reading of the same text.
+-- What follows from demand 3, for every list of calls from an accepted opening: which numbers occur, and what a reading or a listing
+-- answers beside the plain reading of the same text.
 use Prim.Native.Nat.{ℕ}
 use mathlib.Core.Path.{_≡_}
+use mathlib.Core.Bool.{Bool, true, false}
 use mathlib.Core.List.{List, [], _∷_}
 use mathlib.Core.Logic.{_⊎_}
 use lib.ListN.{length, take}
+use lib.Dec.{leb}
 use Rattle.grammar.specs.Questions.{Accepted}
 use Rattle.reading.specs.declared.plain.PlainAnswer.{PlainAnswer}
 use Rattle.reading.specs.Plain.{PlainRead}
 use Rattle.ledger.specs.declared.OpenAnswer.{OpenAnswer}
 use Rattle.ledger.specs.declared.ReadAnswer.{ReadAnswer}
 use Rattle.ledger.specs.declared.ListAnswer.{ListAnswer}
+use Rattle.ledger.specs.declared.SheetReading.{SheetReading}
 use Rattle.ledger.specs.Answers.{editNumber, readNumber, lookUpNumber, listNumber}
 use Rattle.ledger.specs.Promises.{OpenPromise}
 use Rattle.ledger.specs.Reading.{ReadPromise}
 use Rattle.ledger.specs.Listing.{ListPromise}
-use Rattle.ledger.specs.Ledger.{Evaluations, Call, Reply, edits, reads, finds, lists, openedLedger, newPairs, leftBy}
-use Rattle.ledger.specs.Demand.{loan, Trace}
+use Rattle.ledger.specs.Ledger.{Evaluations, Call, Reply, edits, reads, finds, lists, openedLedger, rowsIn, newPairs, leftBy}
+use Rattle.ledger.specs.Demand.{loan, rowsGiven, Trace}
 
 -- The number of a reply is 0 or one of the questions that the ledger asks: 1 to 8, 12 and 13 are not among them.
 abbrev pub LedgersNumber : Reply → Type 0
@@ -61,12 +64,21 @@ AsPlain =
     × ((readNumber a ≡ 0) ⊎ (readNumber a ≡ 14))
     × (take n′ B′ ≡ leftBy ev (length B₀) (openedLedger img accepted text) calls .text)
 
--- The reading of an answered listing, and the number of a refused one.
-abbrev pub listedReading : ListAnswer → ReadAnswer
-listedReading (ListAnswer.Listed x) = ReadAnswer.Read (x .reading)
-listedReading (ListAnswer.Refused k) = ReadAnswer.Refused k
+-- The answer of a plain reading as that of a listing in a session that evaluated so many pairs, of a text with rows of these words, where
+-- so many row slots are lent.
+abbrev pub rowsIf : (fit : Bool) → SheetReading → (rows : List ℕ) → ListAnswer
+rowsIf true x rows = ListAnswer.Listed (record { reading = x; rows = length rows })
+rowsIf false x rows = ListAnswer.Refused 15
 
--- "To it a listing is a reading": a listing after any list of calls is refused with 15, or answers what the plain reading answers.
+abbrev pub inListing : PlainAnswer → (evaluations slots : ℕ) (rows : List ℕ) → ListAnswer
+inListing (PlainAnswer.Read x) count slots rows =
+    rowsIf (leb (length rows) slots)
+    (record { outcome = x .outcome; length = x .length; examined = x .examined; nesting = x .nesting; evaluations = count })
+    rows
+inListing (PlainAnswer.Refused k) count slots rows = ListAnswer.Refused k
+
+-- "To it a listing is a reading": a listing after any list of calls is refused with 14 where the plain reading is; otherwise it answers what
+-- the plain reading answers, with the number of the text's rows, which are in the row slots then, or 15 exactly where they do not fit.
 abbrev pub ListsAsPlain : Type 0
 ListsAsPlain =
     (img text B₀ W₀ B W : List ℕ) (n : ℕ)
@@ -78,5 +90,7 @@ ListsAsPlain =
     → ListPromise img′ B′ n′ W′ R a W″ R″
     → (x : PlainAnswer)
     → PlainRead img′ (take n′ B′) x
-    → (a ≡ ListAnswer.Refused 15)
-    ⊎ (listedReading a ≡ inSession x (newPairs ev (leftBy ev (length B₀) (openedLedger img accepted text) calls)))
+    → (a
+    ≡ inListing x (newPairs ev (leftBy ev (length B₀) (openedLedger img accepted text) calls)) (length R)
+    (rowsIn ev (leftBy ev (length B₀) (openedLedger img accepted text) calls)))
+    × (listNumber a ≡ 0 → rowsGiven a R″ ≡ rowsIn ev (leftBy ev (length B₀) (openedLedger img accepted text) calls))

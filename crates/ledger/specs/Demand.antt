@@ -95,7 +95,8 @@ Demand3 =
     × Agrees ev (length B₀) (drop (tableSize (rules img) (length B₀)) W₀)
     (leftBy ev (length B₀) (openedLedger img accepted text) calls) B′ n′ W′
 
--- The claim is about something: every lent buffer that passes questions 1 to 8 has an opening,
+-- The claim is about something: there are functions that give the ledger its evaluations; every lent buffer that passes questions 1 to 8
+-- has an opening;
 pub record AnOpening (img text B W : List ℕ) : Type 0 where
   pub bytes : List ℕ
   pub words : List ℕ
@@ -109,7 +110,8 @@ pub record ARun (from : Loan) (calls : List Call) : Type 0 where
 
 abbrev pub RunsExist : Type 0
 RunsExist =
-    ((img text B W : List ℕ) → Accepted img → Question8 img (length B) (length text) (length W) → AnOpening img text B W)
+    Evaluations
+    × ((img text B W : List ℕ) → Accepted img → Question8 img (length B) (length text) (length W) → AnOpening img text B W)
     × ((img text B₀ W₀ B W : List ℕ) (n : ℕ)
     → OpenPromise img text B₀ W₀ (OpenAnswer.Opened n) B W
     → (calls : List Call) → ARun (loan img B n W) calls)

@@ -27,7 +27,9 @@ pub record GivesRows (x : SheetReading) (rows R : List ℕ) (a : ListAnswer) (R�
   pub too-many : length R < length rows → (a ≡ ListAnswer.Refused 15) × (R′ ≡ R)
 
 -- How a listing may end after a reading that answered x and left these words, whatever the table held before: "it ends, changes only the
--- table and, if answered, the lent row slots, [..] zeroes the table with 12 and 14". With 15 the reading's records stay.
+-- table and, if answered, the lent row slots, [..] zeroes the table with 12 and 14". With 15 the reading's records stay. Free is, over
+-- foreign records: what the reading is free in; whether the listing is answered or refused with 12, 14 or 15 after it; how many rows it
+-- gives, as long as they fit, and their words. Nothing else is free.
 pub data EndsAs (img : List ℕ) (cap : ℕ) (x : SheetReading) (words R : List ℕ) : ListAnswer → (W′ R′ : List ℕ) → Type 0 where
   listed :
       (rows : List ℕ)
