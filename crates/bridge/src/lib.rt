@@ -1,4 +1,4 @@
-// The sheet's calls for Rust tests, benchmarks and the demo: libbridge.a. Each answer is coded as seven numbers (fields.rt).
+// The sheet's calls for Rust and C: libbridge.a. Each answer is coded as seven numbers (fields.rt).
 pub mod fields;
 
 use fields::Fields;

@@ -2,6 +2,7 @@
 -- promise, whatever the words are. Assumes nothing.
 --     written-listed, stopped-listed    where the run answers, by cases of the walk
 --     refused-listed                    where it is refused
+--     impossible-listed                 where the start word is held and impossible
 --     lists-unasked, lists-done         the whole promise: where one of questions 1 to 8 fails, and where none does
 use Prim.Native.Nat.{ℕ, _≤_, _<_}
 use native.Mathlib.Omega.{arith}
@@ -18,7 +19,9 @@ use Rattle.grammar.specs.Image.{rules, start}
 use Rattle.grammar.specs.Questions.{First, Accepted}
 use Rattle.grammar.specs.Evaluates.{Fresh, a-pair}
 use Rattle.reading.specs.Model.{answered, refused, Out, out}
+use Rattle.records.specs.Words.{isHeld, possible}
 use Rattle.reading.specs.Loaded.{Loaded}
+use Rattle.reading.specs.Over.{wordAt}
 use Rattle.reading.specs.Session.{startRun}
 use Rattle.reading.proofs.TrueReads.{start-reads, start-deep}
 use Rattle.rows.specs.Rows.{rowsOf, rowWords}
@@ -30,10 +33,10 @@ use Rattle.editing.specs.Table.{tableSize, clearedTable}
 use Rattle.ledger.specs.declared.ReadAnswer.{ReadAnswer}
 use Rattle.ledger.specs.declared.ListAnswer.{ListAnswer}
 use Rattle.ledger.specs.declared.SheetReading.{SheetReading}
-use Rattle.ledger.specs.Answers.{sheetReading}
+use Rattle.ledger.specs.Answers.{readNumber, sheetReading}
 use Rattle.ledger.specs.Questions.{Question8, ofSheet}
 use Rattle.ledger.specs.Reading.{NotForeign, SheetRead}
-use Rattle.ledger.specs.Listing.{GivesRows, EndsAs, listed, no-slots, zeroed, ListedAfter, SheetListed, ListPromise}
+use Rattle.ledger.specs.Listing.{GivesRows, EndsAs, listed, no-slots, zeroed, RefusedAlso, ThenListed, ListedAfter, SheetListed, ListPromise}
 use Rattle.ledger.specs.Run.{answerOf, wordsOf, stoppedWords}
 use Rattle.ledger.proofs.Tables.{size-up}
 use Rattle.ledger.proofs.Asked.{sheet-first}
@@ -179,6 +182,24 @@ module _ (img text : List ℕ) (cap : ℕ) (W R : List ℕ) (accepted : Accepted
                   rows-are = λ f y d. absurd (no-other (λ z. omega arith) (λ z. omega arith) (walk-fits f y d) w);
                 };
           }
+
+-- "gives 12 when the word of (start, 0) is held and impossible": a listing too, and then it leaves the row slots and zeroes the table.
+module _ {img text : List ℕ} {cap : ℕ} {W R : List ℕ} {a : ListAnswer} {W′ R′ : List ℕ} (s : SheetListed img text cap W R a W′ R′)
+    (h : isHeld (wordAt img W (start img) 0) ≡ true) (p : possible (wordAt img W (start img) 0) 0 (length text) ≡ false)
+  where
+    by-answer :
+        (r : ReadAnswer) → s .reading ≡ r → readNumber r ≡ 12 → ThenListed img text cap W r (s .words) R a W′ R′
+        → RefusedAlso 12 (clearedTable (rules img) cap W) R a W′ R′
+    by-answer (ReadAnswer.Read x) f e t = absurd (omega arith)
+    by-answer (ReadAnswer.Refused k) f e t =
+        record {
+          answer-is = t .answer-is ∙ ap ListAnswer.Refused e;
+          words-are = t .words-are ∙ s .reads .zeroed k f;
+          slots-are = t .slots-are;
+        }
+
+    pub impossible-listed : RefusedAlso 12 (clearedTable (rules img) cap W) R a W′ R′
+    impossible-listed = by-answer (s .reading) refl (s .reads .impossible h p) (s .then)
 
 -- A listing that fails one of questions 1 to 8.
 pub lists-unasked :

@@ -27,7 +27,7 @@ pub record Question11 (img : List ℕ) (n rule position : ℕ) : Type 0 where
   pub rule-in : rule < rules img
   pub position-in : position ≤ n
 
--- The questions of an opening and those in front of a reading, of an edit, and of a look-up.
+-- The questions of an opening and those in front of a reading or a listing, of an edit, and of a look-up.
 abbrev pub ofSheet : (img : List ℕ) (cap n words : ℕ) → List Question
 ofSheet img cap n words = ofImage img ++ record { number = 8; holds = Question8 img cap n words } ∷ []
 

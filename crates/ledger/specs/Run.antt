@@ -1,5 +1,5 @@
--- For the function that reads: the answer and the words that it makes of a run of the evaluator over the lent words. The promise does not
--- cite these; proofs/SheetReads.antt shows that they keep it.
+-- For the functions that read and list: the answer and the words that they make of a run of the evaluator over the lent words. The promises
+-- do not cite these; proofs/SheetReads.antt and SheetLists.antt show that they are kept.
 use Prim.Native.Nat.{ℕ}
 use mathlib.Core.Bool.{Bool, true, false}
 use mathlib.Core.List.{List}

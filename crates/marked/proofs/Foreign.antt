@@ -1,11 +1,13 @@
--- Witnesses for the guards of a reading's promise over words that are not true: on "12a" by D2, whatever keeps the promise answers what an
--- untrue start word says, and 12 where the start word is held and impossible. Assumes nothing.
+-- Witnesses for the guards of a reading's and a listing's promise over words that are not true: on "12a" by D2, what keeps the reading's
+-- promise answers what an untrue start word says; where the start word is held and impossible, a reading and a listing give 12.
+-- Assumes nothing.
 use Prim.Native.Nat.{ℕ}
 use native.Mathlib.Omega.{arith}
 use mathlib.Core.Path.{_≡_, refl}
 use mathlib.Core.List.{List, _∷_}
 use lib.ListN.{replicate}
 use Rattle.grammar.specs.Image.{rules, start}
+use Rattle.grammar.specs.Questions.{First}
 use Rattle.grammar.specs.Evaluates.{ev-record}
 use Rattle.grammar.proofs.Acceptance.{accepted}
 use Rattle.evaluation.specs.Calls.{bodiesOf, isIn}
@@ -14,10 +16,13 @@ use Rattle.records.specs.Words.{valueOf, matchedOf, nestingOf, examinedOf, leng
 use Rattle.reading.specs.Over.{over}
 use Rattle.reading.specs.declared.plain.Outcome.{Outcome}
 use Rattle.ledger.specs.declared.ReadAnswer.{ReadAnswer}
+use Rattle.ledger.specs.declared.ListAnswer.{ListAnswer}
 use Rattle.ledger.specs.Answers.{readNumber}
-use Rattle.ledger.specs.Questions.{Question8}
+use Rattle.ledger.specs.Questions.{Question8, ofSheet}
 use Rattle.ledger.specs.Reading.{SheetRead, ReadPromise}
+use Rattle.ledger.specs.Listing.{ListPromise}
 use Rattle.ledger.proofs.Asked.{sheet-one, sheet-first}
+use Rattle.ledger.proofs.SheetLists.{impossible-listed}
 use Rattle.marked.specs.Images.{D2}
 use Rattle.marked.specs.Sessions.{text12a}
 use Rattle.marked.proofs.Images.{d2-accepted}
@@ -30,12 +35,15 @@ two-rules : rules D2 ≡ 2
 unfolding rules D2
 two-rules = refl
 
-module _ {word : ℕ} {a : ReadAnswer} {W′ : List ℕ} (p : ReadPromise D2 text12a 3 (lentWords word) a W′) where
-  lent : Question8 D2 3 3 8
-  lent = record { short = omega arith; text-fits = omega arith; whole-table = omega (arith, two-rules) }
+-- Questions 1 to 8 hold.
+asked : {k : ℕ} → First (ofSheet D2 3 3 8) k → k ≡ 0
+asked {k} f =
+    sheet-one D2 3 3 8 k 0 f
+    (sheet-first D2 3 3 8 (accepted d2-accepted)
+    (record { short = omega arith; text-fits = omega arith; whole-table = omega (arith, two-rules) }))
 
-  read : SheetRead D2 text12a 3 (lentWords word) a W′
-  read = p .read (sheet-one D2 3 3 8 (p .number) 0 (p .first) (sheet-first D2 3 3 8 (accepted d2-accepted) lent))
+read : {word : ℕ} {a : ReadAnswer} {W′ : List ℕ} → ReadPromise D2 text12a 3 (lentWords word) a W′ → SheetRead D2 text12a 3 (lentWords word) a W′
+read p = p .read (asked (p .first))
 
 pub untrue-word-taken :
     {a : ReadAnswer} {W′ : List ℕ}
@@ -48,3 +56,10 @@ pub impossible-word-refused :
     {a : ReadAnswer} {W′ : List ℕ} → ReadPromise D2 text12a 3 (lentWords 0xC000000000000000) a W′ → readNumber a ≡ 12
 unfolding matchedOf nestingOf examinedOf lengthOf spareOf possible rules start D2
 impossible-word-refused p = read p .impossible refl refl
+
+pub impossible-word-not-listed :
+    {R : List ℕ} {a : ListAnswer} {W′ R′ : List ℕ} → ListPromise D2 text12a 3 (lentWords 0xC000000000000000) R a W′ R′
+    → (a ≡ ListAnswer.Refused 12) × (W′ ≡ replicate 8 0) × (R′ ≡ R)
+unfolding matchedOf nestingOf examinedOf lengthOf spareOf possible rules start D2
+impossible-word-not-listed p =
+    let x = impossible-listed (p .listed (asked (p .first))) refl refl in (x .answer-is, x .words-are, x .slots-are)

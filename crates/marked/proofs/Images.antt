@@ -12,21 +12,21 @@ use borrow.Author.Tests.{eqb-true}
 use Rattle.grammar.specs.Image.{edition, rules, nodes, start, ruleZero, root, ruleWord, kind, nodeZero, nodeWord, fieldA, fieldB}
 use Rattle.grammar.specs.Image.{node, nodeOfKind, body, Terminal}
 use Rattle.grammar.specs.Image.{Node, empty, terminal, sequence, choice, star, not-predicate, call, unlawful}
-use Rattle.grammar.specs.Outcomes.{Has, matches-empty, call-body, not-0, terminal-f}
+use Rattle.grammar.specs.Outcomes.{Has, matches-empty, call-body, then-00, else-0, else-second, not-0, terminal-f}
 use Rattle.grammar.specs.WellFormed.{WellFormed, wf-empty, wf-terminal, wf-call, wf-then, wf-else, wf-star, wf-not}
 use Rattle.grammar.specs.Questions.{Question6, Question7, Lawful, Checked}
 use Rattle.grammar.specs.Questions.{roots, childrenBelow, occurrences}
 use Rattle.grammar.proofs.Tests.{every, headerTest, ruleTest, nodeTest, wordsTest, onceTest, header-asked, words-asked, lawful-image}
 use Rattle.grammar.proofs.Acceptance.{checked, refused-6, refused-7}
-use Rattle.marked.specs.Images.{D2, M7, M8, M9, secondEdition, startTooHigh, byteTooMany, ownChild, orphan}
+use Rattle.marked.specs.Images.{D2, M7, M8, M9, parts, secondEdition, startTooHigh, byteTooMany, ownChild, orphan}
 
 -- The three tests that say that an image is lawful.
 abbrev Passes : List ℕ → Type 0
 Passes img = (headerTest img ≡ true) × (wordsTest img ≡ true) × (every (nodes img) (onceTest img) ≡ true)
 
-passes : Passes D2 × Passes M7 × Passes M8 × Passes M9
-unfolding D2 M7 M8 M9 every headerTest ruleTest nodeTest wordsTest onceTest edition rules nodes start ruleZero root ruleWord kind nodeZero nodeWord fieldA fieldB node nodeOfKind roots childrenBelow occurrences
-passes = ((refl, refl, refl), (refl, refl, refl), (refl, refl, refl), (refl, refl, refl))
+passes : Passes D2 × Passes M7 × Passes M8 × Passes M9 × Passes parts
+unfolding D2 M7 M8 M9 parts every headerTest ruleTest nodeTest wordsTest onceTest edition rules nodes start ruleZero root ruleWord kind nodeZero nodeWord fieldA fieldB node nodeOfKind roots childrenBelow occurrences
+passes = ((refl, refl, refl), (refl, refl, refl), (refl, refl, refl), (refl, refl, refl), (refl, refl, refl))
 
 lawful : {img : List ℕ} → Passes img → Lawful img
 lawful {img} p = lawful-image img (p .0) (p .1) (p .2)
@@ -52,6 +52,58 @@ d2-formed = record { every-node = go }
 
 pub d2-accepted : Checked D2 0
 d2-accepted = checked (record { lawful = lawful (passes .0); well-formed = d2-formed })
+
+-- parts: every node is well formed, rule 1 because each of its choices consumes.
+parts-formed : Question7 parts
+unfolding parts rules nodes root ruleWord kind nodeWord fieldA fieldB node nodeOfKind body
+parts-formed = record { every-node = go }
+  where
+    digit : WellFormed parts (call 2)
+    digit = wf-call wf-terminal
+
+    digit-consumes : Has parts (call 2) matches-empty → ⊥
+    digit-consumes (call-body h) = terminal-lacks-0 h
+
+    marked-digit : WellFormed parts (sequence 4 5)
+    marked-digit = wf-then digit (λ h. wf-terminal)
+
+    second-digit : WellFormed parts (sequence 7 10)
+    second-digit = wf-then (wf-not (wf-not digit)) (λ h. digit)
+
+    line : WellFormed parts (choice 3 6)
+    line = wf-else marked-digit second-digit
+
+    -- Both choices consume a digit.
+    first-consumes : Has parts (sequence 4 5) matches-empty → ⊥
+    first-consumes (then-00 h k) = digit-consumes h
+
+    second-consumes : Has parts (sequence 7 10) matches-empty → ⊥
+    second-consumes (then-00 h k) = digit-consumes k
+
+    not-empty : Has parts (choice 3 6) matches-empty → ⊥
+    not-empty (else-0 h) = first-consumes h
+    not-empty (else-second f h) = second-consumes h
+
+    line-consumes : Has parts (call 1) matches-empty → ⊥
+    line-consumes (call-body h) = not-empty h
+
+    go : (n : ℕ) → n < 12 → WellFormed parts (node parts n)
+    go zero l = wf-star (wf-call line) line-consumes
+    go (suc zero) l = wf-call line
+    go (suc (suc zero)) l = line
+    go (suc (suc (suc zero))) l = marked-digit
+    go (suc (suc (suc (suc zero)))) l = digit
+    go (suc (suc (suc (suc (suc zero))))) l = wf-terminal
+    go (suc (suc (suc (suc (suc (suc zero)))))) l = second-digit
+    go (suc (suc (suc (suc (suc (suc (suc zero))))))) l = wf-not (wf-not digit)
+    go (suc (suc (suc (suc (suc (suc (suc (suc zero)))))))) l = wf-not digit
+    go (suc (suc (suc (suc (suc (suc (suc (suc (suc zero))))))))) l = digit
+    go (suc (suc (suc (suc (suc (suc (suc (suc (suc (suc zero)))))))))) l = digit
+    go (suc (suc (suc (suc (suc (suc (suc (suc (suc (suc (suc zero))))))))))) l = wf-terminal
+    go (suc (suc (suc (suc (suc (suc (suc (suc (suc (suc (suc (suc n)))))))))))) l = absurd (omega arith)
+
+pub parts-accepted : Checked parts 0
+parts-accepted = checked (record { lawful = lawful (passes .4); well-formed = parts-formed })
 
 -- The nodes that M7 and M8 come back to without consuming: a node whose first child is node 1, and a call of rule 0.
 onRing : Node → Bool

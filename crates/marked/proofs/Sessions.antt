@@ -22,15 +22,18 @@ use Rattle.ledger.specs.Sessions.{SessionSays}
 use Rattle.ledger.proofs.LoadedImage.{wordsFrom}
 use Rattle.ledger.proofs.Runs.{repliesOf}
 use Rattle.ledger.proofs.Sessions.{session-says}
-use Rattle.marked.specs.Images.{D2}
+use Rattle.marked.specs.Images.{D2, parts}
 use Rattle.marked.specs.Sessions.{text12a, calls1, replies1, calls2, replies2, calls3, replies3, calls4, replies4, calls5, replies5, text12, calls6, replies6}
-use Rattle.marked.specs.Sessions.{callsOver, repliesOver, callsRefused, repliesRefused, callsListed, repliesListed}
-use Rattle.marked.proofs.Images.{d2-accepted}
+use Rattle.marked.specs.Sessions.{callsOver, repliesOver, callsRefused, repliesRefused, callsListed, repliesListed, textParts, callsParts, repliesParts}
+use Rattle.marked.proofs.Images.{d2-accepted, parts-accepted}
 
 -- The calls as functions give these replies.
+abbrev ComputedBy : (img : List ℕ) (cap : ℕ) (text : List ℕ) → List Call → List Reply → Type 0
+ComputedBy img cap text calls answers =
+    repliesOf (loan img (opened cap text) (length text) (replicate (tableSize (rules img) cap) 0)) calls ≡ answers
+
 abbrev Computed : (text : List ℕ) → List Call → List Reply → Type 0
-Computed text calls answers =
-    repliesOf (loan D2 (opened 4 text) (length text) (replicate (tableSize (rules D2) 4) 0)) calls ≡ answers
+Computed = ComputedBy D2 4
 
 computed :
     Computed text12a calls1 replies1
@@ -46,12 +49,15 @@ unfolding D2 rules nodes start ruleWord root nodeWord kind fieldA fieldB nodeOfK
 computed = (refl, refl, refl, refl, refl, refl, refl)
 
 -- The same for the sessions with listings, which walk.
-listed : Computed text12 calls6 replies6 × Computed text12 callsListed repliesListed
-unfolding D2 rules nodes start ruleWord root nodeWord kind fieldA fieldB nodeOfKind node body accepts terminalAt matchedOf
+listed :
+    Computed text12 calls6 replies6
+    × Computed text12 callsListed repliesListed
+    × ComputedBy parts 3 textParts callsParts repliesParts
+unfolding D2 parts rules nodes start ruleWord root nodeWord kind fieldA fieldB nodeOfKind node body accepts terminalAt matchedOf
     spareOf nestingOf examinedOf lengthOf valueOf wordOf possible afterFirst afterChoice afterRound roundsM met looked pairM
     kindM nodeM textAfter wordAfter wordsAfter wordsFrom wordNode after bind afterLook partV joined walk.afterFirst walk.afterChoice walk.afterRound
     roundsV entered walk.met pairV kindV nodeV startV touches rowWord rowWords
-listed = (refl, refl)
+listed = (refl, refl, refl)
 
 -- D2 is accepted.
 says :
@@ -85,3 +91,6 @@ m6-holds = says text12 calls6 replies6 (omega arith) (listed .0)
 
 pub listed-holds : SessionSays D2 text12 4 callsListed repliesListed
 listed-holds = says text12 callsListed repliesListed (omega arith) (listed .1)
+
+pub parts-holds : SessionSays parts textParts 3 callsParts repliesParts
+parts-holds = session-says parts textParts 3 (accepted parts-accepted) (omega arith) (omega arith) callsParts repliesParts (listed .2)

@@ -9,8 +9,8 @@ use Rattle.reading.specs.Plain.{PlainRead}
 use Rattle.ledger.specs.Ledger.{Call, Reply}
 use Rattle.ledger.specs.Sessions.{SessionSays}
 use Rattle.marked.specs.Sessions.{text12a, calls1, replies1, calls2, replies2, calls3, replies3, calls4, replies4, calls5, replies5, text12, calls6, replies6}
-use Rattle.marked.specs.Sessions.{callsOver, repliesOver, callsRefused, repliesRefused, callsListed, repliesListed, callsDeep, repliesDeep}
-use Rattle.marked.specs.Images.{D2, M7, M8, M9, M10, brackets, secondEdition, startTooHigh, byteTooMany, ownChild, orphan}
+use Rattle.marked.specs.Sessions.{callsOver, repliesOver, callsRefused, repliesRefused, callsListed, repliesListed, callsDeep, repliesDeep, textParts, callsParts, repliesParts}
+use Rattle.marked.specs.Images.{D2, M7, M8, M9, M10, brackets, parts, secondEdition, startTooHigh, byteTooMany, ownChild, orphan}
 
 pub data Line : Type 0 where
   -- the image check gives this image this number
@@ -62,5 +62,7 @@ witnesses =
     ∷ session D2 text12a 4 callsOver repliesOver
     ∷ session D2 text12a 4 callsRefused repliesRefused
     ∷ session D2 text12 4 callsListed repliesListed
+    ∷ image-number parts 0
+    ∷ session parts textParts 3 callsParts repliesParts
     ∷ session M10 (brackets 1365) 1365 callsDeep repliesDeep
     ∷ []

@@ -1,7 +1,6 @@
--- The marked cases that are sessions: the text opened, the calls, and every reply along them, in a buffer of 4 bytes.
+-- The marked cases that are sessions, and witnesses: the text opened, the calls, and every reply along them.
 use Prim.Native.Nat.{ℕ}
 use mathlib.Core.List.{List, [], _∷_}
-use lib.ListN.{length}
 use Rattle.reading.specs.declared.plain.Outcome.{Outcome}
 use Rattle.ledger.specs.declared.EditAnswer.{EditAnswer}
 use Rattle.ledger.specs.declared.EditedSheet.{EditedSheet}
@@ -25,14 +24,14 @@ stand length standing = edits (EditAnswer.Edited (record { length = length; stan
 abbrev pub word : ℕ → Reply
 word w = finds (LookUpAnswer.Word w)
 
--- The reply of a listing that gave rows with these words.
-abbrev pub rowsGiven : Outcome → (length examined nesting evaluations : ℕ) → List ℕ → Reply
-rowsGiven outcome len examined nesting evaluations words =
+-- The reply of a listing that gave so many rows, with these words.
+abbrev pub listed : Outcome → (length examined nesting evaluations rows : ℕ) → List ℕ → Reply
+listed outcome length examined nesting evaluations rows words =
     lists
     (ListAnswer.Listed
     (record {
-      reading = record { outcome = outcome; length = len; examined = examined; nesting = nesting; evaluations = evaluations };
-      rows = length words;
+      reading = record { outcome = outcome; length = length; examined = examined; nesting = nesting; evaluations = evaluations };
+      rows = rows;
     }))
     words
 
@@ -87,30 +86,9 @@ abbrev pub calls6 : List Call
 calls6 = listing 3 ∷ listing 2 ∷ []
 
 abbrev pub replies6 : List Reply
-replies6 = rowsGiven Outcome.Whole 2 3 4 4 rows12 ∷ lists (ListAnswer.Refused 15) [] ∷ []
+replies6 = listed Outcome.Whole 2 3 4 4 3 rows12 ∷ lists (ListAnswer.Refused 15) [] ∷ []
 
--- A listing refused with 15 is a reading: the one after it evaluates nothing. More slots than rows are no hindrance, and no match gives 0
--- rows.
-abbrev pub callsListed : List Call
-callsListed = listing 2 ∷ reading ∷ listing 9 ∷ edit 0 2 [] ∷ listing 0 ∷ []
-
-abbrev pub repliesListed : List Reply
-repliesListed =
-    lists (ListAnswer.Refused 15) []
-    ∷ answers Outcome.Whole 2 3 4 0
-    ∷ rowsGiven Outcome.Whole 2 3 4 0 rows12
-    ∷ stand 0 1
-    ∷ rowsGiven Outcome.Nothing 0 1 3 1 []
-    ∷ []
-
--- A start pair whose nesting is above 4,096: 14 for a reading and for a listing.
-abbrev pub callsDeep : List Call
-callsDeep = reading ∷ listing 1 ∷ []
-
-abbrev pub repliesDeep : List Reply
-repliesDeep = reads (ReadAnswer.Refused 14) ∷ lists (ListAnswer.Refused 14) [] ∷ []
-
--- Witnesses: "M1, then (2, 3, "3"), then says part where whole is right"; and a refusal with each of 9, 10 and 11, after which the session
+-- Witnesses. "M1, then (2, 3, "3"), then says part where whole is right"; and a refusal with each of 9, 10 and 11, after which the session
 -- goes on as before.
 abbrev pub callsOver : List Call
 callsOver = reading ∷ edit 2 3 (0x33 ∷ []) ∷ reading ∷ []
@@ -130,4 +108,40 @@ repliesRefused =
     ∷ finds (LookUpAnswer.Refused 11)
     ∷ word 0
     ∷ answers Outcome.Part 2 3 4 0
+    ∷ []
+
+-- A listing refused with 15 is a reading: the one after it evaluates nothing. More slots than rows are no hindrance, and no match gives 0
+-- rows.
+abbrev pub callsListed : List Call
+callsListed = listing 2 ∷ reading ∷ listing 9 ∷ edit 0 2 [] ∷ listing 0 ∷ []
+
+abbrev pub repliesListed : List Reply
+repliesListed =
+    lists (ListAnswer.Refused 15) []
+    ∷ answers Outcome.Whole 2 3 4 0
+    ∷ listed Outcome.Whole 2 3 4 0 3 rows12
+    ∷ stand 0 1
+    ∷ listed Outcome.Nothing 0 1 3 1 0 []
+    ∷ []
+
+-- A start pair whose nesting is above 4,096: 14 for a reading and for a listing.
+abbrev pub callsDeep : List Call
+callsDeep = reading ∷ listing 1 ∷ []
+
+abbrev pub repliesDeep : List Reply
+repliesDeep = reads (ReadAnswer.Refused 14) ∷ lists (ListAnswer.Refused 14) [] ∷ []
+
+-- By `parts`, "1!2" has rows two calls deep. Those of the choice that failed at 2 after a call had matched, those under a not, and those of
+-- the round that failed at the end are none of them.
+abbrev pub textParts : List ℕ
+textParts = 0x31 ∷ 0x21 ∷ 0x32 ∷ []
+
+abbrev pub callsParts : List Call
+callsParts = listing 5 ∷ listing 4 ∷ []
+
+abbrev pub repliesParts : List Reply
+repliesParts =
+    listed Outcome.Whole 3 4 8 7 5
+    (0x0000000000000003 ∷ 0x0100000100000002 ∷ 0x0200000200000001 ∷ 0x0100000100020001 ∷ 0x0200000200020001 ∷ [])
+    ∷ lists (ListAnswer.Refused 15) []
     ∷ []
