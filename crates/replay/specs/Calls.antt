@@ -3,6 +3,7 @@
 use Prim.Native.Nat.{ℕ}
 use mathlib.Core.Path.{_≡_}
 use mathlib.Core.List.{List}
+use lib.ListN.{length}
 use Rattle.ledger.specs.declared.OpenAnswer.{OpenAnswer}
 use Rattle.ledger.specs.declared.EditAnswer.{EditAnswer}
 use Rattle.ledger.specs.declared.EditedSheet.{EditedSheet}
@@ -44,3 +45,11 @@ pub record ListsSheet (img B : List ℕ) (n : ℕ) (W R : List ℕ) (count : ℕ
   pub answer : ListAnswer
   pub keeps : ListPromise img B n W R answer W′ R′
   pub gives : count ≡ rowsIn answer
+
+-- Over so many row slots.
+pub record ListsInto (img B : List ℕ) (n : ℕ) (W : List ℕ) (slots : ℕ) (W′ : List ℕ) : Type 0 where
+  pub lent : List ℕ
+  pub left : List ℕ
+  pub count : ℕ
+  pub many : length lent ≡ slots
+  pub lists : ListsSheet img B n W lent count W′ left

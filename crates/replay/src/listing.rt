@@ -6,7 +6,7 @@ use ledger::ListAnswer;
 ghost use Prim.Native.Nat.{_≤_};
 ghost use mathlib.Core.Path.{_≡_};
 ghost use lib.ListN.{length};
-ghost use Rattle.replay.specs.Calls.{rowsIn, ListsSheet};
+ghost use Rattle.replay.specs.Calls.{rowsIn, ListsSheet, ListsInto};
 
 fn rows_in(answer: ListAnswer) -> usize
     ensures { λ r. ⌜ r ≡ rowsIn answer ⌝ }
@@ -34,6 +34,7 @@ fn list_text(
     rows_in(answer)
 }
 
+// Prints the rows behind the answer.
 fn list_into(
     line: usize,
     n: usize,
@@ -41,13 +42,16 @@ fn list_into(
     buffer: &[u8],
     table: &mut [u64],
     rows: &mut [u64],
-) {
+)
+    ensures { λ _. ⌜ ListsInto (now (image .entry)) (now (buffer .entry)) n (now (table .entry)) (length (now (rows .entry))) (now (table .exit)) ⌝ }
+{
     let count = list_text(line, n, image, buffer, table, rows);
     answers::rows(&rows[0..count]);
 }
 
 fn list_slots(line: usize, n: usize, image: &[u8], buffer: &[u8], table: &mut [u64], slots: usize)
     requires { ⌜ slots ≤ 65536 ⌝ }
+    ensures { λ _. ⌜ ListsInto (now (image .entry)) (now (buffer .entry)) n (now (table .entry)) slots (now (table .exit)) ⌝ }
 {
     let mut rows = [0u64; 65536];
     list_into(line, n, image, buffer, table, &mut rows[0..slots]);

@@ -1,7 +1,7 @@
 // Replays lists of calls on a sheet: reads them from standard input, makes each call of the library and prints its answer.
 //
 // The input is lines, each ended by a newline; fields are separated by one space. CAP, WORDS, S, E, RULE, POSITION and
-// SLOTS are decimal numbers below 2^64. HEX is bytes as pairs of hexadecimal digits in either case, and is left out where there are none.
+// SLOTS are decimal numbers below 2^64. HEX is bytes as pairs of hexadecimal digits in either case, left out where there are none.
 //
 //   # words             is copied to the output; an empty line is passed over
 //   image HEX           the image that later calls are lent: at most 65,536 bytes; at first none
@@ -18,7 +18,7 @@
 //   4 edit: length 2, standing 2
 //   5 read: part, length 2, examined 3, nesting 4, evaluations 4        whole, part or none
 //   6 look: word c000000800030002
-//   7 list: whole, length 2, examined 3, nesting 4, evaluations 3, rows 3 0000000000000002 0100000100000001 0100000100010001
+//   7 list: whole, length 1, examined 2, nesting 4, evaluations 3, rows 2 0000000000000001 0100000100000001      the rows' words
 //   8 read: refused 14                                                  the number of the question that fails
 //
 // The text's length that a call is lent is the last one that an open or an edit answered, at first 0; buffer and table keep what calls
