@@ -3,12 +3,16 @@
 use Prim.Native.Nat.{ℕ}
 use mathlib.Core.Path.{_≡_}
 use mathlib.Core.List.{List}
+use lib.ListN.{length}
 use Rattle.ledger.specs.declared.OpenAnswer.{OpenAnswer}
 use Rattle.ledger.specs.declared.EditAnswer.{EditAnswer}
 use Rattle.ledger.specs.declared.EditedSheet.{EditedSheet}
 use Rattle.ledger.specs.declared.ReadAnswer.{ReadAnswer}
+use Rattle.ledger.specs.declared.ListAnswer.{ListAnswer}
+use Rattle.ledger.specs.declared.SheetListing.{SheetListing}
 use Rattle.ledger.specs.Promises.{OpenPromise, EditPromise}
 use Rattle.ledger.specs.Reading.{ReadPromise}
+use Rattle.ledger.specs.Listing.{ListPromise}
 
 abbrev pub afterOpen : OpenAnswer → ℕ → ℕ
 afterOpen (OpenAnswer.Opened k) n = k
@@ -31,3 +35,21 @@ pub record Edits (img B : List ℕ) (n : ℕ) (W : List ℕ) (s e : ℕ) (r : Li
 pub record ReadsSheet (img B : List ℕ) (n : ℕ) (W W′ : List ℕ) : Type 0 where
   pub answer : ReadAnswer
   pub keeps : ReadPromise img B n W answer W′
+
+-- The rows of an answer, none where the listing is refused: so many words are printed.
+abbrev pub rowsIn : ListAnswer → ℕ
+rowsIn (ListAnswer.Listed x) = x .rows
+rowsIn (ListAnswer.Refused q) = 0
+
+pub record ListsSheet (img B : List ℕ) (n : ℕ) (W R : List ℕ) (count : ℕ) (W′ R′ : List ℕ) : Type 0 where
+  pub answer : ListAnswer
+  pub keeps : ListPromise img B n W R answer W′ R′
+  pub gives : count ≡ rowsIn answer
+
+-- Over so many row slots.
+pub record ListsInto (img B : List ℕ) (n : ℕ) (W : List ℕ) (slots : ℕ) (W′ : List ℕ) : Type 0 where
+  pub lent : List ℕ
+  pub left : List ℕ
+  pub count : ℕ
+  pub many : length lent ≡ slots
+  pub lists : ListsSheet img B n W lent count W′ left

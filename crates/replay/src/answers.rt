@@ -1,5 +1,6 @@
 // The lines that are printed.
 use ledger::EditAnswer;
+use ledger::ListAnswer;
 use ledger::LookUpAnswer;
 use ledger::OpenAnswer;
 use ledger::ReadAnswer;
@@ -32,18 +33,15 @@ fn begin(line: usize, call: &[u8]) {
 
 fn refused(number: u8) {
     say_number(b"refused ", wide_byte(number));
-    say(b"\n");
 }
 
 pub fn of_open(line: usize, answer: OpenAnswer) {
     begin(line, b"open: ");
     match answer {
-        OpenAnswer::Opened(length) => {
-            say_number(b"length ", wide(length));
-            say(b"\n");
-        }
+        OpenAnswer::Opened(length) => say_number(b"length ", wide(length)),
         OpenAnswer::Refused(number) => refused(number),
     }
+    say(b"\n");
 }
 
 pub fn of_edit(line: usize, answer: EditAnswer) {
@@ -52,10 +50,10 @@ pub fn of_edit(line: usize, answer: EditAnswer) {
         EditAnswer::Edited(sheet) => {
             say_number(b"length ", wide(sheet.length));
             say_number(b", standing ", wide(sheet.standing));
-            say(b"\n");
         }
         EditAnswer::Refused(number) => refused(number),
     }
+    say(b"\n");
 }
 
 fn outcome(outcome: Outcome) {
@@ -66,22 +64,49 @@ fn outcome(outcome: Outcome) {
     }
 }
 
-fn read(reading: SheetReading) {
+fn reading(reading: SheetReading) {
     let found = reading.outcome;
     outcome(found);
     say_number(b", length ", wide(reading.length));
     say_number(b", examined ", wide(reading.examined));
     say_number(b", nesting ", wide(reading.nesting));
     say_number(b", evaluations ", reading.evaluations);
-    say(b"\n");
 }
 
 pub fn of_read(line: usize, answer: ReadAnswer) {
     begin(line, b"read: ");
     match answer {
-        ReadAnswer::Read(reading) => read(reading),
+        ReadAnswer::Read(found) => reading(found),
         ReadAnswer::Refused(number) => refused(number),
     }
+    say(b"\n");
+}
+
+// The line goes on with the rows.
+pub fn of_list(line: usize, answer: ListAnswer) {
+    begin(line, b"list: ");
+    match answer {
+        ListAnswer::Listed(listing) => {
+            reading(listing.reading);
+            say_number(b", rows ", wide(listing.rows));
+        }
+        ListAnswer::Refused(number) => refused(number),
+    }
+}
+
+fn row(word: u64) {
+    say(b" ");
+    io::print_hex(1, word, 16);
+}
+
+// The words of a listing's rows, each after a space, and the end of its line.
+pub fn rows(words: &[u64]) {
+    let mut i: usize = 0;
+    while i < words.len() {
+        row(words[i]);
+        i += 1;
+    }
+    say(b"\n");
 }
 
 pub fn of_look_up(line: usize, answer: LookUpAnswer) {
@@ -90,10 +115,10 @@ pub fn of_look_up(line: usize, answer: LookUpAnswer) {
         LookUpAnswer::Word(word) => {
             say(b"word ");
             io::print_hex(1, word, 16);
-            say(b"\n");
         }
         LookUpAnswer::Refused(number) => refused(number),
     }
+    say(b"\n");
 }
 
 pub fn comment(words: &[u8]) {
@@ -118,6 +143,10 @@ pub fn too_long(line: usize) {
 
 pub fn too_much_lent(line: usize) {
     message(line, b"more than 65536 bytes or 131072 words to lend");
+}
+
+pub fn too_many_slots(line: usize) {
+    message(line, b"more than 65536 row slots to lend");
 }
 
 pub fn too_much_input() {

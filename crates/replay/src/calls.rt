@@ -1,4 +1,4 @@
-// The four calls, over what is lent to them. Each prints its answer and gives the text's length after the call.
+// The calls but the listing, over what is lent to them. Each prints its answer; those that may change the text give its length afterwards.
 use crate::answers;
 use crate::fields;
 use crate::fields::Decoded;

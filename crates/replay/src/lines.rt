@@ -4,6 +4,7 @@ use crate::calls;
 use crate::fields;
 use crate::fields::Decoded;
 use crate::fields::Numbers;
+use crate::listing;
 use crate::verbs;
 use crate::verbs::Verb;
 
@@ -87,6 +88,10 @@ fn call(
         }
         Verb::Look => {
             calls::look_up(rest, line, n, image, buffer, table);
+            n
+        }
+        Verb::List => {
+            listing::list(rest, line, n, image, buffer, table);
             n
         }
         _ => {

@@ -1,7 +1,7 @@
 // Replays lists of calls on a sheet: reads them from standard input, makes each call of the library and prints its answer.
 //
-// The input is lines, each ended by a newline; fields are separated by one space. CAP, WORDS, S, E, RULE and POSITION are
-// decimal numbers below 2^64. HEX is bytes as pairs of hexadecimal digits in either case, and is left out where there are none.
+// The input is lines, each ended by a newline; fields are separated by one space. CAP, WORDS, S, E, RULE, POSITION and
+// SLOTS are decimal numbers below 2^64. HEX is bytes as pairs of hexadecimal digits in either case, left out where there are none.
 //
 //   # words             is copied to the output; an empty line is passed over
 //   image HEX           the image that later calls are lent: at most 65,536 bytes; at first none
@@ -10,7 +10,7 @@
 //   edit S E HEX        bytes S to E - 1 give way to HEX
 //   read                reads the text
 //   look RULE POSITION  looks a pair up
-//   list WORDS          is kept for the listing of rows, which the library does not have yet
+//   list SLOTS          lists the rows of the text into SLOTS row slots, at most 65,536
 //
 // A call is answered by a line with the number of its input line, counted from 1: as one of
 //
@@ -18,15 +18,17 @@
 //   4 edit: length 2, standing 2
 //   5 read: part, length 2, examined 3, nesting 4, evaluations 4        whole, part or none
 //   6 look: word c000000800030002
-//   7 read: refused 14                                                  the number of the question that fails
+//   7 list: whole, length 1, examined 2, nesting 4, evaluations 3, rows 2 0000000000000001 0100000100000001      the rows' words
+//   8 read: refused 14                                                  the number of the question that fails
 //
 // The text's length that a call is lent is the last one that an open or an edit answered, at first 0; buffer and table keep what calls
 // leave in them, also where another image or less of them is lent. A line that is none of these gets a message with its number, as
-// `8: not understood`, changes nothing, and the next line follows. An input of 262,144 bytes or more gets a message and no answer.
+// `9: not understood`, changes nothing, and the next line follows. An input of 262,144 bytes or more gets a message and no answer.
 mod answers;
 mod calls;
 mod fields;
 mod lines;
+mod listing;
 mod verbs;
 
 use lines::Session;

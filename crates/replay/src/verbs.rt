@@ -10,6 +10,7 @@ pub enum Verb {
     Edit,
     Read,
     Look,
+    List,
     Unknown,
 }
 
@@ -32,6 +33,9 @@ fn named(field: &[u8]) -> Verb {
     }
     if check::same(field, b"look") {
         return Verb::Look;
+    }
+    if check::same(field, b"list") {
+        return Verb::List;
     }
     Verb::Unknown
 }
