@@ -2,6 +2,7 @@
 
 mod deep;
 mod drawn;
+mod listed;
 mod marked;
 mod refused;
 mod typed;
@@ -12,7 +13,7 @@ use bannelgo_host::expr::Grammar;
 use bannelgo_host::numbering::{image_of, Numbering};
 
 pub fn all() -> Vec<Line> {
-    let parts: [fn() -> Vec<Line>; 10] = [
+    let parts: [fn() -> Vec<Line>; 15] = [
         marked::before_anything,
         marked::digits,
         marked::tempting,
@@ -23,6 +24,11 @@ pub fn all() -> Vec<Line> {
         deep::deep,
         typed::typed,
         drawn::drawn,
+        listed::digits,
+        listed::refused,
+        listed::rows_of_calls,
+        listed::many,
+        drawn::drawn_with_listings,
     ];
     parts.iter().flat_map(|part| part()).collect()
 }
@@ -59,6 +65,10 @@ fn look(rule: usize, position: usize) -> Line {
 
 fn read() -> Line {
     Line::Call(Call::Read)
+}
+
+fn list(slots: usize) -> Line {
+    Line::Call(Call::List { slots })
 }
 
 /// The first lines of a session over a grammar.

@@ -72,6 +72,7 @@ pub fn refused_images() -> Vec<Line> {
     ];
     for bytes in images {
         lines.extend([image(bytes), open(b"5"), edit(2, 1, ""), read(), look(9, 9)]);
+        lines.push(list(0));
     }
     lines.extend([image(&D2), read(), look(0, 0)]);
     lines
@@ -79,7 +80,11 @@ pub fn refused_images() -> Vec<Line> {
 
 pub fn bad_lines() -> Vec<Line> {
     let not_understood = [
-        "list 100",
+        "list",
+        "list 1 2",
+        "list ten",
+        "list -1",
+        "list 18446744073709551616",
         "frob",
         " read",
         "read now",
@@ -104,6 +109,9 @@ pub fn bad_lines() -> Vec<Line> {
     let too_much = "more than 65536 bytes or 131072 words to lend";
     lines.push(Line::Bad("lend 65537 12", too_much));
     lines.push(Line::Bad("lend 5 131073", too_much));
+    let too_many = "more than 65536 row slots to lend";
+    lines.push(Line::Bad("list 65537", too_many));
+    lines.push(Line::Bad("list 18446744073709551615", too_many));
     lines.extend([read(), look(0, 0)]);
     lines
 }
