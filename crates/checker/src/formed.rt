@@ -69,6 +69,7 @@ pub fn formed_nodes(
     formed
 }
 
+// Question 7: whether every node is marked.
 pub fn all_formed(image: &[u8], formed: &[bool; 1024]) -> bool
     requires { ⌜ Lawful (now image) × Formed (now image) (now formed) ⌝ }
     ensures { λ yes. ⌜ Tells yes (Question7 (now (image .entry))) ⌝ }

@@ -17,6 +17,7 @@ fn linked_word(image: &[u8], n: usize) -> u32
     (7 * 268435456 + rule.root * 4096 + node.b) as u32
 }
 
+// The words of all nodes.
 pub fn node_words(image: &[u8]) -> [u32; 1024]
     requires { ⌜ Question2 (now image) ⌝ }
     ensures { λ r. ⌜ NodeWords (now (image .entry)) r ⌝ }

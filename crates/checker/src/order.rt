@@ -7,6 +7,7 @@ ghost use Rattle.grammar.specs.Image.{nodes};
 ghost use Rattle.grammar.specs.Questions.{Question2};
 ghost use Rattle.checker.specs.Order.{VisitsAll};
 
+// The nodes from the highest down to 0.
 pub fn round_order(image: &[u8]) -> [u16; 1024]
     requires { ⌜ Question2 (now image) ⌝ }
     ensures { λ r. ⌜ VisitsAll (nodes (now (image .entry))) r ⌝ }

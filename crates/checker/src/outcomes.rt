@@ -77,6 +77,7 @@ fn star_consumes(image: &[u8], known: &[u8; 1024], n: usize) -> bool
     true
 }
 
+// Question 6, asked of every node.
 pub fn stars_consume(image: &[u8], known: &[u8; 1024]) -> bool
     requires { ⌜ Lawful (now image) × Outcomes (now image) (now known) ⌝ }
     ensures { λ yes. ⌜ Tells yes (Question6 (now (image .entry))) ⌝ }

@@ -4,6 +4,7 @@ ghost use mathlib.Core.Path.{_≡_};
 ghost use Rattle.grammar.specs.Outcomes.{matches-empty, consumes, fails};
 ghost use Rattle.checker.specs.Sets.{bit, pack, union};
 
+// Whether a set has the outcome 0, 1 or f.
 pub fn has_empty(set: u8) -> bool
     ensures { λ r. ⌜ r ≡ bit matches-empty set ⌝ }
 {
@@ -28,6 +29,7 @@ fn set_of(stay: bool, consume: bool, fail: bool) -> u8
     stay as u8 + 2 * (consume as u8) + 4 * (fail as u8)
 }
 
+// The outcomes of either set.
 pub fn join(a: u8, b: u8) -> u8
     ensures { λ r. ⌜ (r ≡ union a b) × (r < 8) ⌝ }
 {

@@ -1,2 +1,3 @@
+-- The laws that the readers of an image need.
 pub mod PastTheEnd
 pub mod NodeWords

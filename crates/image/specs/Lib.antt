@@ -1,1 +1,2 @@
+-- What the readers of an image promise.
 pub mod Fields

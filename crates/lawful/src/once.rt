@@ -19,6 +19,7 @@ fn tally(counts: &mut [u8; 1024], n: usize)
     }
 }
 
+// Counts the root of each rule.
 fn tally_roots(image: &[u8], counts: &mut [u8; 1024])
     requires { ⌜ Question2 (now image) × Question4 (now image) × (length (now counts) ≡ 1024) ⌝ }
     ensures { λ _. ⌜ RootsTallied (now (image .entry)) (now (counts .entry)) (now (counts .exit)) ⌝ }
@@ -30,6 +31,7 @@ fn tally_roots(image: &[u8], counts: &mut [u8; 1024])
     }
 }
 
+// Counts the children of node n.
 fn tally_children_of(image: &[u8], n: usize, counts: &mut [u8; 1024])
     requires { ⌜ Question2 (now image) × Question4 (now image) × (n < nodes (now image)) × (length (now counts) ≡ 1024) ⌝ }
     ensures { λ _. ⌜ Tallied (now (counts .entry)) (now (counts .exit)) (children (node (now (image .entry)) n)) ⌝ }
@@ -48,6 +50,7 @@ fn tally_children_of(image: &[u8], n: usize, counts: &mut [u8; 1024])
     }
 }
 
+// Counts the children of every node.
 fn tally_children(image: &[u8], counts: &mut [u8; 1024])
     requires { ⌜ Question2 (now image) × Question4 (now image) × (length (now counts) ≡ 1024) ⌝ }
     ensures { λ _. ⌜ ChildrenTallied (now (image .entry)) (now (counts .entry)) (now (counts .exit)) ⌝ }
@@ -58,6 +61,7 @@ fn tally_children(image: &[u8], counts: &mut [u8; 1024])
     }
 }
 
+// Whether each node is counted exactly once.
 pub fn each_node_once(image: &[u8]) -> bool
     requires { ⌜ Question2 (now image) × Question4 (now image) ⌝ }
     ensures { λ yes. ⌜ Tells yes (Question5 (now (image .entry))) ⌝ }

@@ -4,6 +4,7 @@ ghost use Rattle.grammar.specs.Questions.{Question4, LawfulRule, LawfulNode};
 ghost use Rattle.lawful.specs.Tells.{Tells};
 ghost use Rattle.lawful.specs.Words.{RulesLawful, NodesLawful, Child, Unused, ByteRange, TwoChildren, OneChild, CallOf};
 
+// Whether the word of rule r is lawful: its zero bits are 0, its root is a node.
 fn rule_lawful(image: &[u8], r: usize) -> bool
     ensures { λ yes. ⌜ Tells yes (LawfulRule (now (image .entry)) r) ⌝ }
 {
@@ -110,6 +111,7 @@ fn call_lawful(image: &[u8], a: usize, b: usize) -> bool
     true
 }
 
+// Whether the word of node n is lawful: its zero bits are 0, and its fields are as its kind has them.
 fn node_lawful(image: &[u8], n: usize) -> bool
     ensures { λ yes. ⌜ Tells yes (LawfulNode (now (image .entry)) n) ⌝ }
 {
@@ -141,6 +143,7 @@ fn nodes_lawful(image: &[u8]) -> bool
     true
 }
 
+// Whether the words of all rules and nodes are lawful.
 pub fn words_lawful(image: &[u8]) -> bool
     ensures { λ yes. ⌜ Tells yes (Question4 (now (image .entry))) ⌝ }
 {

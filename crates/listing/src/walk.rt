@@ -374,6 +374,7 @@ fn wide(word: u32) -> usize
     word as usize
 }
 
+// The word in a slot of the table; a slot past it reads as 0.
 fn look(table: &[u64], slot: usize) -> u64
     ensures { λ r. ⌜ r ≡ getD (now (table .entry)) slot 0 ⌝ }
 {

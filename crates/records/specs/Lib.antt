@@ -1,2 +1,3 @@
+-- The record word (Words), and where a pair's record lies (Slots).
 pub mod Words
 pub mod Slots

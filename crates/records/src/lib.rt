@@ -32,6 +32,7 @@ fn wide(word: u64) -> usize
     word as usize
 }
 
+// The fields of a word, held or not.
 pub fn matched_of(word: u64) -> bool
     ensures { λ r. ⌜ r ≡ matchedOf word ⌝ }
 {
