@@ -2,7 +2,7 @@
 -- is not refused with 14 has a depth of at most 4,095 in each row, so that the fields of its word fit. Assumes nothing.
 --     rows-inside    the rows of a subject at a position of the text
 --     start-rows     the rows of the start pair
---     fields-fit     the fields of the row word
+--     start-fields   the words of these rows have their fields, and zero bits between rule and depth
 use Prim.Native.Nat.{ℕ, _+_, _≤_, _<_, _^_}
 use native.Mathlib.Omega.{arith}
 use mathlib.Core.Path.{_≡_, refl, ap, _∙_}
@@ -18,7 +18,7 @@ use Rattle.grammar.specs.Evaluates.{ev-star, ev-last-round, ev-round, ev-not, e
 use Rattle.grammar.proofs.References.{refers, root-in-range}
 use Rattle.evaluation.proofs.Plain.{fresh-within, no-record}
 use Rattle.evaluation.proofs.Range.{InImage}
-use Rattle.rows.specs.Rows.{Row, ifMatched, rowsOf}
+use Rattle.rows.specs.Rows.{Row, rowWord, Fields, AllFields, ifMatched, rowsOf}
 
 -- A row of a rule of so many, between two positions, with a depth below the bound.
 pub record Inside (rules from to top : ℕ) (r : Row) : Type 0 where
@@ -125,18 +125,28 @@ start-rows img text a {z} u =
     wider (omega arith) (omega (arith, fresh-within u (omega arith) .in-text)) (omega arith)
     (rows-inside img text (a .lawful .words) u (a .lawful .counts .start-rule) (omega arith) 0)
 
--- The fields of a row's word fit their bits.
-pub record Fits (r : Row) : Type 0 where
-  pub rule-fits : r .rule < 2 ^ 8
-  pub depth-fits : r .depth < 2 ^ 16
-  pub start-fits : r .start < 2 ^ 16
-  pub length-fits : r .length < 2 ^ 16
-
-pub fields-fit : {R from to top : ℕ} {r : Row} → R ≤ 64 → to ≤ 65535 → top ≤ 4096 → Inside R from to top r → Fits r
-fields-fit a b c i =
+-- The word of a row that lies in a short text has its fields.
+pub fields-fit : {R from to top : ℕ} {r : Row} → R ≤ 64 → to ≤ 65535 → top ≤ 4096 → Inside R from to top r → Fields (rowWord r) r
+unfolding rowWord
+fields-fit {r = r} a b c i =
+    let rule : r .rule < 2 ^ 8 = omega (arith, i .rule-in) in
+    let depth : r .depth < 2 ^ 16 = omega (arith, i .shallow) in
+    let start : r .start < 2 ^ 16 = omega (arith, i .up-to) in
+    let length : r .length < 2 ^ 16 = omega (arith, i .up-to) in
     record {
-      rule-fits = omega (arith, i .rule-in);
-      depth-fits = omega (arith, i .shallow);
-      start-fits = omega (arith, i .up-to);
-      length-fits = omega (arith, i .up-to);
+      rule-is = omega arith;
+      zero-bits = omega arith;
+      depth-is = omega arith;
+      start-is = omega arith;
+      length-is = omega arith;
     }
+
+all-fields : {R from to top : ℕ} {rs : List Row} → R ≤ 64 → to ≤ 65535 → top ≤ 4096 → AllInside R from to top rs → AllFields rs
+all-fields a b c none-left = tt
+all-fields a b c (and-then {r = r} i l) = (fields-fit {r = r} a b c i, all-fields a b c l)
+
+-- So has every row of a text that is not too deep.
+pub start-fields :
+    (img text : List ℕ) → Accepted img → length text ≤ 65535 → {z : Evaluation} (u : Fresh img text (a-pair (start img)) 0 z)
+    → z .nesting ≤ 4096 → AllFields (rowsOf u 0)
+start-fields img text a short u deep = all-fields (a .lawful .counts .few-rules) short deep (start-rows img text a u)

@@ -2,9 +2,11 @@
 -- failed round give no row. The start rule has a row." They are read off an evaluation by Ford's rules, not off the walk that writes
 -- them; any two derivations of an evaluation have the same rows (proofs/RowsOnce).
 use Prim.Native.Nat.{ℕ, _+_, _*_, _^_}
+use mathlib.Core.Path.{_≡_}
 use mathlib.Core.Bool.{Bool, true, false}
 use mathlib.Core.List.{List, [], _∷_, _++_}
 use Rattle.grammar.specs.declared.Evaluation.{Evaluation}
+use Rattle.grammar.specs.Image.{field}
 use Rattle.grammar.specs.Evaluates.{Fresh, Subject}
 use Rattle.grammar.specs.Evaluates.{ev-empty, ev-terminal, ev-then-first-fails, ev-then, ev-else-first, ev-else-second}
 use Rattle.grammar.specs.Evaluates.{ev-star, ev-last-round, ev-round, ev-not, ev-call, ev-body, ev-record}
@@ -20,6 +22,18 @@ pub record Row : Type 0 where
 unfoldable pub rowWord : Row → ℕ
 rowWord r = r .rule * 2 ^ 56 + r .depth * 2 ^ 32 + r .start * 2 ^ 16 + r .length
 
+-- A word that has a row's fields in these bits. The rows of a text that is not too deep have such words (proofs/RowsInside, `start-fields`).
+pub record Fields (word : ℕ) (r : Row) : Type 0 where
+  pub rule-is : field word 56 8 ≡ r .rule
+  pub zero-bits : field word 48 8 ≡ 0
+  pub depth-is : field word 32 16 ≡ r .depth
+  pub start-is : field word 16 16 ≡ r .start
+  pub length-is : field word 0 16 ≡ r .length
+
+abbrev pub AllFields : List Row → Type 0
+AllFields [] = Unit {0}
+AllFields (r ∷ rs) = Fields (rowWord r) r × AllFields rs
+
 unfoldable pub rowWords : List Row → List ℕ
 rowWords [] = []
 rowWords (r ∷ rs) = rowWord r ∷ rowWords rs
@@ -30,7 +44,8 @@ ifMatched true rs = rs
 ifMatched false rs = []
 
 -- The rows of an evaluation that has so many rows around it. "No match gives 0 rows." A sequence whose second part fails has none; a
--- star has those of its matched rounds. Without records no pair is answered by one: the last line is for none.
+-- star has those of its matched rounds. Without records no pair is answered by one, so that `ev-record` does not
+-- occur.
 unfoldable pub rowsOf : {img text : List ℕ} {s : Subject} {p : ℕ} {z : Evaluation} → Fresh img text s p z → (around : ℕ) → List Row
 rowsOf (ev-empty e) k = []
 rowsOf (ev-terminal e) k = []
