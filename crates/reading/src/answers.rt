@@ -1,9 +1,10 @@
 // The ways of combining evaluations, on their words: one function for each case of the paper.
-ghost use Prim.Native.Nat.{_+_, _≤_, _<_, max};
+ghost use Prim.Native.Nat.{_+_, _*_, _^_, _≤_, _<_, max};
 ghost use mathlib.Core.Path.{_≡_};
 ghost use Rattle.grammar.specs.Evaluates.{firstFailed, inSequence, takenOver, secondChoice, negated};
 ghost use Rattle.records.specs.Words.{wordOf, valueOf, nestingOf};
 ghost use Rattle.reading.specs.Gives.{Joinable};
+ghost use Rattle.reading.specs.Fresh.{raised};
 
 pub fn larger(a: usize, b: usize) -> usize
     ensures { λ r. ⌜ r ≡ max a b ⌝ }
@@ -93,4 +94,15 @@ pub fn negated_answer(x: u64) -> u64
         records::examined_of(x),
         0,
     )
+}
+
+// The word of an answer with so many calls around it; a refusal stays.
+pub fn raised_by(x: u64, levels: usize) -> u64
+    requires { ⌜ (16 ≤ x → x + levels * 8589934592 < 2 ^ 64) × (levels ≤ 4096) ⌝ }
+    ensures { λ r. ⌜ r ≡ raised x levels ⌝ }
+{
+    if x < 16 {
+        return x;
+    }
+    x + levels as u64 * 8589934592
 }
