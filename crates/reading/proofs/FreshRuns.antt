@@ -1,6 +1,6 @@
 -- The evaluator without records: the first step of a node, and the calls that stand around a body. The ways through the other kinds
 -- are those of Runs and Stars. Assumes nothing.
-use Prim.Native.Nat.{ℕ, zero, suc, _+_, _-_, _*_, _^_, _≤_, _<_}
+use Prim.Native.Nat.{ℕ, suc, _+_, _-_, _*_, _^_, _≤_, _<_}
 use native.Mathlib.Omega.{arith}
 use mathlib.Core.Path.{_≡_, refl, sym, ap, _∙_, subst}
 use mathlib.Core.Bool.{Bool, true, false}
@@ -14,7 +14,7 @@ use Rattle.grammar.specs.Image.{Node, call, nodeOfKind}
 use Rattle.image.specs.Fields.{WordFields}
 use Rattle.image.specs.declared.Node as image
 use Rattle.grammar.specs.Evaluates.{takenOver}
-use Rattle.records.specs.Words.{wordOf, valueOf}
+use Rattle.records.specs.Words.{wordOf}
 use Rattle.reading.specs.Model.{Out, kindM}
 use Rattle.reading.specs.Loaded.{wordNode, wordB}
 use Rattle.reading.specs.Fresh.{nodeF, bodyF, kindF, wordF, raisedIf, raised, Answers}

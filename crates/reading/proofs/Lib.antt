@@ -7,6 +7,7 @@ pub mod Runs
 pub mod Stars
 pub mod Rules
 pub mod FreshRuns
+pub mod FreshSame
 pub mod PlainReading
 pub mod Coding
 pub mod Consuming

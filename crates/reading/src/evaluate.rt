@@ -42,7 +42,7 @@ fn eval_node(
 }
 
 // A node's word at a position.
-pub fn eval_word(
+fn eval_word(
     words: &[u32; 4097],
     text: &[u8],
     table: &mut [u64],
