@@ -5,7 +5,6 @@ use native.Mathlib.Omega.{arith}
 use mathlib.Core.Path.{_≡_, refl, sym, ap, _∙_, subst}
 use mathlib.Core.Bool.{Bool, true, false}
 use mathlib.Core.List.{List, []}
-use mir.Val.{boolByte}
 use lib.ListN.{length, getD}
 use lib.Dec.{ltb}
 use borrow.Author.Tests.{ltb-true, ltb-false, le-ltb}
@@ -19,6 +18,7 @@ use Rattle.reading.specs.Model.{Out, kindM}
 use Rattle.reading.specs.Loaded.{wordNode, wordB}
 use Rattle.reading.specs.Fresh.{nodeF, bodyF, kindF, wordF, raisedIf, raised, Answers}
 use Rattle.reading.proofs.Gives.{found, says, gives-refusal}
+use Rattle.reading.proofs.Raised.{raised-word, word-below}
 use Rattle.reading.proofs.Runs.{call-refused, call-answered}
 use Rattle.reading.proofs.LoadedRuns.{word-is}
 
@@ -72,26 +72,12 @@ raised-more r k = go (ltb r 16) refl
         ∙ sum
         ∙ sym (ap (λ (b : Bool). raisedIf b r (1 + k)) e)
 
-pub raised-word : (x : Evaluation) → wordOf x + 1 * 8589934592 ≡ wordOf (takenOver x)
-unfolding wordOf
-raised-word x = omega arith
-
-byte-of : (b : Bool) → boolByte b < 2
-byte-of true = omega arith
-byte-of false = omega arith
-
-under : (x : Evaluation) → x .examined ≤ 65536 → x .length ≤ 65535 → wordOf x < 2 ^ 63 + 2 ^ 62 + (x .nesting + 1) * 8589934592
-unfolding wordOf
-under x e k =
-    let b = byte-of (x .matched) in
-    omega arith
-
 module _ {n at left : ℕ} {o : Out} {r : ℕ} (short : n ≤ 65535) (g : Answers n at left o r) where
   -- The sum stays in a machine word.
   pub raised-fits : (most : ℕ) → left ≤ most → most ≤ 4096 → 16 ≤ r → r + (most - left) * 8589934592 < 2 ^ 64
   raised-fits most l m h =
       let f = found short (omega arith) g h in
-      let w = under (f .value) (omega (arith, f .bounds .shape .up-to-end)) (omega (arith, f .bounds .shape .in-text)) in
+      let w = word-below (f .value) (omega (arith, f .bounds .shape .up-to-end)) (omega (arith, f .bounds .shape .in-text)) in
       omega (arith, f .word-is, f .bounds .allowed)
 
 -- A call, from its rule's body.
@@ -109,7 +95,7 @@ module _ {n at left : ℕ} (ws text : List ℕ) (root rule : ℕ) (short : n ≤
             let f = found short (omega arith) g (ltb-false r 16 e) in
             call-answered text (nodeF ws text left) (bodyF ws text left root) [] 0 short most rule g (ltb-false r 16 e)
             (ap (λ (b : Bool). raisedIf b r 1) e
-            ∙ ap (λ (j : ℕ). j + 1 * 8589934592) (f .word-is)
+            ∙ ap (λ (j : ℕ). j + 8589934592) (f .word-is)
             ∙ raised-word (f .value)
             ∙ ap (λ (x : Evaluation). wordOf (takenOver x)) (sym (says short (omega arith) f)))
 

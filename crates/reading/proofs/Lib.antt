@@ -6,6 +6,7 @@ pub mod LoadedWords
 pub mod Runs
 pub mod Stars
 pub mod Rules
+pub mod Raised
 pub mod FreshRuns
 pub mod FreshSame
 pub mod PlainReading

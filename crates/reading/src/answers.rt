@@ -55,17 +55,12 @@ pub fn in_sequence(x: u64, y: u64) -> u64
     }
 }
 
-// "A else B: A's if it matches;" also a call, from its rule's body
+// "A else B: A's if it matches;" also a call, from its rule's body. The field of the nesting goes up by one in its place.
 pub fn taken_over(x: u64) -> u64
-    requires { ⌜ nestingOf x ≤ 4096 ⌝ }
+    requires { ⌜ (x ≡ wordOf (valueOf x)) × (nestingOf x ≤ 4096) ⌝ }
     ensures { λ r. ⌜ r ≡ wordOf (takenOver (valueOf x)) ⌝ }
 {
-    answer(
-        records::matched_of(x),
-        1 + records::nesting_of(x),
-        records::examined_of(x),
-        records::length_of(x),
-    )
+    x + 8589934592
 }
 
 // "else B's outcome and length, examined the larger of both."

@@ -2,7 +2,7 @@ use Rattle.reading.proofs.FreshRuns.{fresh-too-deep, fresh-node-goes, f
 use Rattle.reading.proofs.Rules.{past-7}
 use Rattle.reading.proofs.LoadedRuns.{word-is, word-unlawful}
 use Rattle.reading.proofs.Stars.{Rounds, rounds-start, round-refused, round-still, round-fails, round-goes, round-bounds}
-use Rattle.reading.proofs.Runs.{not-refused, not-answered, nesting-allowed, length-within}
+use Rattle.reading.proofs.Runs.{not-refused, not-answered, nesting-allowed, says-itself, length-within}
 use Rattle.reading.proofs.Runs.{choice-refused, choice-first, choice-second-refused, choice-second}
 use Rattle.reading.proofs.Runs.{sequence-refused, sequence-failed, sequence-second-refused, joinable, sequence-both}
 use Rattle.reading.proofs.Gives.{was-refused, gives-value, gives-refusal}
@@ -200,7 +200,7 @@ fresh-choice-matched-of-requires t c κs = search needs
 
 fresh-choice-taken-over-requires : (t : ℕ) → fresh-choice-lts.Need-taken-over-requires (fresh-choice-claims t) (fresh-choice-at t) fresh-choice.Post
 fresh-choice-taken-over-requires t c κs =
-    omega (arith, nesting-allowed (c .before .before .before .before .before .pre .1 .0 .short) (omega (arith, c .before .before .before .before .before .pre .1 .0 .most)) (c .before .before .before .fresh-node .ensures) (c .before .before .if1 .left), c .before .before .before .before .before .pre .1 .0 .most)
+    (says-itself (c .before .before .before .before .before .pre .1 .0 .short) (omega (arith, c .before .before .before .before .before .pre .1 .0 .most)) (c .before .before .before .fresh-node .ensures) (c .before .before .if1 .left), omega (arith, nesting-allowed (c .before .before .before .before .before .pre .1 .0 .short) (omega (arith, c .before .before .before .before .before .pre .1 .0 .most)) (c .before .before .before .fresh-node .ensures) (c .before .before .if1 .left), c .before .before .before .before .before .pre .1 .0 .most))
 
 fresh-choice-returns-2 : (t : ℕ) → fresh-choice-lts.Need-returns-2 (fresh-choice-claims t) (fresh-choice-at t) fresh-choice.Post
 fresh-choice-returns-2 t c =
