@@ -6,6 +6,9 @@ ghost use Rattle.records.specs.Words.{wordOf, valueOf, nestingOf};
 ghost use Rattle.reading.specs.Gives.{Joinable};
 ghost use Rattle.reading.specs.Fresh.{raised};
 
+// The word of the empty node's evaluation: matched, nesting 1.
+pub const EMPTY_HERE: u64 = 0xC000_0002_0000_0000;
+
 pub fn larger(a: usize, b: usize) -> usize
     ensures { λ r. ⌜ r ≡ max a b ⌝ }
 {

@@ -1,5 +1,5 @@
-// The evaluator of a plain reading: without records, so that a call is its rule's body. It does what the evaluator over records does
-// over no table, in less time: no table and no count are handed on. `left` and the answer are those of `evaluate`.
+// The evaluator of a plain reading, which has no records: a call is its rule's body, and no table and no count are handed on.
+// `left` and the answers are as in `evaluate`, and so is what each function does.
 use crate::answers;
 use crate::terminals;
 ghost use Prim.Native.Nat.{_+_, _-_, _<_, _≤_};
@@ -8,9 +8,6 @@ ghost use lib.ListN.{length};
 ghost use Rattle.grammar.specs.Image.{sequence, choice, star, not-predicate};
 ghost use Rattle.reading.specs.Fresh.{NoCall, nodeF, kindF, wordF, Answers};
 ghost use Rattle.reading.specs.Gives.{Ready};
-
-// The word of the empty node's evaluation: matched, nesting 1.
-const EMPTY_HERE: u64 = 0xC000_0002_0000_0000;
 
 // A node at a position. A byte range is answered here, which saves the call that most visits would end in.
 fn fresh_node(words: &[u32; 4097], text: &[u8], node: usize, at: usize, left: usize) -> u64
@@ -60,7 +57,7 @@ fn fresh_inside(words: &[u32; 4097], text: &[u8], word: u32, at: usize, left: us
     let a = fields.a;
     let b = fields.b;
     match kind {
-        0 => EMPTY_HERE,
+        0 => answers::EMPTY_HERE,
         1 => terminals::any_byte(text, at),
         2 => terminals::byte_between(text, a, b, at),
         3 => fresh_sequence(words, text, a, b, at, left - 1),
