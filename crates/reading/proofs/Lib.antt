@@ -6,6 +6,9 @@ pub mod LoadedWords
 pub mod Runs
 pub mod Stars
 pub mod Rules
+pub mod Raised
+pub mod FreshRuns
+pub mod FreshSame
 pub mod PlainReading
 pub mod Coding
 pub mod Consuming

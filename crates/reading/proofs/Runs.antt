@@ -232,6 +232,18 @@ nesting-allowed short most g h =
     let f = found short most g h in
     omega (arith, says-nesting short most f, f .bounds .allowed)
 
+-- An answered word says its evaluation and nothing else.
+pub says-itself :
+    {n at left : ℕ} {o : Out} {r d : ℕ} {u : List ℕ}
+    → n ≤ 65535
+    → left ≤ 4096
+    → Gives n at left o r u d
+    → 16 ≤ r
+    → r ≡ wordOf (valueOf r)
+says-itself short most g h =
+    let f = found short most g h in
+    f .word-is ∙ ap wordOf (sym (says short most f))
+
 -- An answered word stays in the text.
 pub length-within :
     {n at left : ℕ} {o : Out} {r d : ℕ} {u : List ℕ}

@@ -1,9 +1,13 @@
 // The ways of combining evaluations, on their words: one function for each case of the paper.
-ghost use Prim.Native.Nat.{_+_, _≤_, _<_, max};
+ghost use Prim.Native.Nat.{_+_, _*_, _^_, _≤_, _<_, max};
 ghost use mathlib.Core.Path.{_≡_};
 ghost use Rattle.grammar.specs.Evaluates.{firstFailed, inSequence, takenOver, secondChoice, negated};
 ghost use Rattle.records.specs.Words.{wordOf, valueOf, nestingOf};
 ghost use Rattle.reading.specs.Gives.{Joinable};
+ghost use Rattle.reading.specs.Fresh.{raised};
+
+// The word of the empty node's evaluation: matched, nesting 1.
+pub const EMPTY_HERE: u64 = 0xC000_0002_0000_0000;
 
 pub fn larger(a: usize, b: usize) -> usize
     ensures { λ r. ⌜ r ≡ max a b ⌝ }
@@ -54,17 +58,12 @@ pub fn in_sequence(x: u64, y: u64) -> u64
     }
 }
 
-// "A else B: A's if it matches;" also a call, from its rule's body
+// "A else B: A's if it matches;" also a call, from its rule's body. The field of the nesting goes up by one in its place.
 pub fn taken_over(x: u64) -> u64
-    requires { ⌜ nestingOf x ≤ 4096 ⌝ }
+    requires { ⌜ (x ≡ wordOf (valueOf x)) × (nestingOf x ≤ 4096) ⌝ }
     ensures { λ r. ⌜ r ≡ wordOf (takenOver (valueOf x)) ⌝ }
 {
-    answer(
-        records::matched_of(x),
-        1 + records::nesting_of(x),
-        records::examined_of(x),
-        records::length_of(x),
-    )
+    x + 8589934592
 }
 
 // "else B's outcome and length, examined the larger of both."
@@ -93,4 +92,15 @@ pub fn negated_answer(x: u64) -> u64
         records::examined_of(x),
         0,
     )
+}
+
+// The word of an answer with so many calls around it; a refusal stays.
+pub fn raised_by(x: u64, levels: usize) -> u64
+    requires { ⌜ (16 ≤ x → x + levels * 8589934592 < 2 ^ 64) × (levels ≤ 4096) ⌝ }
+    ensures { λ r. ⌜ r ≡ raised x levels ⌝ }
+{
+    if x < 16 {
+        return x;
+    }
+    x + levels as u64 * 8589934592
 }

@@ -14,9 +14,6 @@ ghost use Rattle.reading.specs.Model.{pairM};
 ghost use Rattle.reading.specs.Loaded.{rulesIn, nodeW, wordM, kindW};
 ghost use Rattle.reading.specs.Gives.{Ready, Gives};
 
-// The word of the empty node's evaluation: matched, nesting 1.
-const EMPTY_HERE: u64 = 0xC000_0002_0000_0000;
-
 // A node at a position. A byte range is answered here, which saves the call that most visits would end in.
 fn eval_node(
     words: &[u32; 4097],
@@ -42,7 +39,7 @@ fn eval_node(
 }
 
 // A node's word at a position.
-pub fn eval_word(
+fn eval_word(
     words: &[u32; 4097],
     text: &[u8],
     table: &mut [u64],
@@ -59,7 +56,7 @@ pub fn eval_word(
     let a = fields.a;
     let b = fields.b;
     match kind {
-        0 => EMPTY_HERE,
+        0 => answers::EMPTY_HERE,
         1 => terminals::any_byte(text, at),
         2 => terminals::byte_between(text, a, b, at),
         3 => eval_sequence(words, text, table, count, a, b, at, left - 1),

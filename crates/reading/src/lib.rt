@@ -3,6 +3,7 @@
 mod answers;
 pub mod code;
 mod evaluate;
+mod fresh;
 pub mod loaded;
 mod memo;
 pub mod plain;

@@ -1,5 +1,5 @@
-// The memo table: where a pair's record lies. A slot past the table reads as 0, and a store past it does nothing, so a reading
-// without records lends no table.
+// The memo table: where a pair's record lies. A slot past the table reads as 0, and a store past it does nothing, so the evaluator
+// asks no room of the table.
 use records::Record;
 ghost use mathlib.Core.Path.{_≡_};
 ghost use lib.ListN.{getD, set};

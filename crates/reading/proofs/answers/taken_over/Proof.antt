@@ -1,38 +1,21 @@
+use native.Mathlib.Omega.{arith}
+use mathlib.Core.Path.{ap, _∙_}
+use Prim.Native.Nat.{ℕ, _+_}
 use Rattle.records.specs.Words.{valueOf}
-use borrow.Author.Needs.{needs}
+use Rattle.records.proofs.Codec.{examined-small, length-small}
+use Rattle.reading.proofs.Raised.{raised-word, word-below}
 use Rattle.reading.proofs.answers.taken_over.Statement.{statement}
 use Rattle.reading.proofs.answers.taken_over.Tie as tie
 
-matched-of-requires : tie.Need-matched-of-requires
-matched-of-requires c κs = search needs
-
-nesting-of-requires : tie.Need-nesting-of-requires
-nesting-of-requires c κs = search needs
-
-add-answer : tie.Need-add-answer
-add-answer c = search needs
-
-examined-of-requires : tie.Need-examined-of-requires
-examined-of-requires c κs = search needs
-
-length-of-requires : tie.Need-length-of-requires
-length-of-requires c κs = search needs
-
-answer-requires : tie.Need-answer-requires
-answer-requires c κs = search needs
+add-result : tie.Need-add-result
+unfolding valueOf
+add-result c =
+    let w = word-below (valueOf (c .args .x)) (examined-small (c .args .x)) (length-small (c .args .x)) in
+    omega (arith, w, c .pre .0, c .pre .1)
 
 returns : tie.Need-returns
-unfolding valueOf
-returns c = cc
+returns c =
+    ap (λ (j : ℕ). j + 8589934592) (c .pre .0) ∙ raised-word (valueOf (c .args .x))
 
 pub taken-over-spec : {M : Type 1} → statement M
-taken-over-spec =
-    tie.close
-    (tie.spec
-    matched-of-requires
-    nesting-of-requires
-    add-answer
-    examined-of-requires
-    length-of-requires
-    answer-requires
-    returns)
+taken-over-spec = tie.close (tie.spec add-result returns)

@@ -1,7 +1,7 @@
 use Rattle.reading.proofs.Rules.{was-possible, was-impossible, rule-impossible, rule-too-deep, rule-met, rule-refused, rule-stored, slot-fits, node-too-deep, node-goes, word-goes, past-7}
 use Rattle.reading.proofs.LoadedRuns.{word-is, word-unlawful}
 use Rattle.reading.proofs.Stars.{Rounds, rounds-start, round-refused, round-still, round-fails, round-goes, round-bounds}
-use Rattle.reading.proofs.Runs.{not-refused, not-answered, call-refused, call-answered, nesting-allowed, length-within}
+use Rattle.reading.proofs.Runs.{not-refused, not-answered, call-refused, call-answered, nesting-allowed, says-itself, length-within}
 use Rattle.reading.proofs.Runs.{choice-refused, choice-first, choice-second-refused, choice-second}
 use Rattle.reading.proofs.Runs.{sequence-refused, sequence-failed, sequence-second-refused, joinable, sequence-both}
 use Rattle.reading.proofs.Gives.{was-refused, gives-value, gives-refusal}
@@ -206,7 +206,7 @@ eval-call-returns t c =
 
 eval-call-taken-over-requires : (t : ℕ) → eval-call-lts.Need-taken-over-requires (eval-call-claims t) (eval-call-at t) eval-call.Post
 eval-call-taken-over-requires t c κs =
-    omega (arith, nesting-allowed (c .before .before .before .before .before .before .before .before .pre .1 .0 .short) (omega (arith, c .before .before .before .before .before .before .before .before .pre .1 .0 .most)) (c .before .before .before .eval-rule .ensures) (c .if1 .left), c .before .before .before .before .before .before .before .before .pre .1 .0 .most)
+    (says-itself (c .before .before .before .before .before .before .before .before .pre .1 .0 .short) (omega (arith, c .before .before .before .before .before .before .before .before .pre .1 .0 .most)) (c .before .before .before .eval-rule .ensures) (c .if1 .left), omega (arith, nesting-allowed (c .before .before .before .before .before .before .before .before .pre .1 .0 .short) (omega (arith, c .before .before .before .before .before .before .before .before .pre .1 .0 .most)) (c .before .before .before .eval-rule .ensures) (c .if1 .left), c .before .before .before .before .before .before .before .before .pre .1 .0 .most))
 
 eval-call-same-length-2 : (t : ℕ) → eval-call-lts.Need-same-length-2 (eval-call-claims t) (eval-call-at t) eval-call.Post
 eval-call-same-length-2 t c = search needs
@@ -231,7 +231,7 @@ eval-choice-matched-of-requires t c κs = search needs
 
 eval-choice-taken-over-requires : (t : ℕ) → eval-choice-lts.Need-taken-over-requires (eval-choice-claims t) (eval-choice-at t) eval-choice.Post
 eval-choice-taken-over-requires t c κs =
-    omega (arith, nesting-allowed (c .before .before .before .before .before .before .before .before .before .before .pre .1 .0 .short) (omega (arith, c .before .before .before .before .before .before .before .before .before .before .pre .1 .0 .most)) (c .before .before .before .before .before .eval-node .ensures) (c .before .before .if1 .left), c .before .before .before .before .before .before .before .before .before .before .pre .1 .0 .most)
+    (says-itself (c .before .before .before .before .before .before .before .before .before .before .pre .1 .0 .short) (omega (arith, c .before .before .before .before .before .before .before .before .before .before .pre .1 .0 .most)) (c .before .before .before .before .before .eval-node .ensures) (c .before .before .if1 .left), omega (arith, nesting-allowed (c .before .before .before .before .before .before .before .before .before .before .pre .1 .0 .short) (omega (arith, c .before .before .before .before .before .before .before .before .before .before .pre .1 .0 .most)) (c .before .before .before .before .before .eval-node .ensures) (c .before .before .if1 .left), c .before .before .before .before .before .before .before .before .before .before .pre .1 .0 .most))
 
 eval-choice-same-length-2 : (t : ℕ) → eval-choice-lts.Need-same-length-2 (eval-choice-claims t) (eval-choice-at t) eval-choice.Post
 eval-choice-same-length-2 t c = search needs
