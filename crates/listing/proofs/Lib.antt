@@ -4,4 +4,3 @@ pub mod Gives
 pub mod Paths
 pub mod Rules
 pub mod Passes
-pub mod Exact

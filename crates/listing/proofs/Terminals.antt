@@ -1,26 +1,19 @@
--- What the terminals tell: the length of a match, or that they fail. Assumes nothing.
-use Prim.Native.Nat.{ℕ, _≤_, _<_}
-use borrow.Author.Tests.{lt-ltb, le-ltb}
-use mathlib.Core.Path.{_≡_, sym, ap, _∙_}
-use mathlib.Core.Bool.{Bool, true, false, _&&_, and-false}
+-- What the terminals tell: the word of a terminal's evaluation says that evaluation. Assumes nothing.
+use Prim.Native.Nat.{ℕ}
+use mathlib.Core.Path.{_≡_, refl}
+use mathlib.Core.Bool.{Bool, true, false, _&&_}
 use mathlib.Core.List.{List}
 use lib.ListN.{length}
 use lib.Dec.{ltb}
 use Rattle.grammar.specs.Image.{byteAt, Terminal}
 use Rattle.grammar.specs.Terminal.{accepts, tested, terminalAt}
-use Rattle.listing.specs.Gives.{toldLength}
+use Rattle.records.specs.Words.{valueOf, wordOf, matchedOf, nestingOf, examinedOf, lengthOf}
 
-module _ (t : Terminal) (text : List ℕ) (p : ℕ) where
-  pub match-told : p < length text → accepts t (byteAt text p) ≡ true → 1 ≡ toldLength (terminalAt t text p)
-  unfolding terminalAt
-  match-told h a =
-      sym (ap (λ (b : Bool). toldLength (tested b)) (ap (λ (b : Bool). b && accepts t (byteAt text p)) (lt-ltb p (length text) h) ∙ a))
+by-test : (b : Bool) → valueOf (wordOf (tested b)) ≡ tested b
+unfolding valueOf wordOf matchedOf nestingOf examinedOf lengthOf
+by-test true = refl
+by-test false = refl
 
-  pub failure-told : accepts t (byteAt text p) ≡ false → 65536 ≡ toldLength (terminalAt t text p)
-  unfolding terminalAt
-  failure-told a =
-      sym (ap (λ (b : Bool). toldLength (tested b)) (ap (λ (b : Bool). ltb p (length text) && b) a ∙ and-false (ltb p (length text))))
-
-  pub end-told : length text ≤ p → 65536 ≡ toldLength (terminalAt t text p)
-  unfolding terminalAt
-  end-told h = sym (ap (λ (b : Bool). toldLength (tested b)) (ap (λ (b : Bool). b && accepts t (byteAt text p)) (le-ltb p (length text) h)))
+pub says-terminal : (t : Terminal) (text : List ℕ) (p : ℕ) → valueOf (wordOf (terminalAt t text p)) ≡ terminalAt t text p
+unfolding terminalAt
+says-terminal t text p = by-test (ltb p (length text) && accepts t (byteAt text p))

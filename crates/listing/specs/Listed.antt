@@ -1,6 +1,6 @@
 -- What a listing over records promises, whatever they are: it is the walk of crate rows; "Rows past the last written stay", and a refusal
 -- leaves the row slots.
-use Prim.Native.Nat.{ℕ, _≤_, _<_}
+use Prim.Native.Nat.{ℕ, _≤_}
 use mathlib.Core.Path.{_≡_}
 use mathlib.Core.Bool.{Bool}
 use mathlib.Core.List.{List, _++_}
@@ -37,11 +37,6 @@ ListedIn ws text table start root slots r left =
     ListedAs
     (pairV (rulesIn ws) root (length slots) text table (nodeV (length slots) ws text table 4096) start 0 0 (length text) 0 0)
     slots r left
-
--- The listing of rows that have these words: "15. Rows: do the rows fit? No: 15."
-pub data Answers (words slots : List ℕ) (r : Listed) (left : List ℕ) : Type 0 where
-  all-written : length words ≤ length slots → r ≡ Rows (length words) → left ≡ words ++ drop (length words) slots → Answers words slots r left
-  no-slots : length slots < length words → r ≡ Refused 15 → left ≡ slots → Answers words slots r left
 
 -- The start pair of an image, by a grammar that was loaded from it.
 pub record ListedOver (img text table slots : List ℕ) (r : Listed) (left : List ℕ) : Type 0 where

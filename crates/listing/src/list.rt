@@ -1,4 +1,5 @@
 // The rows of a start pair over records: counted first, and written only where they fit.
+use crate::bytes::FAILED;
 use crate::walk;
 ghost use Prim.Native.Nat.{_≤_, _<_};
 ghost use lib.ListN.{length};
@@ -42,8 +43,8 @@ pub fn list_in(
         0,
         4096,
     );
-    if 65536 < x {
-        return Listed::Refused(x - 65536);
+    if FAILED < x {
+        return Listed::Refused(x - FAILED);
     }
     let mut written = 0usize;
     walk::walk_rule(

@@ -2,6 +2,7 @@
 // that it matched and the window touches it. `left` is the remaining allowance of nesting, as in a reading. An answer is the length of
 // a match, 65,536 for a failure, or 65,536 and the number of a refusal.
 use crate::bytes;
+use crate::bytes::FAILED;
 use crate::slots;
 use records::Decoded;
 use records::Record;
@@ -12,8 +13,6 @@ ghost use Rattle.grammar.specs.Image.{sequence, choice, star, not-predicate};
 ghost use Rattle.reading.specs.Loaded.{rulesIn};
 ghost use Rattle.rows.specs.Walk.{partV, pairV, kindV, nodeV};
 ghost use Rattle.listing.specs.Gives.{Gives, Steady};
-
-const FAILED: usize = 65536;
 
 // A node at a position.
 fn walk_node(
@@ -115,6 +114,7 @@ fn walk_node(
             depth,
             left - 1,
         ),
+        // No accepted image has such a kind. A walk is refused with 12, 14 or 15 alone.
         8..=15 => FAILED + 12,
         _ => FAILED + 12,
     }

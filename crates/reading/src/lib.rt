@@ -8,4 +8,4 @@ pub mod loaded;
 mod memo;
 pub mod plain;
 pub mod session;
-mod terminals;
+pub mod terminals;

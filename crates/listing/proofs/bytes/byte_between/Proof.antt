@@ -1,30 +1,24 @@
-use Rattle.listing.proofs.Terminals.{match-told, failure-told, end-told}
-use Rattle.reading.proofs.TerminalWords.{between, below, above}
+use Prim.Native.Nat.{ℕ}
+use mathlib.Core.Path.{_≡_, ap, _∙_}
 use Rattle.grammar.specs.Image.{range}
-use lib.ListN.{getD}
-use native.Mathlib.Omega.{arith}
+use Rattle.records.specs.Words.{valueOf}
+use Rattle.listing.specs.Gives.{toldLength}
+use Rattle.listing.proofs.Terminals.{says-terminal}
 use borrow.Author.Needs.{needs}
 use Rattle.listing.proofs.bytes.byte_between.Statement.{statement}
 use Rattle.listing.proofs.bytes.byte_between.Tie as tie
 
+byte-between-requires : tie.Need-byte-between-requires
+byte-between-requires c κs = search needs
+
+told-requires : tie.Need-told-requires
+told-requires c κs = search needs
+
 returns : tie.Need-returns
-returns c = end-told (range (c .before .before .args .from) (c .before .before .args .to)) (c .before .before .args .text .now) (c .before .before .args .at) (c .if1 .taken)
-
-shared-slice-read-wide : tie.Need-shared-slice-read-wide
-shared-slice-read-wide c = search needs
-
-wide-requires : tie.Need-wide-requires
-wide-requires c κs = search needs
-
-returns-2 : tie.Need-returns-2
-returns-2 c = failure-told (range (c .before .before .before .before .before .args .from) (c .before .before .before .before .before .args .to)) (c .before .before .before .before .before .args .text .now) (c .before .before .before .before .before .args .at) (below (c .before .before .before .before .before .args .from) (c .before .before .before .before .before .args .to) (getD (c .before .before .before .before .before .args .text .now) (c .before .before .before .before .before .args .at) 0) (omega arith))
-
-returns-3 : tie.Need-returns-3
-returns-3 c = failure-told (range (c .before .before .before .before .before .before .args .from) (c .before .before .before .before .before .before .args .to)) (c .before .before .before .before .before .before .args .text .now) (c .before .before .before .before .before .before .args .at) (above (c .before .before .before .before .before .before .args .from) (c .before .before .before .before .before .before .args .to) (getD (c .before .before .before .before .before .before .args .text .now) (c .before .before .before .before .before .before .args .at) 0) (omega arith))
-
-returns-4 : tie.Need-returns-4
-returns-4 c = match-told (range (c .before .before .before .before .before .before .args .from) (c .before .before .before .before .before .before .args .to)) (c .before .before .before .before .before .before .args .text .now) (c .before .before .before .before .before .before .args .at) (c .before .before .before .before .if1 .left) (between (c .before .before .before .before .before .before .args .from) (c .before .before .before .before .before .before .args .to) (getD (c .before .before .before .before .before .before .args .text .now) (c .before .before .before .before .before .before .args .at) 0) (omega arith) (omega arith))
+returns c =
+    c .told .ensures
+    ∙ ap (λ (w : ℕ). toldLength (valueOf w)) (c .before .byte-between .ensures)
+    ∙ ap toldLength (says-terminal (range (c .before .before .before .args .from) (c .before .before .before .args .to)) (c .before .before .before .args .text .now) (c .before .before .before .args .at))
 
 pub byte-between-spec : {M : Type 1} → statement M
-byte-between-spec =
-    tie.close (tie.spec returns shared-slice-read-wide wide-requires returns-2 returns-3 returns-4)
+byte-between-spec = tie.close (tie.spec byte-between-requires told-requires returns)
