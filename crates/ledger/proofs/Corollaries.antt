@@ -222,8 +222,7 @@ module _ {ev : Evaluations} {cap : ℕ} {rest : List ℕ} {l : Ledger} {B : List
         → AsListing (length R) a (rowsGiven a R′)
     unfolding turn
     list-plain {R} {a} {W′} {R′} p =
-        let e : lists a (rowsGiven a R′) ≡ listTurn ev (passes14 ev l) (passes15 ev l (length R)) l .reply = list-step v p .0 in
-        (
+        let e : lists a (rowsGiven a R′) ≡ listTurn ev (passes14 ev l) (passes15 ev l (length R)) l .reply = list-step v p .0 in (
           ap listingIn e ∙ by-questions (length R) (passes14 ev l) (passes15 ev l (length R)) refl x given,
           λ k.
               ap rowsOfReply e

@@ -13,7 +13,11 @@ pub const FAILED: usize = 65536;
 fn told(word: u64) -> usize
     ensures { λ r. ⌜ r ≡ toldLength (valueOf word) ⌝ }
 {
-    if records::matched_of(word) { records::length_of(word) } else { FAILED }
+    if records::matched_of(word) {
+        records::length_of(word)
+    } else {
+        FAILED
+    }
 }
 
 // "1 any byte"

@@ -30,6 +30,11 @@ pub slot-in : (R rule q n cap words : ℕ) → rule < R → q ≤ n → n ≤ ca
 slot-in R rule q n cap words a b c d =
     let m : (q + 1) * R ≤ (cap + 1) * R = mul-le-mul-right R (omega arith) in omega arith
 
+-- The number that the questions gave is 0.
+pub passed :
+    (img : List ℕ) (cap n words : ℕ) {k : ℕ} → First (ofSheet img cap n words) k → k ≡ 0 → First (ofSheet img cap n words) 0
+passed img cap n words f e = subst (λ (k : ℕ). First (ofSheet img cap n words) k) e f
+
 module _ (img : List ℕ) (cap n words : ℕ) (good : First (ofSheet img cap n words) 0) where
   pub accepted-image : Accepted img
   accepted-image = sheet-passed img cap n words good .0

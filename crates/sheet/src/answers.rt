@@ -1,8 +1,10 @@
-// What the evaluator's word says, for the answers of a reading and a listing.
+// What the evaluator's word makes of the answer of a reading and a listing.
 use ledger::SheetReading;
 ghost use Prim.Native.Nat.{_<_};
 ghost use mathlib.Core.Path.{_≡_};
+ghost use Rattle.grammar.specs.Image.{rules};
 ghost use Rattle.records.specs.Words.{valueOf};
+ghost use Rattle.editing.specs.Table.{TableLent, clearedTable};
 ghost use Rattle.ledger.specs.Answers.{sheetReading};
 
 // What a held word says of a text of n bytes, with so many evaluations.
@@ -20,10 +22,12 @@ pub fn reading_of(word: u64, n: usize, evaluations: u64) -> SheetReading
     }
 }
 
-// The number of a refusal, which is below 16.
-pub fn number_of(word: u64) -> u8
-    requires { ⌜ word < 16 ⌝ }
-    ensures { λ r. ⌜ r ≡ word ⌝ }
+// The number of a refusal; the table becomes 0: "zeroes the table with 12 and 14".
+pub fn zeroed(image: &[u8], cap: usize, table: &mut [u64], number: u64) -> u8
+    requires { ⌜ (number < 16) × TableLent (rules (now image)) cap (now table) ⌝ }
+    ensures { λ r. ⌜ (r ≡ number) × (now (table .exit) ≡ clearedTable (rules (now (image .entry))) cap (now (table .entry))) ⌝ }
 {
-    word as u8
+    let header = image::header_of(image);
+    editing::table::clear_table(table, header.rules, cap);
+    number as u8
 }

@@ -21,9 +21,7 @@ fn stopped(image: &[u8], cap: usize, table: &mut [u64], number: usize) -> u8
     if number == 15 {
         return 15;
     }
-    let header = image::header_of(image);
-    editing::table::clear_table(table, header.rules, cap);
-    number as u8
+    answers::zeroed(image, cap, table, number as u64)
 }
 
 pub fn list_sheet(
@@ -43,9 +41,7 @@ pub fn list_sheet(
     let mut count = 0u64;
     let word = reading::session::start_over(image, &buffer[0..n], table, &mut count);
     if word < 16 {
-        let header = image::header_of(image);
-        editing::table::clear_table(table, header.rules, cap);
-        return ListAnswer::Refused(answers::number_of(word));
+        return ListAnswer::Refused(answers::zeroed(image, cap, table, word));
     }
     match listing::start::list_over(image, &buffer[0..n], table, rows) {
         Listed::Rows(written) => ListAnswer::Listed(SheetListing {

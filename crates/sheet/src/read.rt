@@ -15,9 +15,7 @@ pub fn read_sheet(image: &[u8], buffer: &[u8], n: usize, table: &mut [u64]) -> R
     let mut count = 0u64;
     let word = reading::session::start_over(image, &buffer[0..n], table, &mut count);
     if word < 16 {
-        let header = image::header_of(image);
-        editing::table::clear_table(table, header.rules, cap);
-        return ReadAnswer::Refused(answers::number_of(word));
+        return ReadAnswer::Refused(answers::zeroed(image, cap, table, word));
     }
     ReadAnswer::Read(answers::reading_of(word, n, count))
 }

@@ -1,11 +1,9 @@
-use Prim.Native.Nat.{ℕ, _-_}
+use Prim.Native.Nat.{_-_}
 use native.Mathlib.Omega.{arith}
-use mathlib.Core.Path.{_≡_, refl, sym, ap, _∙_, subst}
+use mathlib.Core.Path.{_≡_, refl}
 use lib.ListN.{length}
-use Rattle.grammar.specs.Questions.{First}
-use Rattle.ledger.specs.Questions.{ofSheet}
 use Rattle.ledger.proofs.SheetLists.{lists-unasked}
-use Rattle.sheet.proofs.Laws.{loan, accepted-image, table-lent, part-short}
+use Rattle.sheet.proofs.Laws.{passed, loan, accepted-image, table-lent, part-short}
 use Rattle.sheet.proofs.ListLaws.{stop-number, list-refused, list-rows, list-stopped}
 use borrow.Author.Needs.{needs}
 use Rattle.sheet.proofs.list.list_sheet.Statement.{statement}
@@ -26,29 +24,44 @@ part-start-over-start c = search needs
 
 part-start-over-end : tie.Need-part-start-over-end
 part-start-over-end c =
-    loan (c .before .before .before .before .before .before .args .image .now) (length (c .before .before .before .before .before .before .args .buffer .now)) (c .before .before .before .before .before .before .args .n) (length (c .before .before .before .before .before .before .args .table .now)) (subst (λ (k : ℕ). First (ofSheet (c .before .before .before .before .before .before .args .image .now) (length (c .before .before .before .before .before .before .args .buffer .now)) (c .before .before .before .before .before .before .args .n) (length (c .before .before .before .before .before .before .args .table .now))) k) (c .if1 .left) (c .before .asked .ensures)) .text-fits
+    let image = c .before .before .before .before .before .before .args .image .now in
+    let buffer = c .before .before .before .before .before .before .args .buffer .now in
+    let n = c .before .before .before .before .before .before .args .n in
+    let table = c .before .before .before .before .before .before .args .table .now in
+    let good = passed image (length buffer) n (length table) (c .before .asked .ensures) (c .if1 .left) in
+    loan image (length buffer) n (length table) good .text-fits
 
 start-over-requires : tie.Need-start-over-requires
 start-over-requires c κs =
-    (accepted-image (c .before .before .before .before .before .before .before .before .before .args .image .now) (length (c .before .before .before .before .before .before .before .before .before .args .buffer .now)) (c .before .before .before .before .before .before .before .before .before .args .n) (length (c .before .before .before .before .before .before .before .before .before .args .table .now)) (subst (λ (k : ℕ). First (ofSheet (c .before .before .before .before .before .before .before .before .before .args .image .now) (length (c .before .before .before .before .before .before .before .before .before .args .buffer .now)) (c .before .before .before .before .before .before .before .before .before .args .n) (length (c .before .before .before .before .before .before .before .before .before .args .table .now))) k) (c .before .before .before .if1 .left) (c .before .before .before .before .asked .ensures)), part-short (c .before .before .before .before .before .before .before .before .before .args .image .now) (c .before .before .before .before .before .before .before .before .before .args .buffer .now) (c .before .before .before .before .before .before .before .before .before .args .n) (c .before .before .before .before .before .before .before .before .before .args .table .now) (subst (λ (k : ℕ). First (ofSheet (c .before .before .before .before .before .before .before .before .before .args .image .now) (length (c .before .before .before .before .before .before .before .before .before .args .buffer .now)) (c .before .before .before .before .before .before .before .before .before .args .n) (length (c .before .before .before .before .before .before .before .before .before .args .table .now))) k) (c .before .before .before .if1 .left) (c .before .before .before .before .asked .ensures)) {m = c .before .before .before .before .before .before .before .before .before .args .n - 0} (omega arith))
+    let image = c .before .before .before .before .before .before .before .before .before .args .image .now in
+    let buffer = c .before .before .before .before .before .before .before .before .before .args .buffer .now in
+    let n = c .before .before .before .before .before .before .before .before .before .args .n in
+    let table = c .before .before .before .before .before .before .before .before .before .args .table .now in
+    let good = passed image (length buffer) n (length table) (c .before .before .before .before .asked .ensures) (c .before .before .before .if1 .left) in
+    (accepted-image image (length buffer) n (length table) good, part-short image buffer n table good {m = n - 0} (omega arith))
 
-header-of-requires : tie.Need-header-of-requires
-header-of-requires c κs = search needs
-
-clear-table-requires : tie.Need-clear-table-requires
-clear-table-requires c κs =
-    table-lent (c .before .before .before .before .before .before .before .before .before .before .before .before .before .before .before .args .image .now) (length (c .before .before .before .before .before .before .before .before .before .before .before .before .before .before .before .args .buffer .now)) (c .before .before .before .before .before .before .before .before .before .before .before .before .before .before .before .args .n) (length (c .before .before .before .before .before .before .before .before .before .before .before .before .before .before .before .args .table .now)) (subst (λ (k : ℕ). First (ofSheet (c .before .before .before .before .before .before .before .before .before .before .before .before .before .before .before .args .image .now) (length (c .before .before .before .before .before .before .before .before .before .before .before .before .before .before .before .args .buffer .now)) (c .before .before .before .before .before .before .before .before .before .before .before .before .before .before .before .args .n) (length (c .before .before .before .before .before .before .before .before .before .before .before .before .before .before .before .args .table .now))) k) (c .before .before .before .before .before .before .before .before .before .if1 .left) (c .before .before .before .before .before .before .before .before .before .before .asked .ensures)) (c .before .header-of .ensures .its-rules) _ (c .before .before .before .before .before .start-over .kept .1 .1 .0)
-
-number-of-requires : tie.Need-number-of-requires
-number-of-requires c κs = search needs
+zeroed-requires : tie.Need-zeroed-requires
+zeroed-requires c κs =
+    let image = c .before .before .before .before .before .before .before .before .before .before .before .before .before .before .args .image .now in
+    let buffer = c .before .before .before .before .before .before .before .before .before .before .before .before .before .before .args .buffer .now in
+    let n = c .before .before .before .before .before .before .before .before .before .before .before .before .before .before .args .n in
+    let table = c .before .before .before .before .before .before .before .before .before .before .before .before .before .before .args .table .now in
+    let good = passed image (length buffer) n (length table) (c .before .before .before .before .before .before .before .before .before .asked .ensures) (c .before .before .before .before .before .before .before .before .if1 .left) in
+    (c .before .if2 .taken, table-lent image (length buffer) n (length table) good refl _ (c .before .before .before .before .start-over .kept .1 .1 .0))
 
 same-length : tie.Need-same-length
 same-length c = search needs
 
 returns-2 : tie.Need-returns-2
 returns-2 c =
-    rw (c .number-of .ensures, c .before .before .before .clear-table .ensures, c .before .before .before .before .before .header-of .ensures .its-rules)
-    (list-refused (c .before .before .before .before .before .before .before .before .before .before .before .before .before .before .before .before .before .before .before .args .image .now) (c .before .before .before .before .before .before .before .before .before .before .before .before .before .before .before .before .before .before .before .args .buffer .now) (c .before .before .before .before .before .before .before .before .before .before .before .before .before .before .before .before .before .before .before .args .n) (c .before .before .before .before .before .before .before .before .before .before .before .before .before .before .before .before .before .before .before .args .table .now) (c .before .before .before .before .before .before .before .before .before .before .before .before .before .before .before .before .before .before .before .args .rows .now) (subst (λ (k : ℕ). First (ofSheet (c .before .before .before .before .before .before .before .before .before .before .before .before .before .before .before .before .before .before .before .args .image .now) (length (c .before .before .before .before .before .before .before .before .before .before .before .before .before .before .before .before .before .before .before .args .buffer .now)) (c .before .before .before .before .before .before .before .before .before .before .before .before .before .before .before .before .before .before .before .args .n) (length (c .before .before .before .before .before .before .before .before .before .before .before .before .before .before .before .before .before .before .before .args .table .now))) k) (c .before .before .before .before .before .before .before .before .before .before .before .before .before .if1 .left) (c .before .before .before .before .before .before .before .before .before .before .before .before .before .before .asked .ensures)) {m = c .before .before .before .before .before .before .before .before .before .before .before .before .before .before .before .before .before .before .before .args .n - 0} (c .before .before .before .before .before .before .before .before .before .start-over .ensures) (omega arith) (c .before .before .before .before .before .before .if2 .taken))
+    let image = c .before .before .before .before .before .before .before .before .before .before .before .before .before .before .before .before .before .args .image .now in
+    let buffer = c .before .before .before .before .before .before .before .before .before .before .before .before .before .before .before .before .before .args .buffer .now in
+    let n = c .before .before .before .before .before .before .before .before .before .before .before .before .before .before .before .before .before .args .n in
+    let table = c .before .before .before .before .before .before .before .before .before .before .before .before .before .before .before .before .before .args .table .now in
+    let good = passed image (length buffer) n (length table) (c .before .before .before .before .before .before .before .before .before .before .before .before .asked .ensures) (c .before .before .before .before .before .before .before .before .before .before .before .if1 .left) in
+    let rows = c .before .before .before .before .before .before .before .before .before .before .before .before .before .before .before .before .before .args .rows .now in
+    rw (c .before .before .zeroed .ensures .0, c .before .before .zeroed .ensures .1)
+    (list-refused image buffer n table rows good {m = n - 0} (c .before .before .before .before .before .before .before .start-over .ensures) (omega arith) (c .before .before .before .before .if2 .taken))
 
 sub-list-over : tie.Need-sub-list-over
 sub-list-over c = search needs
@@ -58,11 +71,21 @@ part-list-over-start c = search needs
 
 part-list-over-end : tie.Need-part-list-over-end
 part-list-over-end c =
-    loan (c .before .before .before .before .before .before .before .before .before .before .before .before .before .args .image .now) (length (c .before .before .before .before .before .before .before .before .before .before .before .before .before .args .buffer .now)) (c .before .before .before .before .before .before .before .before .before .before .before .before .before .args .n) (length (c .before .before .before .before .before .before .before .before .before .before .before .before .before .args .table .now)) (subst (λ (k : ℕ). First (ofSheet (c .before .before .before .before .before .before .before .before .before .before .before .before .before .args .image .now) (length (c .before .before .before .before .before .before .before .before .before .before .before .before .before .args .buffer .now)) (c .before .before .before .before .before .before .before .before .before .before .before .before .before .args .n) (length (c .before .before .before .before .before .before .before .before .before .before .before .before .before .args .table .now))) k) (c .before .before .before .before .before .before .before .if1 .left) (c .before .before .before .before .before .before .before .before .asked .ensures)) .text-fits
+    let image = c .before .before .before .before .before .before .before .before .before .before .before .before .before .args .image .now in
+    let buffer = c .before .before .before .before .before .before .before .before .before .before .before .before .before .args .buffer .now in
+    let n = c .before .before .before .before .before .before .before .before .before .before .before .before .before .args .n in
+    let table = c .before .before .before .before .before .before .before .before .before .before .before .before .before .args .table .now in
+    let good = passed image (length buffer) n (length table) (c .before .before .before .before .before .before .before .before .asked .ensures) (c .before .before .before .before .before .before .before .if1 .left) in
+    loan image (length buffer) n (length table) good .text-fits
 
 list-over-requires : tie.Need-list-over-requires
 list-over-requires c κs =
-    (accepted-image (c .before .before .before .before .before .before .before .before .before .before .before .before .before .before .before .before .args .image .now) (length (c .before .before .before .before .before .before .before .before .before .before .before .before .before .before .before .before .args .buffer .now)) (c .before .before .before .before .before .before .before .before .before .before .before .before .before .before .before .before .args .n) (length (c .before .before .before .before .before .before .before .before .before .before .before .before .before .before .before .before .args .table .now)) (subst (λ (k : ℕ). First (ofSheet (c .before .before .before .before .before .before .before .before .before .before .before .before .before .before .before .before .args .image .now) (length (c .before .before .before .before .before .before .before .before .before .before .before .before .before .before .before .before .args .buffer .now)) (c .before .before .before .before .before .before .before .before .before .before .before .before .before .before .before .before .args .n) (length (c .before .before .before .before .before .before .before .before .before .before .before .before .before .before .before .before .args .table .now))) k) (c .before .before .before .before .before .before .before .before .before .before .if1 .left) (c .before .before .before .before .before .before .before .before .before .before .before .asked .ensures)), part-short (c .before .before .before .before .before .before .before .before .before .before .before .before .before .before .before .before .args .image .now) (c .before .before .before .before .before .before .before .before .before .before .before .before .before .before .before .before .args .buffer .now) (c .before .before .before .before .before .before .before .before .before .before .before .before .before .before .before .before .args .n) (c .before .before .before .before .before .before .before .before .before .before .before .before .before .before .before .before .args .table .now) (subst (λ (k : ℕ). First (ofSheet (c .before .before .before .before .before .before .before .before .before .before .before .before .before .before .before .before .args .image .now) (length (c .before .before .before .before .before .before .before .before .before .before .before .before .before .before .before .before .args .buffer .now)) (c .before .before .before .before .before .before .before .before .before .before .before .before .before .before .before .before .args .n) (length (c .before .before .before .before .before .before .before .before .before .before .before .before .before .before .before .before .args .table .now))) k) (c .before .before .before .before .before .before .before .before .before .before .if1 .left) (c .before .before .before .before .before .before .before .before .before .before .before .asked .ensures)) {m = c .before .before .before .before .before .before .before .before .before .before .before .before .before .before .before .before .args .n - 0} (omega arith))
+    let image = c .before .before .before .before .before .before .before .before .before .before .before .before .before .before .before .before .args .image .now in
+    let buffer = c .before .before .before .before .before .before .before .before .before .before .before .before .before .before .before .before .args .buffer .now in
+    let n = c .before .before .before .before .before .before .before .before .before .before .before .before .before .before .before .before .args .n in
+    let table = c .before .before .before .before .before .before .before .before .before .before .before .before .before .before .before .before .args .table .now in
+    let good = passed image (length buffer) n (length table) (c .before .before .before .before .before .before .before .before .before .before .before .asked .ensures) (c .before .before .before .before .before .before .before .before .before .before .if1 .left) in
+    (accepted-image image (length buffer) n (length table) good, part-short image buffer n table good {m = n - 0} (omega arith))
 
 enum-known-written : tie.Need-enum-known-written
 enum-known-written c = search needs
@@ -74,10 +97,16 @@ enum-known-k : tie.Need-enum-known-k
 enum-known-k c = search needs
 
 stopped-requires : tie.Need-stopped-requires
-stopped-requires c κs = (
-  stop-number (c .before .before .before .before .before .before .before .before .before .before .before .before .before .before .before .before .before .before .before .before .before .before .before .args .image .now) (c .before .before .before .before .before .before .before .before .before .before .before .before .before .before .before .before .before .before .before .before .before .before .before .args .buffer .now) (c .before .before .before .before .before .before .before .before .before .before .before .before .before .before .before .before .before .before .before .before .before .before .before .args .n) (c .before .before .before .before .before .before .before .before .before .before .before .before .before .before .before .before .before .before .before .before .before .before .before .args .table .now) (c .before .before .before .before .before .before .before .before .before .before .before .before .before .before .before .before .before .before .before .before .before .before .before .args .rows .now) (subst (λ (k : ℕ). First (ofSheet (c .before .before .before .before .before .before .before .before .before .before .before .before .before .before .before .before .before .before .before .before .before .before .before .args .image .now) (length (c .before .before .before .before .before .before .before .before .before .before .before .before .before .before .before .before .before .before .before .before .before .before .before .args .buffer .now)) (c .before .before .before .before .before .before .before .before .before .before .before .before .before .before .before .before .before .before .before .before .before .before .before .args .n) (length (c .before .before .before .before .before .before .before .before .before .before .before .before .before .before .before .before .before .before .before .before .before .before .before .args .table .now))) k) (c .before .before .before .before .before .before .before .before .before .before .before .before .before .before .before .before .before .if1 .left) (c .before .before .before .before .before .before .before .before .before .before .before .before .before .before .before .before .before .before .asked .ensures)) (c .before .before .before .before .before .before .before .before .before .before .before .before .before .before .before .before .before .before .before .before .before .before .before .args .n - 0) (c .before .before .before .before .before .before .list-over .ensures) (c .before .before .k .given .1),
-  table-lent (c .before .before .before .before .before .before .before .before .before .before .before .before .before .before .before .before .before .before .before .before .before .before .before .args .image .now) (length (c .before .before .before .before .before .before .before .before .before .before .before .before .before .before .before .before .before .before .before .before .before .before .before .args .buffer .now)) (c .before .before .before .before .before .before .before .before .before .before .before .before .before .before .before .before .before .before .before .before .before .before .before .args .n) (length (c .before .before .before .before .before .before .before .before .before .before .before .before .before .before .before .before .before .before .before .before .before .before .before .args .table .now)) (subst (λ (k : ℕ). First (ofSheet (c .before .before .before .before .before .before .before .before .before .before .before .before .before .before .before .before .before .before .before .before .before .before .before .args .image .now) (length (c .before .before .before .before .before .before .before .before .before .before .before .before .before .before .before .before .before .before .before .before .before .before .before .args .buffer .now)) (c .before .before .before .before .before .before .before .before .before .before .before .before .before .before .before .before .before .before .before .before .before .before .before .args .n) (length (c .before .before .before .before .before .before .before .before .before .before .before .before .before .before .before .before .before .before .before .before .before .before .before .args .table .now))) k) (c .before .before .before .before .before .before .before .before .before .before .before .before .before .before .before .before .before .if1 .left) (c .before .before .before .before .before .before .before .before .before .before .before .before .before .before .before .before .before .before .asked .ensures)) refl _ (c .before .before .before .before .before .before .before .before .before .before .before .before .before .start-over .kept .1 .1 .0),
-)
+stopped-requires c κs =
+    let image = c .before .before .before .before .before .before .before .before .before .before .before .before .before .before .before .before .before .before .before .before .before .before .before .args .image .now in
+    let buffer = c .before .before .before .before .before .before .before .before .before .before .before .before .before .before .before .before .before .before .before .before .before .before .before .args .buffer .now in
+    let n = c .before .before .before .before .before .before .before .before .before .before .before .before .before .before .before .before .before .before .before .before .before .before .before .args .n in
+    let table = c .before .before .before .before .before .before .before .before .before .before .before .before .before .before .before .before .before .before .before .before .before .before .before .args .table .now in
+    let good = passed image (length buffer) n (length table) (c .before .before .before .before .before .before .before .before .before .before .before .before .before .before .before .before .before .before .asked .ensures) (c .before .before .before .before .before .before .before .before .before .before .before .before .before .before .before .before .before .if1 .left) in
+    let rows = c .before .before .before .before .before .before .before .before .before .before .before .before .before .before .before .before .before .before .before .before .before .before .before .args .rows .now in (
+      stop-number image buffer n table rows good (n - 0) (c .before .before .before .before .before .before .list-over .ensures) (c .before .before .k .given .1),
+      table-lent image (length buffer) n (length table) good refl _ (c .before .before .before .before .before .before .before .before .before .before .before .before .before .start-over .kept .1 .1 .0),
+    )
 
 same-length-2 : tie.Need-same-length-2
 same-length-2 c = search needs
@@ -87,8 +116,14 @@ same-length-3 c = search needs
 
 returns-3 : tie.Need-returns-3
 returns-3 c =
+    let image = c .before .before .before .before .before .before .before .before .before .before .before .before .before .before .before .before .before .before .before .before .before .before .before .args .image .now in
+    let buffer = c .before .before .before .before .before .before .before .before .before .before .before .before .before .before .before .before .before .before .before .before .before .before .before .args .buffer .now in
+    let n = c .before .before .before .before .before .before .before .before .before .before .before .before .before .before .before .before .before .before .before .before .before .before .before .args .n in
+    let table = c .before .before .before .before .before .before .before .before .before .before .before .before .before .before .before .before .before .before .before .before .before .before .before .args .table .now in
+    let good = passed image (length buffer) n (length table) (c .before .before .before .before .before .before .before .before .before .before .before .before .before .before .before .before .before .before .asked .ensures) (c .before .before .before .before .before .before .before .before .before .before .before .before .before .before .before .before .before .if1 .left) in
+    let rows = c .before .before .before .before .before .before .before .before .before .before .before .before .before .before .before .before .before .before .before .before .before .before .before .args .rows .now in
     rw (c .reading-of .ensures)
-    (list-rows (c .before .before .before .before .before .before .before .before .before .before .before .before .before .before .before .before .before .before .before .before .before .before .before .args .image .now) (c .before .before .before .before .before .before .before .before .before .before .before .before .before .before .before .before .before .before .before .before .before .before .before .args .buffer .now) (c .before .before .before .before .before .before .before .before .before .before .before .before .before .before .before .before .before .before .before .before .before .before .before .args .n) (c .before .before .before .before .before .before .before .before .before .before .before .before .before .before .before .before .before .before .before .before .before .before .before .args .table .now) (c .before .before .before .before .before .before .before .before .before .before .before .before .before .before .before .before .before .before .before .before .before .before .before .args .rows .now) (subst (λ (k : ℕ). First (ofSheet (c .before .before .before .before .before .before .before .before .before .before .before .before .before .before .before .before .before .before .before .before .before .before .before .args .image .now) (length (c .before .before .before .before .before .before .before .before .before .before .before .before .before .before .before .before .before .before .before .before .before .before .before .args .buffer .now)) (c .before .before .before .before .before .before .before .before .before .before .before .before .before .before .before .before .before .before .before .before .before .before .before .args .n) (length (c .before .before .before .before .before .before .before .before .before .before .before .before .before .before .before .before .before .before .before .before .before .before .before .args .table .now))) k) (c .before .before .before .before .before .before .before .before .before .before .before .before .before .before .before .before .before .if1 .left) (c .before .before .before .before .before .before .before .before .before .before .before .before .before .before .before .before .before .before .asked .ensures)) {m = c .before .before .before .before .before .before .before .before .before .before .before .before .before .before .before .before .before .before .before .before .before .before .before .args .n - 0} (c .before .before .before .before .before .before .before .before .before .before .before .before .before .start-over .ensures) (omega arith) (c .before .before .before .before .before .before .before .before .before .before .if2 .left) (c .before .before .before .before .before .before .list-over .ensures) (c .before .before .written .given .1))
+    (list-rows image buffer n table rows good {m = n - 0} (c .before .before .before .before .before .before .before .before .before .before .before .before .before .start-over .ensures) (omega arith) (c .before .before .before .before .before .before .before .before .before .before .if2 .left) (c .before .before .before .before .before .before .list-over .ensures) (c .before .before .written .given .1))
 
 same-length-4 : tie.Need-same-length-4
 same-length-4 c = search needs
@@ -98,8 +133,14 @@ same-length-5 c = search needs
 
 returns-4 : tie.Need-returns-4
 returns-4 c =
+    let image = c .before .before .before .before .before .before .before .before .before .before .before .before .before .before .before .before .before .before .before .before .before .before .before .before .before .before .args .image .now in
+    let buffer = c .before .before .before .before .before .before .before .before .before .before .before .before .before .before .before .before .before .before .before .before .before .before .before .before .before .before .args .buffer .now in
+    let n = c .before .before .before .before .before .before .before .before .before .before .before .before .before .before .before .before .before .before .before .before .before .before .before .before .before .before .args .n in
+    let table = c .before .before .before .before .before .before .before .before .before .before .before .before .before .before .before .before .before .before .before .before .before .before .before .before .before .before .args .table .now in
+    let good = passed image (length buffer) n (length table) (c .before .before .before .before .before .before .before .before .before .before .before .before .before .before .before .before .before .before .before .before .before .asked .ensures) (c .before .before .before .before .before .before .before .before .before .before .before .before .before .before .before .before .before .before .before .before .if1 .left) in
+    let rows = c .before .before .before .before .before .before .before .before .before .before .before .before .before .before .before .before .before .before .before .before .before .before .before .before .before .before .args .rows .now in
     rw (c .before .before .stopped .ensures .0, c .before .before .stopped .ensures .1)
-    (list-stopped (c .before .before .before .before .before .before .before .before .before .before .before .before .before .before .before .before .before .before .before .before .before .before .before .before .before .before .args .image .now) (c .before .before .before .before .before .before .before .before .before .before .before .before .before .before .before .before .before .before .before .before .before .before .before .before .before .before .args .buffer .now) (c .before .before .before .before .before .before .before .before .before .before .before .before .before .before .before .before .before .before .before .before .before .before .before .before .before .before .args .n) (c .before .before .before .before .before .before .before .before .before .before .before .before .before .before .before .before .before .before .before .before .before .before .before .before .before .before .args .table .now) (c .before .before .before .before .before .before .before .before .before .before .before .before .before .before .before .before .before .before .before .before .before .before .before .before .before .before .args .rows .now) (subst (λ (k : ℕ). First (ofSheet (c .before .before .before .before .before .before .before .before .before .before .before .before .before .before .before .before .before .before .before .before .before .before .before .before .before .before .args .image .now) (length (c .before .before .before .before .before .before .before .before .before .before .before .before .before .before .before .before .before .before .before .before .before .before .before .before .before .before .args .buffer .now)) (c .before .before .before .before .before .before .before .before .before .before .before .before .before .before .before .before .before .before .before .before .before .before .before .before .before .before .args .n) (length (c .before .before .before .before .before .before .before .before .before .before .before .before .before .before .before .before .before .before .before .before .before .before .before .before .before .before .args .table .now))) k) (c .before .before .before .before .before .before .before .before .before .before .before .before .before .before .before .before .before .before .before .before .if1 .left) (c .before .before .before .before .before .before .before .before .before .before .before .before .before .before .before .before .before .before .before .before .before .asked .ensures)) {m = c .before .before .before .before .before .before .before .before .before .before .before .before .before .before .before .before .before .before .before .before .before .before .before .before .before .before .args .n - 0} (c .before .before .before .before .before .before .before .before .before .before .before .before .before .before .before .before .start-over .ensures) (omega arith) (c .before .before .before .before .before .before .before .before .before .before .before .before .before .if2 .left) (c .before .before .before .before .before .before .before .before .before .list-over .ensures) (c .before .before .before .before .before .k .given .1))
+    (list-stopped image buffer n table rows good {m = n - 0} (c .before .before .before .before .before .before .before .before .before .before .before .before .before .before .before .before .start-over .ensures) (omega arith) (c .before .before .before .before .before .before .before .before .before .before .before .before .before .if2 .left) (c .before .before .before .before .before .before .before .before .before .list-over .ensures) (c .before .before .before .before .before .k .given .1))
 
 pub list-sheet-spec : {M : Type 1} → statement M
 list-sheet-spec =
@@ -111,9 +152,7 @@ list-sheet-spec =
     part-start-over-start
     part-start-over-end
     start-over-requires
-    header-of-requires
-    clear-table-requires
-    number-of-requires
+    zeroed-requires
     same-length
     returns-2
     sub-list-over

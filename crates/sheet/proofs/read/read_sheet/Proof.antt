@@ -1,11 +1,9 @@
-use Prim.Native.Nat.{ℕ, _-_}
+use Prim.Native.Nat.{_-_}
 use native.Mathlib.Omega.{arith}
-use mathlib.Core.Path.{refl, subst}
+use mathlib.Core.Path.{_≡_, refl}
 use lib.ListN.{length}
-use Rattle.grammar.specs.Questions.{First}
-use Rattle.ledger.specs.Questions.{ofSheet}
 use Rattle.ledger.proofs.SheetReads.{reads-unasked}
-use Rattle.sheet.proofs.Laws.{loan, accepted-image, table-lent, part-short, read-refused, read-answered}
+use Rattle.sheet.proofs.Laws.{passed, loan, accepted-image, table-lent, part-short, read-refused, read-answered}
 use borrow.Author.Needs.{needs}
 use Rattle.sheet.proofs.read.read_sheet.Statement.{statement}
 use Rattle.sheet.proofs.read.read_sheet.Tie as tie
@@ -25,29 +23,43 @@ part-start-over-start c = search needs
 
 part-start-over-end : tie.Need-part-start-over-end
 part-start-over-end c =
-    loan (c .before .before .before .before .before .args .image .now) (length (c .before .before .before .before .before .args .buffer .now)) (c .before .before .before .before .before .args .n) (length (c .before .before .before .before .before .args .table .now)) (subst (λ (k : ℕ). First (ofSheet (c .before .before .before .before .before .args .image .now) (length (c .before .before .before .before .before .args .buffer .now)) (c .before .before .before .before .before .args .n) (length (c .before .before .before .before .before .args .table .now))) k) (c .if1 .left) (c .before .asked .ensures)) .text-fits
+    let image = c .before .before .before .before .before .args .image .now in
+    let buffer = c .before .before .before .before .before .args .buffer .now in
+    let n = c .before .before .before .before .before .args .n in
+    let table = c .before .before .before .before .before .args .table .now in
+    let good = passed image (length buffer) n (length table) (c .before .asked .ensures) (c .if1 .left) in
+    loan image (length buffer) n (length table) good .text-fits
 
 start-over-requires : tie.Need-start-over-requires
 start-over-requires c κs =
-    (accepted-image (c .before .before .before .before .before .before .before .before .args .image .now) (length (c .before .before .before .before .before .before .before .before .args .buffer .now)) (c .before .before .before .before .before .before .before .before .args .n) (length (c .before .before .before .before .before .before .before .before .args .table .now)) (subst (λ (k : ℕ). First (ofSheet (c .before .before .before .before .before .before .before .before .args .image .now) (length (c .before .before .before .before .before .before .before .before .args .buffer .now)) (c .before .before .before .before .before .before .before .before .args .n) (length (c .before .before .before .before .before .before .before .before .args .table .now))) k) (c .before .before .before .if1 .left) (c .before .before .before .before .asked .ensures)), part-short (c .before .before .before .before .before .before .before .before .args .image .now) (c .before .before .before .before .before .before .before .before .args .buffer .now) (c .before .before .before .before .before .before .before .before .args .n) (c .before .before .before .before .before .before .before .before .args .table .now) (subst (λ (k : ℕ). First (ofSheet (c .before .before .before .before .before .before .before .before .args .image .now) (length (c .before .before .before .before .before .before .before .before .args .buffer .now)) (c .before .before .before .before .before .before .before .before .args .n) (length (c .before .before .before .before .before .before .before .before .args .table .now))) k) (c .before .before .before .if1 .left) (c .before .before .before .before .asked .ensures)) {m = c .before .before .before .before .before .before .before .before .args .n - 0} (omega arith))
+    let image = c .before .before .before .before .before .before .before .before .args .image .now in
+    let buffer = c .before .before .before .before .before .before .before .before .args .buffer .now in
+    let n = c .before .before .before .before .before .before .before .before .args .n in
+    let table = c .before .before .before .before .before .before .before .before .args .table .now in
+    let good = passed image (length buffer) n (length table) (c .before .before .before .before .asked .ensures) (c .before .before .before .if1 .left) in
+    (accepted-image image (length buffer) n (length table) good, part-short image buffer n table good {m = n - 0} (omega arith))
 
-header-of-requires : tie.Need-header-of-requires
-header-of-requires c κs = search needs
-
-clear-table-requires : tie.Need-clear-table-requires
-clear-table-requires c κs =
-    table-lent (c .before .before .before .before .before .before .before .before .before .before .before .before .before .before .args .image .now) (length (c .before .before .before .before .before .before .before .before .before .before .before .before .before .before .args .buffer .now)) (c .before .before .before .before .before .before .before .before .before .before .before .before .before .before .args .n) (length (c .before .before .before .before .before .before .before .before .before .before .before .before .before .before .args .table .now)) (subst (λ (k : ℕ). First (ofSheet (c .before .before .before .before .before .before .before .before .before .before .before .before .before .before .args .image .now) (length (c .before .before .before .before .before .before .before .before .before .before .before .before .before .before .args .buffer .now)) (c .before .before .before .before .before .before .before .before .before .before .before .before .before .before .args .n) (length (c .before .before .before .before .before .before .before .before .before .before .before .before .before .before .args .table .now))) k) (c .before .before .before .before .before .before .before .before .before .if1 .left) (c .before .before .before .before .before .before .before .before .before .before .asked .ensures)) (c .before .header-of .ensures .its-rules) _ (c .before .before .before .before .before .start-over .kept .1 .1 .0)
-
-number-of-requires : tie.Need-number-of-requires
-number-of-requires c κs = search needs
+zeroed-requires : tie.Need-zeroed-requires
+zeroed-requires c κs =
+    let image = c .before .before .before .before .before .before .before .before .before .before .before .before .before .args .image .now in
+    let buffer = c .before .before .before .before .before .before .before .before .before .before .before .before .before .args .buffer .now in
+    let n = c .before .before .before .before .before .before .before .before .before .before .before .before .before .args .n in
+    let table = c .before .before .before .before .before .before .before .before .before .before .before .before .before .args .table .now in
+    let good = passed image (length buffer) n (length table) (c .before .before .before .before .before .before .before .before .before .asked .ensures) (c .before .before .before .before .before .before .before .before .if1 .left) in
+    (c .before .if2 .taken, table-lent image (length buffer) n (length table) good refl _ (c .before .before .before .before .start-over .kept .1 .1 .0))
 
 same-length : tie.Need-same-length
 same-length c = search needs
 
 returns-2 : tie.Need-returns-2
 returns-2 c =
-    rw (c .number-of .ensures, c .before .before .before .clear-table .ensures, c .before .before .before .before .before .header-of .ensures .its-rules)
-    (read-refused (c .before .before .before .before .before .before .before .before .before .before .before .before .before .before .before .before .before .before .args .image .now) (c .before .before .before .before .before .before .before .before .before .before .before .before .before .before .before .before .before .before .args .buffer .now) (c .before .before .before .before .before .before .before .before .before .before .before .before .before .before .before .before .before .before .args .n) (c .before .before .before .before .before .before .before .before .before .before .before .before .before .before .before .before .before .before .args .table .now) (subst (λ (k : ℕ). First (ofSheet (c .before .before .before .before .before .before .before .before .before .before .before .before .before .before .before .before .before .before .args .image .now) (length (c .before .before .before .before .before .before .before .before .before .before .before .before .before .before .before .before .before .before .args .buffer .now)) (c .before .before .before .before .before .before .before .before .before .before .before .before .before .before .before .before .before .before .args .n) (length (c .before .before .before .before .before .before .before .before .before .before .before .before .before .before .before .before .before .before .args .table .now))) k) (c .before .before .before .before .before .before .before .before .before .before .before .before .before .if1 .left) (c .before .before .before .before .before .before .before .before .before .before .before .before .before .before .asked .ensures)) {m = c .before .before .before .before .before .before .before .before .before .before .before .before .before .before .before .before .before .before .args .n - 0} (c .before .before .before .before .before .before .before .before .before .start-over .ensures) (omega arith) (c .before .before .before .before .before .before .if2 .taken))
+    let image = c .before .before .before .before .before .before .before .before .before .before .before .before .before .before .before .before .args .image .now in
+    let buffer = c .before .before .before .before .before .before .before .before .before .before .before .before .before .before .before .before .args .buffer .now in
+    let n = c .before .before .before .before .before .before .before .before .before .before .before .before .before .before .before .before .args .n in
+    let table = c .before .before .before .before .before .before .before .before .before .before .before .before .before .before .before .before .args .table .now in
+    let good = passed image (length buffer) n (length table) (c .before .before .before .before .before .before .before .before .before .before .before .before .asked .ensures) (c .before .before .before .before .before .before .before .before .before .before .before .if1 .left) in
+    rw (c .before .before .zeroed .ensures .0, c .before .before .zeroed .ensures .1)
+    (read-refused image buffer n table good {m = n - 0} (c .before .before .before .before .before .before .before .start-over .ensures) (omega arith) (c .before .before .before .before .if2 .taken))
 
 reading-of-requires : tie.Need-reading-of-requires
 reading-of-requires c κs = search needs
@@ -57,7 +69,13 @@ same-length-2 c = search needs
 
 returns-3 : tie.Need-returns-3
 returns-3 c =
-    rw (c .reading-of .ensures) (read-answered (c .before .before .before .before .before .before .before .before .before .before .before .before .before .args .image .now) (c .before .before .before .before .before .before .before .before .before .before .before .before .before .args .buffer .now) (c .before .before .before .before .before .before .before .before .before .before .before .before .before .args .n) (c .before .before .before .before .before .before .before .before .before .before .before .before .before .args .table .now) (subst (λ (k : ℕ). First (ofSheet (c .before .before .before .before .before .before .before .before .before .before .before .before .before .args .image .now) (length (c .before .before .before .before .before .before .before .before .before .before .before .before .before .args .buffer .now)) (c .before .before .before .before .before .before .before .before .before .before .before .before .before .args .n) (length (c .before .before .before .before .before .before .before .before .before .before .before .before .before .args .table .now))) k) (c .before .before .before .before .before .before .before .before .if1 .left) (c .before .before .before .before .before .before .before .before .before .asked .ensures)) {m = c .before .before .before .before .before .before .before .before .before .before .before .before .before .args .n - 0} (c .before .before .before .before .start-over .ensures) (omega arith) (c .before .if2 .left))
+    let image = c .before .before .before .before .before .before .before .before .before .before .before .before .before .args .image .now in
+    let buffer = c .before .before .before .before .before .before .before .before .before .before .before .before .before .args .buffer .now in
+    let n = c .before .before .before .before .before .before .before .before .before .before .before .before .before .args .n in
+    let table = c .before .before .before .before .before .before .before .before .before .before .before .before .before .args .table .now in
+    let good = passed image (length buffer) n (length table) (c .before .before .before .before .before .before .before .before .before .asked .ensures) (c .before .before .before .before .before .before .before .before .if1 .left) in
+    rw (c .reading-of .ensures)
+    (read-answered image buffer n table good {m = n - 0} (c .before .before .before .before .start-over .ensures) (omega arith) (c .before .if2 .left))
 
 pub read-sheet-spec : {M : Type 1} → statement M
 read-sheet-spec =
@@ -69,9 +87,7 @@ read-sheet-spec =
     part-start-over-start
     part-start-over-end
     start-over-requires
-    header-of-requires
-    clear-table-requires
-    number-of-requires
+    zeroed-requires
     same-length
     returns-2
     reading-of-requires
