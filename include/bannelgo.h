@@ -3,11 +3,11 @@
  * bannelgo_check_image and bannelgo_plain_reading are in libexports.a, the sheet's calls in libbridge.a. Both libraries need only
  * the C library's memcpy and memset. Every image, text, number and table content has an answer.
  *
- * How to lend: a slice passes as a pointer and its length, in bytes or, for the table, in words of 64 bits. It is lent until the
- * call returns; nothing is kept. A pointer is never NULL, also where the length is 0, and one to the table is aligned to 8 bytes. What
- * a call may write to overlaps nothing else that is lent to it.
+ * How to lend: a slice passes as a pointer and its length, in bytes or, for the table and the rows, in words of 64 bits. It is lent
+ * until the call returns; nothing is kept. A pointer is never NULL, also where the length is 0, and one to words is aligned to 8 bytes.
+ * What a call may write to overlaps nothing else that is lent to it.
  *
- * Stack: where the nesting comes near 4,096, bannelgo_plain_reading and bannelgo_read need up to 2 MiB. */
+ * Stack: where the nesting comes near 4,096, bannelgo_plain_reading and bannelgo_read need up to 2 MiB, bannelgo_list up to 2.5 MiB. */
 #ifndef BANNELGO_H
 #define BANNELGO_H
 
@@ -33,7 +33,8 @@ enum bannelgo_number {
     BANNELGO_PAIR = 11,        /* Look-up: rule below rules, position <= n? */
     BANNELGO_RECORDS = 12,     /* Reading: is each record met possible, and no star round of length 0? */
     BANNELGO_STAR_ROUNDS = 13, /* Plain reading: did every star round consume? Under an accepted image every round does. */
-    BANNELGO_NESTING = 14      /* Is the start pair's nesting at most 4,096? */
+    BANNELGO_NESTING = 14,     /* Is the start pair's nesting at most 4,096? */
+    BANNELGO_ROWS = 15         /* Rows: do the rows fit? */
 };
 
 /* How much of the text a reading matched. */
@@ -53,6 +54,13 @@ static inline int bannelgo_is_matched(uint64_t word) { return (int)(word >> 62 &
 static inline uint64_t bannelgo_nesting(uint64_t word) { return word >> 33 & 0x1FFF; }
 static inline uint64_t bannelgo_examined(uint64_t word) { return word >> 16 & 0x1FFFF; }
 static inline uint64_t bannelgo_length(uint64_t word) { return word & 0xFFFF; }
+
+/* A row of a listing, a call that made the match: rule in bits 63 to 56, zero in bits 55 to 48, depth, which is the number of rows of
+ * the calls around it, in bits 47 to 32, start in bits 31 to 16, length in bits 15 to 0. */
+static inline uint64_t bannelgo_row_rule(uint64_t row) { return row >> 56; }
+static inline uint64_t bannelgo_row_depth(uint64_t row) { return row >> 32 & 0xFFFF; }
+static inline uint64_t bannelgo_row_start(uint64_t row) { return row >> 16 & 0xFFFF; }
+static inline uint64_t bannelgo_row_length(uint64_t row) { return row & 0xFFFF; }
 
 /* libexports.a */
 
@@ -77,7 +85,7 @@ static inline size_t bannelgo_table_words(const uint8_t *image, size_t cap) {
     return rules * (cap + 1);
 }
 
-/* What a sheet's call answers. Fields that it does not use are 0; a refusal has its number alone. */
+/* What a sheet's call answers. Fields that it does not use are 0; a refusal has its number alone. A listing is a reading too. */
 struct bannelgo_answer {
     uint64_t number;      /* 0 where the call is answered, else a number of enum bannelgo_number. */
     uint64_t outcome;     /* Reading: a number of enum bannelgo_outcome. */
@@ -85,7 +93,7 @@ struct bannelgo_answer {
     uint64_t examined;    /* Reading: the examined length in bytes. */
     uint64_t nesting;     /* Reading. */
     uint64_t evaluations; /* Reading: the reached pairs that had no record. */
-    uint64_t value;       /* Edit: the number of pairs that stand. Look-up: the word. */
+    uint64_t value;       /* Edit: the number of pairs that stand. Look-up: the word. Listing: the number of rows. */
 };
 
 /* Copies the text to the buffer, whose rest becomes 0, and so does the table. Refusals: 1 to 8. */
@@ -105,5 +113,11 @@ struct bannelgo_answer bannelgo_read(const uint8_t *image, size_t image_length, 
 /* The word in the slot of a rule and a position: 0 where the sheet holds no record of them. Refusals: 1 to 8, 11. */
 struct bannelgo_answer bannelgo_look_up(const uint8_t *image, size_t image_length, const uint8_t *buffer, size_t cap, size_t n,
                                         const uint64_t *table, size_t table_length, size_t rule, size_t position);
+
+/* Reads the text as bannelgo_read does, then writes a row for each call that made the match, parents first, left to right; the start
+ * rule has the first. No match gives 0 rows. Rows past the last written stay. Refusals: 1 to 8, 12 and 14 as in bannelgo_read; 15
+ * where there are more rows than rows_length, which keeps the records of the reading. A refusal leaves all rows. */
+struct bannelgo_answer bannelgo_list(const uint8_t *image, size_t image_length, const uint8_t *buffer, size_t cap, size_t n,
+                                     uint64_t *table, size_t table_length, uint64_t *rows, size_t rows_length);
 
 #endif

@@ -1,5 +1,5 @@
-/* Opens, edits, reads and looks up a sheet from C: the paper's cases M1 to M4 with each number and word that it prints, a plain
- * reading, and refusals. Each answer that differs from the expected one is printed; the exit status is 0 where none does. */
+/* Opens, edits, reads, looks up and lists a sheet from C: the paper's cases M1 to M4 and M6 with each number and word that it prints,
+ * a plain reading, and refusals. Each answer that differs from the expected one is printed; the exit status is 0 where none does. */
 #include "bannelgo.h"
 
 #include <inttypes.h>
@@ -88,6 +88,10 @@ static struct bannelgo_answer look_up(const struct sheet *sheet, size_t rule, si
     return bannelgo_look_up(D2, sizeof D2, sheet->buffer, CAP, sheet->n, sheet->table, TABLE, rule, position);
 }
 
+static struct bannelgo_answer list(struct sheet *sheet, uint64_t *rows, size_t slots) {
+    return bannelgo_list(D2, sizeof D2, sheet->buffer, CAP, sheet->n, sheet->table, TABLE, rows, slots);
+}
+
 /* What the calls are expected to answer. */
 
 static void expect_length_and_value(const char *what, struct bannelgo_answer got, uint64_t length, uint64_t value) {
@@ -141,6 +145,34 @@ static void marked_4(struct sheet *sheet) {
     expect_reading("M4: reading", read_sheet(sheet), BANNELGO_PART, 2, 3, 1);
 }
 
+/* The rows of "12": rule, depth, start, length. */
+static const uint64_t ROWS[3][4] = {{0, 0, 0, 2}, {1, 1, 0, 1}, {1, 1, 1, 1}};
+
+static void expect_row(uint64_t row, const uint64_t expected[4]) {
+    int depth = (int)bannelgo_row_depth(row);
+    printf("%*srule %" PRIu64 ", start %" PRIu64 ", length %" PRIu64 "\n", 2 + 2 * depth, "", bannelgo_row_rule(row),
+           bannelgo_row_start(row), bannelgo_row_length(row));
+    expect("  rule", bannelgo_row_rule(row), expected[0]);
+    expect("  depth", bannelgo_row_depth(row), expected[1]);
+    expect("  start", bannelgo_row_start(row), expected[2]);
+    expect("  length", bannelgo_row_length(row), expected[3]);
+}
+
+static void marked_6(struct sheet *sheet) {
+    uint64_t rows[4];
+    memset(rows, 0xFF, sizeof rows);
+    expect_length_and_value("open \"12\"", open_sheet(sheet, "12"), 2, 0);
+    expect_answer("M6: 2 slots", list(sheet, rows, 2), refused(BANNELGO_ROWS));
+    expect("  the first row", rows[0], UINT64_MAX);
+    struct bannelgo_answer expected = {.outcome = BANNELGO_WHOLE, .length = 2, .examined = 3, .nesting = 4, .value = 3};
+    expect_answer("M6: 4 slots", list(sheet, rows, 4), expected);
+    for (size_t row = 0; row < 3; row++) {
+        expect_row(rows[row], ROWS[row]);
+    }
+    expect("  the row past the last", rows[3], UINT64_MAX);
+    expect_text(sheet, "12");
+}
+
 /* Refusals. All but 12 change nothing. */
 
 static void refusals(struct sheet *sheet) {
@@ -156,6 +188,10 @@ static void refusals(struct sheet *sheet) {
     expect_answer("11: position 4 of 3 bytes", look_up(sheet, 0, 4), refused(BANNELGO_PAIR));
     expect_answer("3: an image without its last byte",
                   bannelgo_read(D2, sizeof D2 - 1, sheet->buffer, CAP, sheet->n, sheet->table, TABLE), refused(BANNELGO_SIZE));
+    uint64_t row = UINT64_MAX;
+    expect_answer("8: a listing with a word of the table missing",
+                  bannelgo_list(D2, sizeof D2, sheet->buffer, CAP, sheet->n, sheet->table, TABLE - 1, &row, 1), refused(BANNELGO_LOAN));
+    expect("  the row", row, UINT64_MAX);
     expect("  the sheet differs", memcmp(&before, sheet, sizeof before) != 0, 0);
 }
 
@@ -204,6 +240,7 @@ int main(void) {
     marked_1(&sheet);
     marked_2_and_3(&sheet);
     marked_4(&sheet);
+    marked_6(&sheet);
     refusals(&sheet);
     refused_record(&sheet);
     images();

@@ -28,3 +28,8 @@ static inline struct bannelgo_answer answer_of(const char *call, struct bannelgo
 #define bannelgo_edit(...) answer_of("edit", bannelgo_edit(__VA_ARGS__))
 #define bannelgo_read(...) answer_of("read", bannelgo_read(__VA_ARGS__))
 #define bannelgo_look_up(...) answer_of("look_up", bannelgo_look_up(__VA_ARGS__))
+#define bannelgo_list(...) answer_of("list", bannelgo_list(__VA_ARGS__))
+#define bannelgo_row_rule(...) word_of("row_rule", bannelgo_row_rule(__VA_ARGS__))
+#define bannelgo_row_depth(...) word_of("row_depth", bannelgo_row_depth(__VA_ARGS__))
+#define bannelgo_row_start(...) word_of("row_start", bannelgo_row_start(__VA_ARGS__))
+#define bannelgo_row_length(...) word_of("row_length", bannelgo_row_length(__VA_ARGS__))

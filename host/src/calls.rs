@@ -17,6 +17,10 @@ pub enum Call {
         rule: usize,
         position: usize,
     },
+    /// A reading, then the rows in so many lent slots.
+    List {
+        slots: usize,
+    },
 }
 
 /// What an edit answers.
@@ -36,13 +40,32 @@ pub struct SheetReading {
     pub evaluations: usize,
 }
 
-/// What a call answers where it is not refused.
+/// A call that made the match.
 #[derive(Clone, Copy, Debug, PartialEq, Eq)]
+pub struct Row {
+    pub rule: u8,
+    /// The number of rows of the calls around it.
+    pub depth: usize,
+    pub start: usize,
+    pub length: usize,
+}
+
+/// What a listing answers.
+#[derive(Clone, Debug, PartialEq, Eq)]
+pub struct Listing {
+    pub read: SheetReading,
+    /// Parents first, left to right.
+    pub rows: Vec<Row>,
+}
+
+/// What a call answers where it is not refused.
+#[derive(Clone, Debug, PartialEq, Eq)]
 pub enum Answer {
     Edited(Edited),
     Reading(SheetReading),
     /// The word of the slot that was looked up.
     Word(u64),
+    Listing(Listing),
 }
 
 impl fmt::Display for Call {
@@ -58,7 +81,18 @@ impl fmt::Display for Call {
             }
             Call::Read => write!(out, "read"),
             Call::LookUp { rule, position } => write!(out, "look up ({rule}, {position})"),
+            Call::List { slots } => write!(out, "list in {slots} slots"),
         }
+    }
+}
+
+impl fmt::Display for SheetReading {
+    fn fmt(&self, out: &mut fmt::Formatter<'_>) -> fmt::Result {
+        let SheetReading {
+            reading,
+            evaluations,
+        } = self;
+        write!(out, "{reading}, evaluations {evaluations}")
     }
 }
 
@@ -68,11 +102,9 @@ impl fmt::Display for Answer {
             Answer::Edited(Edited { length, standing }) => {
                 write!(out, "length {length}, {standing} stand")
             }
-            Answer::Reading(SheetReading {
-                reading,
-                evaluations,
-            }) => write!(out, "{reading}, evaluations {evaluations}"),
+            Answer::Reading(read) => write!(out, "{read}"),
             Answer::Word(word) => write!(out, "word {word:#018x}"),
+            Answer::Listing(Listing { read, rows }) => write!(out, "{read}, {} rows", rows.len()),
         }
     }
 }

@@ -28,6 +28,7 @@ pub fn question_in_words(number: u64) -> &'static str {
         }
         13 => "Plain reading: did every star round consume?",
         14 => "Is the start pair's nesting at most 4,096?",
+        15 => "Rows: do the rows fit?",
         _ => "There is no question with this number.",
     }
 }

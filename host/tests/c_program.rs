@@ -33,10 +33,19 @@ fn said(output: &Output) -> String {
     String::from_utf8_lossy(&said).into_owned()
 }
 
+/// What the example prints of M6: the rows of "12", each indented by its depth.
+const ROWS: &str = "
+M6: 4 slots
+  rule 0, start 0, length 2
+    rule 1, start 0, length 1
+    rule 1, start 1, length 1
+";
+
 #[test]
 fn the_c_program_gets_the_papers_answers() {
     let output = run(&mut Command::new(compiled("example", None)));
     assert_eq!(output.status.code(), Some(0), "{}", said(&output));
+    assert!(said(&output).contains(ROWS), "{}", said(&output));
 }
 
 #[test]
@@ -53,7 +62,10 @@ fn the_c_program_tells_a_wrong_answer() {
     exits_with(0, "none", 0);
     exits_with(1, "check_image", 0);
     exits_with(1, "plain_reading", 0);
-    for call in ["open", "edit", "read", "look_up"] {
+    for field in ["row_rule", "row_depth", "row_start", "row_length"] {
+        exits_with(1, field, 0);
+    }
+    for call in ["open", "edit", "read", "look_up", "list"] {
         for field in 0..7 {
             exits_with(1, call, field);
         }

@@ -3,8 +3,8 @@
 
 mod sheets;
 
-use bannelgo_host::small_stack::on_small_stack;
-use sheets::{deep, every, foreign, lists, long, planners, tally, true_tables};
+use bannelgo_host::small_stack::{on_listing_stack, on_small_stack};
+use sheets::{deep, every, foreign, listings, lists, long, planners, tally, true_tables};
 
 #[test]
 fn lists_of_calls_are_the_ledgers() {
@@ -37,6 +37,9 @@ fn lists_of_calls_are_the_ledgers() {
             ("10", 20_000),
             ("11", 20_000),
             ("14", 500),
+            ("15", 20_000),
+            ("rows", 20_000),
+            ("0 rows", 20_000),
         ];
         tally::settle(&tallies, 200_000, &fewest);
     });
@@ -58,6 +61,30 @@ fn calls_over_any_words_are_the_papers() {
             ("12", 5_000),
             ("14", 100),
             ("free", 5_000),
+        ];
+        tally::settle(&tallies, 150_000, &fewest);
+    });
+}
+
+#[test]
+fn listings_are_the_ledgers_and_the_papers() {
+    on_listing_stack(|| {
+        let tallies = [
+            listings::near_the_limit(3301),
+            listings::by_choices_and_calls(3302),
+            listings::doubling(3303),
+            listings::long_texts(3304),
+            foreign::listings(3305),
+            foreign::endless(3307),
+            true_tables::listings(3306),
+        ];
+        let fewest = [
+            ("rows", 20_000),
+            ("0 rows", 20_000),
+            ("12", 5_000),
+            ("14", 500),
+            ("15", 5_000),
+            ("free l", 5_000),
         ];
         tally::settle(&tallies, 150_000, &fewest);
     });

@@ -7,7 +7,7 @@ use bannelgo_host::plain_reading::{Outcome, Reading};
 use bannelgo_host::reference::ledger::Ledger;
 use bannelgo_host::reference::lent::Loan;
 use bannelgo_host::reference::record::Fields;
-use bannelgo_host::reference::{self, lent_reading};
+use bannelgo_host::reference::{self, lent_listing, lent_reading};
 use bannelgo_host::rng::Rng;
 use bannelgo_host::samples::{D2, M10};
 use bannelgo_host::small_stack::on_stack_of;
@@ -166,8 +166,12 @@ fn one_list(rng: &mut Rng, grammar: &Grammar) {
     };
     assert_eq!(loan.open(grammar, &text), Ok(text.len()));
     let mut typist = Typist::default();
-    for _ in 0..12 {
-        let call = typist.call(rng, grammar, ledger.text(), cap);
+    for _ in 0..14 {
+        let slots = rng.below(30);
+        let call = match rng.below(8) {
+            0 => Call::List { slots },
+            _ => typist.call(rng, grammar, ledger.text(), cap),
+        };
         let answer = over_words(grammar, &mut loan, &call);
         assert_eq!(ledger.call(&call), answer, "{call}, {grammar:?}");
         let left = Loan {
@@ -200,6 +204,10 @@ fn over_words(grammar: &Grammar, loan: &mut Loan, call: &Call) -> Result<Answer,
         }
         Call::LookUp { rule, position } => {
             Ok(Answer::Word(loan.look_up(grammar, *rule, *position)))
+        }
+        Call::List { slots } => {
+            let listing = lent_listing::list(grammar, loan, *slots);
+            listing.expect("true words settle it").map(Answer::Listing)
         }
     }
 }

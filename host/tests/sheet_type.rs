@@ -1,7 +1,7 @@
 //! The safe `Sheet`: the paper's marked cases, lists of calls, and refusals in words.
 
 use bannelgo_host::bridge::{AnswerFields, Refusal, Sheet};
-use bannelgo_host::calls::{Answer, Call, Edited, SheetReading};
+use bannelgo_host::calls::{Call, Edited, SheetReading};
 use bannelgo_host::generate::{small_grammar, text_of, Typist};
 use bannelgo_host::numbering::{image_of, Numbering};
 use bannelgo_host::plain_reading::Outcome::{self, Nothing, Part, Whole};
@@ -111,23 +111,15 @@ fn sheet_and_ledger_answer_the_same() {
         let mut sheet = Sheet::open(&image, &text, cap).expect("the sheet is opened");
         let mut typist = Typist::default();
         for _ in 0..10 {
-            let call = typist.call(rng, &grammar, ledger.text(), cap);
+            let slots = rng.below(30);
+            let call = match rng.below(6) {
+                0 => Call::List { slots },
+                _ => typist.call(rng, &grammar, ledger.text(), cap),
+            };
             let expected = ledger.call(&call).map_err(Refusal::Question);
-            assert_eq!(made(&mut sheet, &call), expected, "{call}, {grammar:?}");
+            assert_eq!(sheet.call(&call), expected, "{call}, {grammar:?}");
             assert_eq!(sheet.text(), ledger.text(), "{call}, {grammar:?}");
         }
-    }
-}
-
-fn made(sheet: &mut Sheet, call: &Call) -> Result<Answer, Refusal> {
-    match call {
-        Call::Edit {
-            start,
-            end,
-            replacement,
-        } => sheet.edit(*start, *end, replacement).map(Answer::Edited),
-        Call::Read => sheet.read().map(Answer::Reading),
-        Call::LookUp { rule, position } => sheet.look_up(*rule, *position).map(Answer::Word),
     }
 }
 
@@ -144,6 +136,7 @@ fn refusals_have_numbers_and_words() {
     refused(10, sheet.edit(3, 3, b"456789").unwrap_err());
     refused(11, sheet.look_up(2, 0).unwrap_err());
     refused(11, sheet.look_up(0, 4).unwrap_err());
+    refused(15, sheet.list(2).unwrap_err());
     assert_eq!(sheet.text(), b"12a");
     assert_eq!(sheet.read(), read((Part, 2, 3, 4, 0)));
 
@@ -175,4 +168,5 @@ fn other_fields_are_unknown() {
     assert_eq!(fields.opened(), Ok(1));
     fields.outcome = 3;
     assert_eq!(fields.read(), Err(Refusal::UnknownFields(fields)));
+    assert_eq!(fields.listed(&[]), Err(Refusal::UnknownFields(fields)));
 }

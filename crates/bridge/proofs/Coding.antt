@@ -10,8 +10,10 @@ use Rattle.ledger.specs.declared.EditedSheet.{EditedSheet}
 use Rattle.ledger.specs.declared.ReadAnswer.{ReadAnswer}
 use Rattle.ledger.specs.declared.SheetReading.{SheetReading}
 use Rattle.ledger.specs.declared.LookUpAnswer.{LookUpAnswer}
+use Rattle.ledger.specs.declared.ListAnswer.{ListAnswer}
+use Rattle.ledger.specs.declared.SheetListing.{SheetListing}
 use Rattle.bridge.specs.declared.fields.Fields.{Fields}
-use Rattle.bridge.specs.Fields.{openFields, editFields, readFields, lookUpFields, outcomeNumber}
+use Rattle.bridge.specs.Fields.{openFields, editFields, readingFields, readFields, lookUpFields, listFields, outcomeNumber}
 
 -- Two codes with the same number.
 same-number : {a b : Fields} → a ≡ b → a .number ≡ b .number
@@ -63,18 +65,32 @@ abbrev pub ReadNumbered : ReadAnswer → Type 0
 ReadNumbered (ReadAnswer.Read x) = Unit {0}
 ReadNumbered (ReadAnswer.Refused k) = 1 ≤ k
 
-pub read-once : (a b : ReadAnswer) → ReadNumbered a → ReadNumbered b → readFields a ≡ readFields b → a ≡ b
-read-once (ReadAnswer.Read x) (ReadAnswer.Read y) h k e =
+reading-once : (x y : SheetReading) (v w : ℕ) → readingFields x v ≡ readingFields y w → x ≡ y
+reading-once x y v w e =
     let o = outcome-once (x .outcome) (y .outcome) (ap (λ (f : Fields). f .outcome) e) in
     λ i.
-    ReadAnswer.Read
-    (record {
+    record {
       outcome = o i;
       length = e i .length;
       examined = e i .examined;
       nesting = e i .nesting;
       evaluations = e i .evaluations;
-    })
+    }
+
+pub read-once : (a b : ReadAnswer) → ReadNumbered a → ReadNumbered b → readFields a ≡ readFields b → a ≡ b
+read-once (ReadAnswer.Read x) (ReadAnswer.Read y) h k e = ap ReadAnswer.Read (reading-once x y 0 0 e)
 read-once (ReadAnswer.Read x) (ReadAnswer.Refused j) h k e = absurd (let d = same-number e in omega arith)
 read-once (ReadAnswer.Refused i) (ReadAnswer.Read y) h k e = absurd (let d = same-number e in omega arith)
 read-once (ReadAnswer.Refused i) (ReadAnswer.Refused j) h k e = ap ReadAnswer.Refused (same-number e)
+
+abbrev pub ListNumbered : ListAnswer → Type 0
+ListNumbered (ListAnswer.Listed x) = Unit {0}
+ListNumbered (ListAnswer.Refused k) = 1 ≤ k
+
+pub list-once : (a b : ListAnswer) → ListNumbered a → ListNumbered b → listFields a ≡ listFields b → a ≡ b
+list-once (ListAnswer.Listed x) (ListAnswer.Listed y) h k e =
+    let r = reading-once (x .reading) (y .reading) (x .rows) (y .rows) e in
+    λ i. ListAnswer.Listed (record { reading = r i; rows = e i .value })
+list-once (ListAnswer.Listed x) (ListAnswer.Refused j) h k e = absurd (let d = same-number e in omega arith)
+list-once (ListAnswer.Refused i) (ListAnswer.Listed y) h k e = absurd (let d = same-number e in omega arith)
+list-once (ListAnswer.Refused i) (ListAnswer.Refused j) h k e = ap ListAnswer.Refused (same-number e)

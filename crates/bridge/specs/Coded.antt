@@ -6,10 +6,12 @@ use Rattle.ledger.specs.declared.OpenAnswer.{OpenAnswer}
 use Rattle.ledger.specs.declared.EditAnswer.{EditAnswer}
 use Rattle.ledger.specs.declared.ReadAnswer.{ReadAnswer}
 use Rattle.ledger.specs.declared.LookUpAnswer.{LookUpAnswer}
+use Rattle.ledger.specs.declared.ListAnswer.{ListAnswer}
 use Rattle.ledger.specs.Promises.{OpenPromise, EditPromise, LookUpPromise}
 use Rattle.ledger.specs.Reading.{ReadPromise}
+use Rattle.ledger.specs.Listing.{ListPromise}
 use Rattle.bridge.specs.declared.fields.Fields.{Fields}
-use Rattle.bridge.specs.Fields.{openFields, editFields, readFields, lookUpFields}
+use Rattle.bridge.specs.Fields.{openFields, editFields, readFields, lookUpFields, listFields}
 
 pub record CodedOpen (img text B W : List ℕ) (f : Fields) (B′ W′ : List ℕ) : Type 0 where
   pub answer : OpenAnswer
@@ -30,3 +32,8 @@ pub record CodedLookUp (img B : List ℕ) (n : ℕ) (W : List ℕ) (rule positio
   pub answer : LookUpAnswer
   pub promise : LookUpPromise img B n W rule position answer
   pub coded : f ≡ lookUpFields answer
+
+pub record CodedList (img B : List ℕ) (n : ℕ) (W R : List ℕ) (f : Fields) (W′ R′ : List ℕ) : Type 0 where
+  pub answer : ListAnswer
+  pub promise : ListPromise img B n W R answer W′ R′
+  pub coded : f ≡ listFields answer

@@ -9,6 +9,8 @@ use Rattle.ledger.specs.declared.EditedSheet.{EditedSheet}
 use Rattle.ledger.specs.declared.ReadAnswer.{ReadAnswer}
 use Rattle.ledger.specs.declared.SheetReading.{SheetReading}
 use Rattle.ledger.specs.declared.LookUpAnswer.{LookUpAnswer}
+use Rattle.ledger.specs.declared.ListAnswer.{ListAnswer}
+use Rattle.ledger.specs.declared.SheetListing.{SheetListing}
 use Rattle.bridge.specs.declared.fields.Fields.{Fields}
 
 -- A refusal has its number alone.
@@ -36,9 +38,9 @@ outcomeNumber Nothing = 0
 outcomeNumber Part = 1
 outcomeNumber Whole = 2
 
--- A reading: all but the value.
-abbrev pub readFields : ReadAnswer → Fields
-readFields (ReadAnswer.Read x) =
+-- What a reading found, with a value.
+abbrev pub readingFields : SheetReading → (value : ℕ) → Fields
+readingFields x value =
     record {
       number = 0;
       outcome = outcomeNumber (x .outcome);
@@ -46,6 +48,15 @@ readFields (ReadAnswer.Read x) =
       examined = x .examined;
       nesting = x .nesting;
       evaluations = x .evaluations;
-      value = 0;
+      value = value;
     }
+
+-- A reading: all but the value.
+abbrev pub readFields : ReadAnswer → Fields
+readFields (ReadAnswer.Read x) = readingFields x 0
 readFields (ReadAnswer.Refused k) = refusal k
+
+-- A listing: its reading, and as value the number of rows.
+abbrev pub listFields : ListAnswer → Fields
+listFields (ListAnswer.Listed x) = readingFields (x .reading) (x .rows)
+listFields (ListAnswer.Refused k) = refusal k

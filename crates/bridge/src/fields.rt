@@ -1,11 +1,13 @@
 // The seven numbers that a call answers with; which they are for each case of each answer is said in specs/Fields.antt.
 use ledger::EditAnswer;
+use ledger::ListAnswer;
 use ledger::LookUpAnswer;
 use ledger::OpenAnswer;
 use ledger::ReadAnswer;
+use ledger::SheetReading;
 use reading::plain::Outcome;
 ghost use mathlib.Core.Path.{_≡_};
-ghost use Rattle.bridge.specs.Fields.{refusal, openFields, editFields, readFields, lookUpFields, outcomeNumber};
+ghost use Rattle.bridge.specs.Fields.{refusal, openFields, editFields, readingFields, readFields, lookUpFields, listFields, outcomeNumber};
 
 #[repr(C)]
 pub struct Fields {
@@ -96,22 +98,35 @@ fn outcome_number(outcome: Outcome) -> u64
     }
 }
 
+fn of_reading(reading: SheetReading, value: u64) -> Fields
+    ensures { λ r. ⌜ r ≡ readingFields reading value ⌝ }
+{
+    let outcome = reading.outcome;
+    Fields {
+        number: 0,
+        outcome: outcome_number(outcome),
+        length: wide(reading.length),
+        examined: wide(reading.examined),
+        nesting: wide(reading.nesting),
+        evaluations: reading.evaluations,
+        value,
+    }
+}
+
 pub fn of_read(answer: ReadAnswer) -> Fields
     ensures { λ r. ⌜ r ≡ readFields answer ⌝ }
 {
     match answer {
-        ReadAnswer::Read(reading) => {
-            let outcome = reading.outcome;
-            Fields {
-                number: 0,
-                outcome: outcome_number(outcome),
-                length: wide(reading.length),
-                examined: wide(reading.examined),
-                nesting: wide(reading.nesting),
-                evaluations: reading.evaluations,
-                value: 0,
-            }
-        }
+        ReadAnswer::Read(reading) => of_reading(reading, 0),
         ReadAnswer::Refused(number) => refused(number),
+    }
+}
+
+pub fn of_list(answer: ListAnswer) -> Fields
+    ensures { λ r. ⌜ r ≡ listFields answer ⌝ }
+{
+    match answer {
+        ListAnswer::Listed(listing) => of_reading(listing.reading, wide(listing.rows)),
+        ListAnswer::Refused(number) => refused(number),
     }
 }

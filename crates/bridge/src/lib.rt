@@ -2,7 +2,7 @@
 pub mod fields;
 
 use fields::Fields;
-ghost use Rattle.bridge.specs.Coded.{CodedOpen, CodedEdit, CodedRead, CodedLookUp};
+ghost use Rattle.bridge.specs.Coded.{CodedOpen, CodedEdit, CodedRead, CodedLookUp, CodedList};
 
 #[no_mangle]
 pub extern "C" fn bannelgo_open(
@@ -50,4 +50,17 @@ pub extern "C" fn bannelgo_look_up(
     ensures { λ r. ⌜ CodedLookUp (now (image .entry)) (now (buffer .entry)) n (now (table .entry)) rule position r ⌝ }
 {
     fields::of_look_up(sheet::look_up::look_up(image, buffer, n, table, rule, position))
+}
+
+#[no_mangle]
+pub extern "C" fn bannelgo_list(
+    image: &[u8],
+    buffer: &[u8],
+    n: usize,
+    table: &mut [u64],
+    rows: &mut [u64],
+) -> Fields
+    ensures { λ r. ⌜ CodedList (now (image .entry)) (now (buffer .entry)) n (now (table .entry)) (now (rows .entry)) r (now (table .exit)) (now (rows .exit)) ⌝ }
+{
+    fields::of_list(sheet::list::list_sheet(image, buffer, n, table, rows))
 }

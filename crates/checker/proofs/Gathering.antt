@@ -4,20 +4,20 @@
 -- Assumes nothing.
 use Prim.Native.Nat.{ℕ, _<_}
 use mathlib.Core.Path.{_≡_, refl, sym, _∙_}
-use mathlib.Core.Bool.{Bool, true, false, _&&_, _||_, true≢false, or-true}
-use mathlib.Core.Logic.{_⊎_, inl, inr, ⊎-elim}
+use mathlib.Core.Bool.{true, true≢false, or-true}
+use mathlib.Core.Logic.{⊎-elim}
 use mathlib.Core.List.{List}
 use lib.ListN.{getD}
-use Rattle.grammar.specs.Image.{nodes, rules, root, node, body}
+use Rattle.grammar.specs.Image.{nodes, root, node, body}
 use Rattle.grammar.specs.Image.{Node, empty, terminal, sequence, choice, star, not-predicate, call, unlawful}
 use Rattle.grammar.specs.Outcomes.{Outcome, matches-empty, consumes, fails, Has, empty-0, terminal-1, terminal-f, call-body}
 use Rattle.grammar.specs.Outcomes.{then-00, then-10, then-11, then-01, then-f, then-0f, then-1f, else-0, else-1, else-second}
 use Rattle.grammar.specs.Outcomes.{star-1, star-0, not-f0, not-f1, not-0}
 use Rattle.grammar.specs.Questions.{Question4}
 use Rattle.grammar.proofs.References.{Refers, refers, root-in-range}
-use Rattle.checker.specs.Sets.{bit, pack, thenSet, elseSet, starSet, notSet}
+use Rattle.checker.specs.Sets.{bit, thenSet, elseSet, starSet, notSet}
 use Rattle.checker.specs.Rounds.{gathered}
-use Rattle.checker.proofs.Bits.{told, bit-pack, both, either}
+use Rattle.checker.proofs.Bits.{bit-pack, both, either}
 
 -- The sets tell nothing wrong.
 abbrev pub Only : (img known : List ℕ) → Type 0

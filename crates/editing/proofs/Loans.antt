@@ -2,18 +2,14 @@
 -- its size. Assumes nothing.
 use Prim.Native.Nat.{ℕ, _+_, _-_, _/_, _%_, _≤_, _<_}
 use native.Mathlib.Omega.{arith}
-use mathlib.Core.Path.{_≡_, refl, sym, ap, ap₂, _∙_}
-use mathlib.Core.Bool.{Bool, true, false, _&&_, _||_}
+use mathlib.Core.Path.{_≡_, sym, ap, ap₂, _∙_}
 use mathlib.Core.List.{List, _++_, append-assoc}
 use lib.ListN.{length, take, drop, replicate, length-append, length-drop, length-replicate, getD-replicate}
 use lib.Seq.{length-take-le, take-append-le, drop-append-le, take-at, drop-at}
-use lib.Dec.{leb}
-use borrow.Author.Tests.{leb-true}
 use Rattle.buffers.proofs.Parts.{joined-first}
 use Rattle.editing.specs.Text.{EditFits, newLength, textAfter, opened, edited}
 use Rattle.editing.specs.Table.{tableWord, tableSize, TableLent, wordAfter, wordsAfter, tableAfter, clearedTable}
 use Rattle.records.specs.Slots.{slotOf}
-use Rattle.editing.specs.Pairs.{standsAfter}
 use Rattle.editing.proofs.Slots.{row-room}
 use Rattle.editing.proofs.Cases.{tabulate-long}
 
@@ -83,20 +79,3 @@ module _ {R cap : ℕ} {t : List ℕ} (lent : TableLent R cap t) where
 
     pub after-tail : drop (tableSize R cap) (tableAfter R cap n s e k t) ≡ drop (tableSize R cap) t
     after-tail = drop-at (wordsAfter R cap n s e k t) (drop (tableSize R cap) t) (tableSize R cap) after-words
-
--- A pair that stands is at a position of the new text.
-pub stands-in-text :
-    {cap n s e k : ℕ} (held : ℕ → Bool) (examined : ℕ → ℕ) (q : ℕ)
-    → EditFits cap n s e k
-    → standsAfter held examined n s e k q ≡ true
-    → q ≤ newLength n s e k
-unfolding standsAfter
-stands-in-text {cap} {n} {s} {e} {k} held examined q fits h =
-    go (leb q s) (held q && leb (q + examined q) s) (leb (s + k) q) (leb q (newLength n s e k)) (held (q - k + (e - s))) refl refl h
-  where
-    go :
-        (a b c d f : Bool) → leb q s ≡ a → leb q (newLength n s e k) ≡ d → ((a && b) || (c && (d && f))) ≡ true → q ≤ newLength n s e k
-    go true b c d f x y z = let l = leb-true q s x in omega arith
-    go false b true true f x y z = leb-true q (newLength n s e k) y
-    go false b true false f x y z = absurd (let i : _≡_ {A = ℕ} 0 1 = cc in omega arith)
-    go false b false d f x y z = absurd (let i : _≡_ {A = ℕ} 0 1 = cc in omega arith)

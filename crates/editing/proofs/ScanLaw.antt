@@ -1,9 +1,9 @@
 -- One turn of the scan: the field of a word is at most the field of a word that has its bits, and a clean scan has seen no word that is
 -- neither held nor 0. Assumes nothing.
-use Prim.Native.Nat.{ℕ, _+_, _-_, _/_, _%_, _^_, _≤_, _<_}
+use Prim.Native.Nat.{ℕ, _+_, _/_, _%_, _^_, _≤_, _<_}
 use native.Mathlib.Omega.{arith}
 use mathlib.Core.Path.{_≡_, refl, sym, ap, _∙_}
-use mathlib.Core.Bool.{true, false, true≢false}
+use mathlib.Core.Bool.{false, true≢false}
 use mathlib.Core.List.{List}
 use lib.ListN.{length}
 use lib.Bits.{bitOr, bitAnd, or-add-and, and-le-l, and-le-r, or-shr, or-mod}

@@ -1,11 +1,9 @@
 -- Slots and rows: the arithmetic of position × rules + rule. Assumes nothing.
-use Prim.Native.Nat.{ℕ, _+_, _-_, _*_, _/_, _%_, _≤_, _<_}
+use Prim.Native.Nat.{ℕ, _+_, _*_, _/_, _%_, _≤_, _<_}
 use native.Mathlib.Omega.{arith}
-use native.Mathlib.Nat.{mul-le-mul-right, div-lt-iff-lt-mul, div-add-mod', mod-lt}
+use native.Mathlib.Nat.{mul-le-mul-right, div-lt-iff-lt-mul, div-add-mod'}
 use mathlib.Core.Path.{_≡_}
-use mathlib.Core.Logic.{⊎-elim}
 use lib.Arith.{digits-mod, digits-div}
-use Rattle.buffers.proofs.Fill.{cut}
 use Rattle.records.specs.Slots.{slotOf}
 
 -- A row below others lies before their end.
@@ -32,9 +30,3 @@ module _ (R : ℕ) (some : 1 ≤ R) where
 
   pub row-below : (j rows : ℕ) → j < rows * R → j / R < rows
   row-below j rows h = div-lt-iff-lt-mul {k = R} {x = j} {y = rows} some .1 h
-
-  pub row-from : (j rows : ℕ) → rows * R ≤ j → rows ≤ j / R
-  row-from j rows h =
-      let e = div-add-mod' j R in
-      let l = mod-lt j some in
-      ⊎-elim (λ (p : j / R < rows). absurd (let m = row-room R (j / R) rows p in omega arith)) (λ (p : rows ≤ j / R). p) (cut (j / R) rows)

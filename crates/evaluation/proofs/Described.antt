@@ -4,8 +4,8 @@
 --     rounds-move   where a star's body lacks outcome 0, no matched round has length 0
 use Prim.Native.Nat.{ℕ, zero, suc, _+_, _≤_}
 use native.Mathlib.Omega.{arith}
-use mathlib.Core.Path.{_≡_, refl, sym, ap, _∙_, subst}
-use mathlib.Core.Bool.{Bool, true, false, not, true≢false}
+use mathlib.Core.Path.{_≡_, refl, sym, subst}
+use mathlib.Core.Bool.{Bool, true, false, not}
 use mathlib.Core.List.{List}
 use Rattle.grammar.specs.declared.Evaluation.{Evaluation}
 use Rattle.grammar.specs.Image.{Terminal, Node, terminal, sequence, choice, star, not-predicate, node, body}

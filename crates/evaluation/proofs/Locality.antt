@@ -11,7 +11,6 @@ use mathlib.Core.List.{List, _++_}
 use lib.ListN.{length, take}
 use Rattle.grammar.specs.declared.Evaluation.{Evaluation}
 use Rattle.grammar.specs.Evaluates.{Evaluates, Fresh, Subject, CallAnswer}
-use Rattle.grammar.specs.Evaluates.{firstFailed, inSequence, takenOver, secondChoice, lastRound, roundThen, negated}
 use Rattle.grammar.specs.Evaluates.{ev-empty, ev-terminal, ev-then-first-fails, ev-then, ev-else-first, ev-else-second}
 use Rattle.grammar.specs.Evaluates.{ev-star, ev-last-round, ev-round, ev-not, ev-call, ev-body, ev-record}
 use Rattle.grammar.specs.Terminal.{terminalAt}

@@ -4,7 +4,7 @@ use Prim.Native.Nat.{ℕ, _≤_}
 use mathlib.Core.List.{List}
 use lib.ListN.{length}
 use Rattle.grammar.specs.declared.Evaluation.{Evaluation}
-use Rattle.grammar.specs.Image.{Node, body}
+use Rattle.grammar.specs.Image.{Node}
 use Rattle.grammar.specs.Outcomes.{Has}
 use Rattle.grammar.specs.Evaluates.{CallAnswer, by-body, by-record, no-answer, bodiesOnly, Fresh, Subject, a-node}
 use Rattle.evaluation.specs.Within.{Within}

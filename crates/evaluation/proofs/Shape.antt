@@ -1,10 +1,9 @@
 -- The shape of evaluations: an evaluation at a position of the text stays in the text, examines no further than the end, examines
 -- what it consumes, and a failure has length 0; where the records that answer calls have that shape too. Assumes nothing.
-use Prim.Native.Nat.{ℕ, _+_, _≤_, max}
+use Prim.Native.Nat.{ℕ, _+_, _≤_}
 use native.Mathlib.Omega.{arith}
-use native.Mathlib.Nat.{max-le, le-max-left, le-max-right}
-use mathlib.Core.Path.{_≡_, refl, sym, ap, _∙_, subst}
-use mathlib.Core.Bool.{Bool, true, false, not, true≢false}
+use mathlib.Core.Path.{_≡_, refl, ap}
+use mathlib.Core.Bool.{Bool, true, false, true≢false}
 use mathlib.Core.List.{List}
 use lib.ListN.{length}
 use Rattle.grammar.specs.declared.Evaluation.{Evaluation}

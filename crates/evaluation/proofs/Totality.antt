@@ -4,12 +4,12 @@
 --     total-pair   and of every pair
 use Prim.Native.Nat.{ℕ, zero, suc, _+_, _-_, _≤_, _<_}
 use native.Mathlib.Omega.{arith}
-use mathlib.Core.Path.{_≡_, refl, sym, ap, _∙_, subst}
-use mathlib.Core.Bool.{Bool, true, false, true≢false}
+use mathlib.Core.Path.{_≡_, refl, subst}
+use mathlib.Core.Bool.{Bool, true, false}
 use mathlib.Core.List.{List}
 use lib.ListN.{length}
 use Rattle.grammar.specs.declared.Evaluation.{Evaluation}
-use Rattle.grammar.specs.Image.{Node, sequence, choice, star, not-predicate, call, node, nodes, rules, root, body}
+use Rattle.grammar.specs.Image.{Node, sequence, choice, star, node, nodes, rules, root, body}
 use Rattle.grammar.specs.Outcomes.{Has, matches-empty}
 use Rattle.grammar.specs.WellFormed.{WellFormed, wf-empty, wf-terminal, wf-call, wf-then, wf-else, wf-star, wf-not}
 use Rattle.grammar.specs.Questions.{Accepted}
@@ -19,7 +19,6 @@ use Rattle.grammar.specs.Evaluates.{emptyHere, firstFailed, inSequence, takenOv
 use Rattle.grammar.specs.Evaluates.{ev-empty, ev-terminal, ev-then-first-fails, ev-then, ev-else-first, ev-else-second}
 use Rattle.grammar.specs.Evaluates.{ev-star, ev-last-round, ev-round, ev-not, ev-call, ev-body}
 use Rattle.grammar.proofs.References.{Refers, refers, root-in-range}
-use Rattle.evaluation.specs.Within.{Within}
 use Rattle.evaluation.proofs.Described.{shown}
 use Rattle.evaluation.proofs.Plain.{fresh-within, fresh-described}
 

@@ -1,10 +1,10 @@
 -- In an image whose words are lawful (question 4), a node refers only to nodes and rules of the image.
 -- Assumes nothing.
-use Prim.Native.Nat.{ℕ, zero, suc, _≤_, _<_}
+use Prim.Native.Nat.{ℕ, zero, suc, _<_}
 use native.Mathlib.Omega.{arith}
 use mathlib.Core.Path.{_≡_}
 use mathlib.Core.List.{List}
-use Rattle.grammar.specs.Image.{rules, nodes, root, kind, fieldA, fieldB, node}
+use Rattle.grammar.specs.Image.{rules, nodes, root, kind, node}
 use Rattle.grammar.specs.Image.{Node, empty, terminal, sequence, choice, star, not-predicate, call, unlawful}
 use Rattle.grammar.specs.Questions.{Question4}
 use Rattle.grammar.proofs.Nodes.{is-empty, is-any, is-range, is-sequence, is-choice, is-star, is-not, is-call, is-unlawful}

@@ -1,6 +1,6 @@
 // Question 4: "Is every word lawful: zero bits and unused fields 0, kind 0 to 7, A ≤ B ≤ 255 in kind 2, references in range,
 // children above parents?"
-ghost use Rattle.grammar.specs.Questions.{Question2, Question4, LawfulRule, LawfulNode};
+ghost use Rattle.grammar.specs.Questions.{Question4, LawfulRule, LawfulNode};
 ghost use Rattle.lawful.specs.Tells.{Tells};
 ghost use Rattle.lawful.specs.Words.{RulesLawful, NodesLawful, Child};
 

@@ -2,12 +2,13 @@
 -- Assumes nothing.
 --     only-these-numbers    1 to 8, 12 and 13 never occur
 --     as-plain              a reading answers what the plain reading answers, with the number of pairs reached and not held
+--     lists-as-plain        and so does a listing that is not refused with 15
 use Prim.Native.Nat.{ℕ, _≤_, _<_}
 use native.Mathlib.Omega.{arith}
 use mathlib.Core.Path.{_≡_, refl, sym, ap, _∙_, subst}
 use mathlib.Core.Bool.{Bool, true, false}
 use mathlib.Core.List.{List, [], _∷_}
-use mathlib.Core.Logic.{inl, inr}
+use mathlib.Core.Logic.{_⊎_, inl, inr}
 use lib.ListN.{length, take, drop}
 use lib.Dec.{leb, eqb}
 use borrow.Author.Tests.{le-leb, lt-leb, eq-eqb, ne-eqb}
@@ -23,16 +24,19 @@ use Rattle.reading.specs.declared.plain.PlainAnswer.{PlainAnswer}
 use Rattle.reading.specs.Plain.{Says, Reports, ShortText, DepthAllowed, ofPlain, PlainRead, outcomeOf}
 use Rattle.editing.specs.Table.{tableSize}
 use Rattle.ledger.specs.declared.ReadAnswer.{ReadAnswer}
+use Rattle.ledger.specs.declared.ListAnswer.{ListAnswer}
 use Rattle.ledger.specs.Answers.{sheetReading}
 use Rattle.ledger.specs.Reading.{ReadPromise}
-use Rattle.ledger.specs.Ledger.{Evaluations, Call, edit, reading, look-up, reads, Ledger, openedLedger, turn, replies}
-use Rattle.ledger.specs.Ledger.{valueIn, newPairs, passes9, passes10, passes11, passes14, editTurn, readTurn, lookUpTurn}
-use Rattle.ledger.specs.Demand.{loan}
-use Rattle.ledger.specs.Corollaries.{LedgersNumber, All, OnlyTheseNumbers, inSession, AsPlain}
+use Rattle.ledger.specs.Listing.{ListPromise}
+use Rattle.ledger.specs.Ledger.{Evaluations, Call, edit, reading, look-up, listing, Reply, edits, reads, finds, lists, Ledger, openedLedger, turn, replies}
+use Rattle.ledger.specs.Ledger.{valueIn, newPairs, passes9, passes10, passes11, passes14, passes15, editTurn, readTurn, lookUpTurn, listTurn}
+use Rattle.ledger.specs.Demand.{loan, rowsGiven}
+use Rattle.ledger.specs.Corollaries.{LedgersNumber, All, OnlyTheseNumbers, inSession, AsPlain, listedReading, ListsAsPlain}
 use Rattle.ledger.proofs.Asked.{first-rest, image-numbers}
 use Rattle.ledger.proofs.Fresh.{evaluations}
 use Rattle.ledger.proofs.Inv.{Inv, text-is, short-text}
 use Rattle.ledger.proofs.StepRead.{read-step}
+use Rattle.ledger.proofs.StepList.{list-step}
 use Rattle.ledger.proofs.Demand.{opened-image, opening, Holds, holds, all-calls, demand-3}
 
 -- The ledger's numbers.
@@ -50,11 +54,17 @@ module _ (ev : Evaluations) (cap : ℕ) where
   look-up-number false l rule q = inr refl
   look-up-number true l rule q = inl refl
 
+  list-number : (a b : Bool) (l : Ledger) → LedgersNumber (listTurn ev a b l .reply)
+  list-number false b l = inr (inl refl)
+  list-number true false l = inr (inr refl)
+  list-number true true l = inl refl
+
   turn-number : (l : Ledger) (call : Call) → LedgersNumber (turn ev cap l call .reply)
   unfolding turn
   turn-number l (edit s e r) = edit-number (passes9 l s e) (passes10 cap l s e r) l s e r
   turn-number l reading = read-number (passes14 ev l) l
   turn-number l (look-up rule q) = look-up-number (passes11 l rule q) l rule q
+  turn-number l (listing slots) = list-number (passes14 ev l) (passes15 ev l slots) l
 
   all-numbers : (l : Ledger) (calls : List Call) → All LedgersNumber (replies ev cap l calls)
   unfolding replies
@@ -66,6 +76,16 @@ only-these-numbers img text B₀ W₀ B W n p calls answers img′ B′ W′ n�
     let accepted = opened-image p .0 in
     let x = demand-3 img text B₀ W₀ B W n p accepted evaluations calls answers img′ B′ W′ n′ t in
     subst (All LedgersNumber) (sym (x .0)) (all-numbers evaluations (length B₀) (openedLedger img accepted text) calls)
+
+-- The answer of a listing's reply, and its reading.
+abbrev listingIn : Reply → ListAnswer
+listingIn (edits a) = ListAnswer.Refused 0
+listingIn (reads a) = ListAnswer.Refused 0
+listingIn (finds a) = ListAnswer.Refused 0
+listingIn (lists a rows) = a
+
+abbrev readingIn : Reply → ReadAnswer
+readingIn r = listedReading (listingIn r)
 
 -- The outcome that a reading says.
 outcome-is : (o : Outcome) (n : ℕ) (z : Evaluation) → Says o n z → o ≡ outcomeOf (z .matched) (eqb (z .length) n)
@@ -130,16 +150,10 @@ module _ (img text : List ℕ) (accepted : Accepted img) (short : length text �
         subst (λ (b : Bool). Answered (length text) z b (PlainAnswer.Refused k) count)
         (sym (lt-leb (z .nesting) 4096 deep)) (ap ReadAnswer.Refused (sym n))
 
--- The ledger's reading, and the plain reading of its text.
+-- The plain reading of the ledger's text.
 module _ {ev : Evaluations} {cap : ℕ} {rest : List ℕ} {l : Ledger} {B : List ℕ} {n : ℕ} {W : List ℕ} (v : Inv ev cap rest l B n W)
-    {a : ReadAnswer} {W′ : List ℕ} (p : ReadPromise (l .image) B n W a W′) (x : PlainAnswer) (q : PlainRead (l .image) (take n B) x)
+    (x : PlainAnswer) (q : PlainRead (l .image) (take n B) x)
   where
-    by-nesting :
-        (b : Bool) → Answered (length (l .text)) (valueIn ev l (start (l .image)) 0) b x (newPairs ev l)
-        → readTurn ev b l .reply ≡ reads (inSession x (newPairs ev l))
-    by-nesting true f = ap reads f
-    by-nesting false f = ap reads f
-
     given : Answered (length (l .text)) (valueIn ev l (start (l .image)) 0) (passes14 ev l) x (newPairs ev l)
     given =
         plain-answer (l .image) (l .text) (l .accepted) (short-text v) (valueIn ev l (start (l .image)) 0)
@@ -148,19 +162,51 @@ module _ {ev : Evaluations} {cap : ℕ} {rest : List ℕ} {l : Ledger} {B : List
         (newPairs ev l)
         (subst (λ (text : List ℕ). PlainRead (l .image) text x) (text-is v) q)
 
-    plain-step : (a ≡ inSession x (newPairs ev l)) × LedgersNumber (reads a) × (take n B ≡ l .text)
+    by-nesting :
+        (b : Bool) → Answered (length (l .text)) (valueIn ev l (start (l .image)) 0) b x (newPairs ev l)
+        → readTurn ev b l .reply ≡ reads (inSession x (newPairs ev l))
+    by-nesting true f = ap reads f
+    by-nesting false f = ap reads f
+
+    plain-step :
+        {a : ReadAnswer} {W′ : List ℕ} → ReadPromise (l .image) B n W a W′
+        → (a ≡ inSession x (newPairs ev l)) × LedgersNumber (reads a) × (take n B ≡ l .text)
     unfolding turn
-    plain-step =
+    plain-step {a} p =
         let e : reads a ≡ readTurn ev (passes14 ev l) l .reply = read-step v p .0 in
         let f = by-nesting (passes14 ev l) given in
         (cc, subst LedgersNumber (sym e) (read-number ev cap (passes14 ev l) l), text-is v)
+
+    -- A listing, by the answers to questions 14 and 15.
+    by-questions :
+        (b c : Bool) (a : ListAnswer) (rows : List ℕ)
+        → Answered (length (l .text)) (valueIn ev l (start (l .image)) 0) b x (newPairs ev l)
+        → lists a rows ≡ listTurn ev b c l .reply
+        → (a ≡ ListAnswer.Refused 15) ⊎ (listedReading a ≡ inSession x (newPairs ev l))
+    by-questions false c a rows f e = inr (ap readingIn e ∙ f)
+    by-questions true false a rows f e = inl (ap listingIn e)
+    by-questions true true a rows f e = inr (ap readingIn e ∙ f)
+
+    list-plain :
+        {R : List ℕ} {a : ListAnswer} {W′ R′ : List ℕ} → ListPromise (l .image) B n W R a W′ R′
+        → (a ≡ ListAnswer.Refused 15) ⊎ (listedReading a ≡ inSession x (newPairs ev l))
+    unfolding turn
+    list-plain {R} {a} {W′} {R′} p =
+        by-questions (passes14 ev l) (passes15 ev l (length R)) a (rowsGiven a R′) given (list-step v p .0)
 
 plain-after :
     (ev : Evaluations) (cap : ℕ) (rest : List ℕ) {l : Ledger} {img B W : List ℕ} {n : ℕ} → Holds ev cap rest l (loan img B n W)
     → (a : ReadAnswer) (W′ : List ℕ) → ReadPromise img B n W a W′
     → (x : PlainAnswer) → PlainRead img (take n B) x
     → (a ≡ inSession x (newPairs ev l)) × LedgersNumber (reads a) × (take n B ≡ l .text)
-plain-after ev cap rest (holds v) a W′ p x q = plain-step v p x q
+plain-after ev cap rest (holds v) a W′ p x q = plain-step v x q p
+
+list-after :
+    (ev : Evaluations) (cap : ℕ) (rest : List ℕ) {l : Ledger} {img B W : List ℕ} {n : ℕ} → Holds ev cap rest l (loan img B n W)
+    → (R : List ℕ) (a : ListAnswer) (W′ R′ : List ℕ) → ListPromise img B n W R a W′ R′
+    → (x : PlainAnswer) → PlainRead img (take n B) x
+    → (a ≡ ListAnswer.Refused 15) ⊎ (listedReading a ≡ inSession x (newPairs ev l))
+list-after ev cap rest (holds v) R a W′ R′ p x q = list-plain v x q p
 
 pub as-plain : AsPlain
 as-plain img text B₀ W₀ B W n p accepted ev calls answers img′ B′ W′ n′ t a W″ r x q =
@@ -168,3 +214,10 @@ as-plain img text B₀ W₀ B W n p accepted ev calls answers img′ B′ W′ n
     plain-after ev (length B₀) rest
     (all-calls ev (length B₀) rest {l = openedLedger img accepted text} (holds (opening ev accepted p)) t .1)
     a W″ r x q
+
+pub lists-as-plain : ListsAsPlain
+lists-as-plain img text B₀ W₀ B W n p accepted ev calls answers img′ B′ W′ n′ t R a W″ R″ r x q =
+    let rest = drop (tableSize (rules img) (length B₀)) W₀ in
+    list-after ev (length B₀) rest
+    (all-calls ev (length B₀) rest {l = openedLedger img accepted text} (holds (opening ev accepted p)) t .1)
+    R a W″ R″ r x q

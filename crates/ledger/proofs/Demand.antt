@@ -13,12 +13,13 @@ use Rattle.editing.specs.Table.{tableSize}
 use Rattle.ledger.specs.declared.OpenAnswer.{OpenAnswer}
 use Rattle.ledger.specs.Questions.{Question8}
 use Rattle.ledger.specs.Promises.{OpenPromise}
-use Rattle.ledger.specs.Ledger.{Evaluations, Call, edit, reading, look-up, Reply, Ledger, openedLedger, turn, replies, leftBy}
-use Rattle.ledger.specs.Ledger.{passes9, passes10, passes11, passes14, editTurn, readTurn, lookUpTurn}
-use Rattle.ledger.specs.Demand.{Loan, loan, Link, edit-link, read-link, look-up-link, Trace, done, next, Agrees, Demand3}
+use Rattle.ledger.specs.Ledger.{Evaluations, Call, edit, reading, look-up, listing, Reply, Ledger, openedLedger, turn, replies, leftBy}
+use Rattle.ledger.specs.Ledger.{passes9, passes10, passes11, passes14, passes15, editTurn, readTurn, lookUpTurn, listTurn}
+use Rattle.ledger.specs.Demand.{Loan, loan, Link, edit-link, read-link, look-up-link, list-link, Trace, done, next, Agrees, Demand3}
 use Rattle.ledger.proofs.Asked.{sheet-passed}
 use Rattle.ledger.proofs.Inv.{Inv, agrees}
 use Rattle.ledger.proofs.StepRead.{inv-empty, read-step}
+use Rattle.ledger.proofs.StepList.{list-step}
 use Rattle.ledger.proofs.StepEdit.{edit-step}
 use Rattle.ledger.proofs.StepLookUp.{look-up-step}
 
@@ -57,11 +58,17 @@ module _ (ev : Evaluations) (cap : ℕ) (l : Ledger) where
   look-up-image true rule q = refl
   look-up-image false rule q = refl
 
+  list-image : (a b : Bool) → listTurn ev a b l .left .image ≡ l .image
+  list-image true true = refl
+  list-image true false = refl
+  list-image false b = refl
+
   same-image : (call : Call) → turn ev cap l call .left .image ≡ l .image
   unfolding turn
   same-image (edit s e r) = edit-image (passes9 l s e) (passes10 cap l s e r) s e r
   same-image reading = read-image (passes14 ev l)
   same-image (look-up rule q) = look-up-image (passes11 l rule q) rule q
+  same-image (listing slots) = list-image (passes14 ev l) (passes15 ev l slots)
 
 -- A call, and a list of calls.
 module _ (ev : Evaluations) (cap : ℕ) (rest : List ℕ) where
@@ -78,6 +85,7 @@ module _ (ev : Evaluations) (cap : ℕ) (rest : List ℕ) where
   one-call {l} (holds v) (read-link p) = let x = read-step v p in (x .0, still l reading (x .1))
   one-call {l} (holds v) (look-up-link {rule = rule} {position = q} p) =
       let x = look-up-step v rule q p in (x .0, still l (look-up rule q) (x .1))
+  one-call {l} (holds v) (list-link {R = R} p) = let x = list-step v p in (x .0, still l (listing (length R)) (x .1))
 
   pub all-calls :
       {l : Ledger} {a b : Loan} {calls : List Call} {answers : List Reply} → Holds ev cap rest l a → Trace a calls answers b

@@ -1,7 +1,7 @@
 -- There are evaluations as the ledger asks for: totality gives each pair's evaluation, and the pairs reached are those whose body is
 -- evaluated in the start pair's. And all such functions give the same. Assumes nothing.
---     evaluations                 functions that will do
---     one-value, one-reached      any two give the same
+--     evaluations                         functions that will do
+--     one-value, one-reached, one-rows    any two give the same
 use Prim.Native.Nat.{ℕ, _≤_, _<_}
 use native.Mathlib.Omega.{arith}
 use mathlib.Core.Path.{_≡_, refl, sym, _∙_}
@@ -19,6 +19,8 @@ use Rattle.grammar.proofs.Determinism.{one}
 use Rattle.evaluation.specs.Calls.{isIn, Reached, bodiesOf}
 use Rattle.evaluation.proofs.Totality.{Exists, total-pair}
 use Rattle.evaluation.proofs.Reach.{reached-is, is-reached}
+use Rattle.rows.specs.Rows.{rowsOf}
+use Rattle.rows.proofs.RowsOnce.{rows-once}
 use Rattle.ledger.specs.Ledger.{Evaluations}
 
 module _ (img : List ℕ) (accepted : Accepted img) (text : List ℕ) where
@@ -51,6 +53,8 @@ evaluations =
         λ e. is-reached (start-exists img accepted text .evaluated) r q e,
         λ k. reached-is {x = record { rule = r; position = q }} (start-exists img accepted text .evaluated) k,
       );
+      rows = λ img accepted text. rowsOf (start-exists img accepted text .evaluated) 0;
+      rows-are = λ img accepted text d. rows-once img text (start-exists img accepted text .evaluated) d 0;
     }
 
 -- Two tests of one fact.
@@ -72,3 +76,7 @@ module _ (ev other : Evaluations) (img : List ℕ) (accepted : Accepted img) (te
       (Reached img text (record { rule = r; position = q }))
       (ev .reached-is img accepted text r q)
       (other .reached-is img accepted text r q)
+
+  pub one-rows : ev .rows img accepted text ≡ other .rows img accepted text
+  one-rows =
+      let e = start-exists img accepted text .evaluated in ev .rows-are img accepted text e ∙ sym (other .rows-are img accepted text e)

@@ -23,12 +23,13 @@ use Rattle.ledger.specs.declared.LookUpAnswer.{LookUpAnswer}
 use Rattle.ledger.specs.Questions.{Question8, Question9, ofSheet}
 use Rattle.ledger.specs.Promises.{OpenPromise, EditPromise, LookUpPromise}
 use Rattle.ledger.specs.Run.{answerOf, wordsOf}
-use Rattle.ledger.specs.Ledger.{Evaluations, Call, edit, reading, look-up, Reply, edits, reads, finds, Ledger, openedLedger, replies}
+use Rattle.ledger.specs.Ledger.{Evaluations, Call, edit, reading, look-up, listing, Reply, edits, reads, finds, Ledger, openedLedger, replies}
 use Rattle.ledger.specs.Demand.{Loan, loan, Link, edit-link, read-link, look-up-link, nextLength, Trace, done, next, RunsExist}
 use Rattle.ledger.proofs.Bools.{both, joined}
 use Rattle.ledger.proofs.Asked.{sheet-first, sheet-passed, edit-9, edit-10, look-up-11}
 use Rattle.ledger.proofs.Kept.{open-done, edit-refused, edit-done, look-up-refused, look-up-done}
 use Rattle.ledger.proofs.SheetReads.{reads-are}
+use Rattle.ledger.proofs.RunLists.{listReply, listWords, list-linked}
 use Rattle.ledger.proofs.Fresh.{evaluations}
 use Rattle.ledger.proofs.Inv.{lent}
 use Rattle.ledger.proofs.Demand.{opened-image, opening, Holds, holds, one-call, all-calls}
@@ -79,6 +80,7 @@ abbrev pub replyOf : Loan → Call → Reply
 replyOf (loan img B n W) (edit s e r) =
     edits (editAnswer (asks9 n s e) (asks10 (length B) n s e (length r)) img B n W s e r)
 replyOf (loan img B n W) reading = reads (answerOf n (startRun img (take n B) W 0))
+replyOf (loan img B n W) (listing slots) = listReply n slots img (take n B) (startRun img (take n B) W 0)
 replyOf (loan img B n W) (look-up rule position) = finds (lookUpAnswer (asks11 img n rule position) img W rule position)
 
 abbrev pub nextOf : Loan → Call → Loan
@@ -88,6 +90,7 @@ nextOf (loan img B n W) (edit s e r) =
     (editWords (asks9 n s e) (asks10 (length B) n s e (length r)) img (length B) n W s e (length r))
 nextOf (loan img B n W) reading = loan img B n (wordsOf img (length B) (startRun img (take n B) W 0))
 nextOf (loan img B n W) (look-up rule position) = loan img B n W
+nextOf (loan img B n W) (listing slots) = loan img B n (listWords (length B) slots img (take n B) (startRun img (take n B) W 0))
 
 abbrev pub repliesOf : Loan → List Call → List Reply
 repliesOf a [] = []
@@ -138,6 +141,7 @@ module _ (img B : List ℕ) (n : ℕ) (W : List ℕ) (good : First (ofSheet img 
   a-link (edit s e r) = edit-link (edit-kept s e r (asks9 n s e) (asks10 (length B) n s e (length r)) refl refl)
   a-link reading = let x = sheet-passed img (length B) n (length W) good in read-link (reads-are img B n W (x .0) (x .1))
   a-link (look-up rule q) = look-up-link (look-up-kept rule q (asks11 img n rule q) refl)
+  a-link (listing slots) = list-linked img B n W good slots
 
 module _ (ev : Evaluations) (cap : ℕ) (rest : List ℕ) where
   link-from :

@@ -1,6 +1,7 @@
 -- A reading of demand 3: from the invariant and the reading's promise, the reply is the ledger's and the invariant holds again. And the
 -- invariant of an empty set, which an opening and a reading refused with 14 leave. Assumes nothing.
 --     inv-empty    the invariant where no pair is held and the table is zeroed
+--     sheet-step   a reading that passed questions 1 to 8
 --     read-step    a reading
 use Prim.Native.Nat.{ℕ, suc, _+_, _≤_, _<_}
 use native.Mathlib.Omega.{arith}
@@ -214,10 +215,10 @@ module _ {ev : Evaluations} {cap : ℕ} {rest : List ℕ} {l : Ledger} {B : List
           rw (sr .zeroed 14 answer-14, v .bytes-are, v .length-is)
           (inv-empty ev cap (l .image) (l .accepted) (l .text) W rest (v .small) (v .text-fits) (v .whole) (v .after-table))
 
-    abbrev Stepped : Turn → Type 0
+    abbrev pub Stepped : Turn → Type 0
     Stepped t = (reads a ≡ t .reply) × Inv ev cap rest (t .left) B n W′
 
-    sheet-step : Stepped (readTurn ev (passes14 ev l) l)
+    pub sheet-step : Stepped (readTurn ev (passes14 ev l) l)
     sheet-step = go (passes14 ev l) refl
       where
         go : (b : Bool) → passes14 ev l ≡ b → Stepped (readTurn ev b l)

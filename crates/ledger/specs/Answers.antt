@@ -8,6 +8,7 @@ use Rattle.ledger.specs.declared.OpenAnswer.{OpenAnswer}
 use Rattle.ledger.specs.declared.EditAnswer.{EditAnswer}
 use Rattle.ledger.specs.declared.LookUpAnswer.{LookUpAnswer}
 use Rattle.ledger.specs.declared.ReadAnswer.{ReadAnswer}
+use Rattle.ledger.specs.declared.ListAnswer.{ListAnswer}
 use Rattle.ledger.specs.declared.SheetReading.{SheetReading}
 
 abbrev pub openNumber : OpenAnswer → ℕ
@@ -25,6 +26,10 @@ lookUpNumber (LookUpAnswer.Refused k) = k
 abbrev pub readNumber : ReadAnswer → ℕ
 readNumber (ReadAnswer.Read x) = 0
 readNumber (ReadAnswer.Refused k) = k
+
+abbrev pub listNumber : ListAnswer → ℕ
+listNumber (ListAnswer.Listed x) = 0
+listNumber (ListAnswer.Refused k) = k
 
 -- "Reading: the answer is the start pair's evaluation, as whole, part or none": of a text of n bytes, the evaluation z and so many
 -- evaluations. `outcomeOf` is whole where z matched and its length is n, part where it matched with another, and nothing where it failed.

@@ -10,10 +10,12 @@ use Rattle.reading.specs.declared.plain.PlainAnswer.{PlainAnswer}
 use Rattle.reading.specs.Plain.{PlainRead}
 use Rattle.ledger.specs.declared.OpenAnswer.{OpenAnswer}
 use Rattle.ledger.specs.declared.ReadAnswer.{ReadAnswer}
-use Rattle.ledger.specs.Answers.{editNumber, readNumber, lookUpNumber}
+use Rattle.ledger.specs.declared.ListAnswer.{ListAnswer}
+use Rattle.ledger.specs.Answers.{editNumber, readNumber, lookUpNumber, listNumber}
 use Rattle.ledger.specs.Promises.{OpenPromise}
 use Rattle.ledger.specs.Reading.{ReadPromise}
-use Rattle.ledger.specs.Ledger.{Evaluations, Call, Reply, edits, reads, finds, openedLedger, newPairs, leftBy}
+use Rattle.ledger.specs.Listing.{ListPromise}
+use Rattle.ledger.specs.Ledger.{Evaluations, Call, Reply, edits, reads, finds, lists, openedLedger, newPairs, leftBy}
 use Rattle.ledger.specs.Demand.{loan, Trace}
 
 -- The number of a reply is 0 or one of the questions that the ledger asks: 1 to 8, 12 and 13 are not among them.
@@ -21,6 +23,7 @@ abbrev pub LedgersNumber : Reply → Type 0
 LedgersNumber (edits a) = (editNumber a ≡ 0) ⊎ ((editNumber a ≡ 9) ⊎ (editNumber a ≡ 10))
 LedgersNumber (reads a) = (readNumber a ≡ 0) ⊎ (readNumber a ≡ 14)
 LedgersNumber (finds a) = (lookUpNumber a ≡ 0) ⊎ (lookUpNumber a ≡ 11)
+LedgersNumber (lists a rows) = (listNumber a ≡ 0) ⊎ ((listNumber a ≡ 14) ⊎ (listNumber a ≡ 15))
 
 abbrev pub All : (Reply → Type 0) → List Reply → Type 0
 All P [] = Unit {0}
@@ -57,3 +60,23 @@ AsPlain =
     → (a ≡ inSession x (newPairs ev (leftBy ev (length B₀) (openedLedger img accepted text) calls)))
     × ((readNumber a ≡ 0) ⊎ (readNumber a ≡ 14))
     × (take n′ B′ ≡ leftBy ev (length B₀) (openedLedger img accepted text) calls .text)
+
+-- The reading of an answered listing, and the number of a refused one.
+abbrev pub listedReading : ListAnswer → ReadAnswer
+listedReading (ListAnswer.Listed x) = ReadAnswer.Read (x .reading)
+listedReading (ListAnswer.Refused k) = ReadAnswer.Refused k
+
+-- "To it a listing is a reading": a listing after any list of calls is refused with 15, or answers what the plain reading answers.
+abbrev pub ListsAsPlain : Type 0
+ListsAsPlain =
+    (img text B₀ W₀ B W : List ℕ) (n : ℕ)
+    → OpenPromise img text B₀ W₀ (OpenAnswer.Opened n) B W
+    → (accepted : Accepted img) (ev : Evaluations)
+    → (calls : List Call) (answers : List Reply) (img′ B′ W′ : List ℕ) (n′ : ℕ)
+    → Trace (loan img B n W) calls answers (loan img′ B′ n′ W′)
+    → (R : List ℕ) (a : ListAnswer) (W″ R″ : List ℕ)
+    → ListPromise img′ B′ n′ W′ R a W″ R″
+    → (x : PlainAnswer)
+    → PlainRead img′ (take n′ B′) x
+    → (a ≡ ListAnswer.Refused 15)
+    ⊎ (listedReading a ≡ inSession x (newPairs ev (leftBy ev (length B₀) (openedLedger img accepted text) calls)))

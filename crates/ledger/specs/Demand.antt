@@ -4,7 +4,7 @@ use Prim.Native.Nat.{ℕ, _≤_, _<_}
 use mathlib.Core.Path.{_≡_}
 use mathlib.Core.Bool.{true}
 use mathlib.Core.List.{List, [], _∷_}
-use lib.ListN.{length, drop}
+use lib.ListN.{length, take, drop}
 use Rattle.grammar.specs.Image.{rules}
 use Rattle.grammar.specs.Questions.{Accepted}
 use Rattle.records.specs.Words.{wordOf}
@@ -16,9 +16,11 @@ use Rattle.ledger.specs.declared.OpenAnswer.{OpenAnswer}
 use Rattle.ledger.specs.declared.EditAnswer.{EditAnswer}
 use Rattle.ledger.specs.declared.LookUpAnswer.{LookUpAnswer}
 use Rattle.ledger.specs.declared.ReadAnswer.{ReadAnswer}
+use Rattle.ledger.specs.declared.ListAnswer.{ListAnswer}
 use Rattle.ledger.specs.Promises.{OpenPromise, EditPromise, LookUpPromise}
 use Rattle.ledger.specs.Reading.{ReadPromise}
-use Rattle.ledger.specs.Ledger.{Evaluations, Call, Reply, edit, reading, look-up, edits, reads, finds}
+use Rattle.ledger.specs.Listing.{ListPromise}
+use Rattle.ledger.specs.Ledger.{Evaluations, Call, Reply, edit, reading, look-up, listing, edits, reads, finds, lists}
 use Rattle.ledger.specs.Ledger.{Ledger, openedLedger, valueIn, replies, leftBy}
 use Rattle.ledger.specs.Questions.{Question8}
 
@@ -30,6 +32,11 @@ pub data Loan : Type 0 where
 abbrev pub nextLength : ℕ → EditAnswer → ℕ
 nextLength n (EditAnswer.Edited x) = x .length
 nextLength n (EditAnswer.Refused k) = n
+
+-- The rows that an answered listing gave: the first of the row slots that it left.
+abbrev pub rowsGiven : ListAnswer → List ℕ → List ℕ
+rowsGiven (ListAnswer.Listed x) R = take (x .rows) R
+rowsGiven (ListAnswer.Refused k) R = []
 
 -- A call that kept its promise: what it was lent, what it brought, what it answered, and what it left.
 pub data Link : Loan → Call → Reply → Loan → Type 0 where
@@ -45,6 +52,10 @@ pub data Link : Loan → Call → Reply → Loan → Type 0 where
       {img B W : List ℕ} {n rule position : ℕ} {a : LookUpAnswer}
       → LookUpPromise img B n W rule position a
       → Link (loan img B n W) (look-up rule position) (finds a) (loan img B n W)
+  list-link :
+      {img B W R W′ R′ : List ℕ} {n : ℕ} {a : ListAnswer}
+      → ListPromise img B n W R a W′ R′
+      → Link (loan img B n W) (listing (length R)) (lists a (rowsGiven a R′)) (loan img B n W′)
 
 -- "Each call is lent the opening's image and what the call before left, a refused one too."
 pub data Trace : Loan → List Call → List Reply → Loan → Type 0 where
@@ -70,7 +81,7 @@ pub record Agrees (ev : Evaluations) (cap : ℕ) (rest : List ℕ) (l : Ledger) 
   pub after-table : drop (tableSize (rules (l .image)) cap) W ≡ rest
 
 -- From an accepted opening on, for every list of calls that kept their promises, refused ones too: every reply along the list is the
--- ledger's, and what is left agrees with the ledger. The ledger's replies have no number but 9, 10, 11 and 14. That the image is accepted
+-- ledger's, and what is left agrees with the ledger. The ledger's replies have no number but 9, 10, 11, 14 and 15. That the image is accepted
 -- is no condition: an accepted opening says so (proofs/Demand.antt, `opened-image`); the ledger has it for its evaluations.
 abbrev pub Demand3 : Type 0
 Demand3 =

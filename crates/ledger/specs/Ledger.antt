@@ -14,16 +14,20 @@ use Rattle.grammar.specs.Evaluates.{Fresh, a-pair}
 use Rattle.evaluation.specs.Calls.{Reached}
 use Rattle.evaluation.specs.Counts.{countPairs}
 use Rattle.records.specs.Words.{wordOf}
+use Rattle.rows.specs.Rows.{Row, rowsOf, rowWords}
 use Rattle.editing.specs.Text.{newLength, edited}
 use Rattle.editing.specs.Table.{pick}
 use Rattle.editing.specs.Pairs.{standsAfter}
 use Rattle.ledger.specs.declared.EditAnswer.{EditAnswer}
 use Rattle.ledger.specs.declared.LookUpAnswer.{LookUpAnswer}
 use Rattle.ledger.specs.declared.ReadAnswer.{ReadAnswer}
+use Rattle.ledger.specs.declared.ListAnswer.{ListAnswer}
+use Rattle.ledger.specs.declared.SheetReading.{SheetReading}
 use Rattle.ledger.specs.Answers.{sheetReading}
 
--- What the ledger knows of a text by an accepted image: the evaluation of each pair by Ford's rules without records, and which pairs are
--- reached. Any functions that give these will do; proofs/Fresh.antt has such functions, and shows that all give the same.
+-- What the ledger knows of a text by an accepted image: the evaluation of each pair by Ford's rules without records, which pairs are
+-- reached, and the rows of the start pair's evaluation. Any functions that give these will do; proofs/Fresh.antt has such functions, and
+-- shows that all give the same.
 pub record Evaluations : Type 0 where
   pub value : (img : List ℕ) → Accepted img → (text : List ℕ) (rule position : ℕ) → Evaluation
   pub value-is :
@@ -35,17 +39,24 @@ pub record Evaluations : Type 0 where
   pub reached-is :
       (img : List ℕ) (accepted : Accepted img) (text : List ℕ) (rule position : ℕ)
       → (reached img accepted text rule position ≡ true) ↔ Reached img text (record { rule = rule; position = position })
+  pub rows : (img : List ℕ) → Accepted img → (text : List ℕ) → List Row
+  pub rows-are :
+      (img : List ℕ) (accepted : Accepted img) (text : List ℕ) {z : Evaluation} (d : Fresh img text (a-pair (start img)) 0 z)
+      → rows img accepted text ≡ rowsOf d 0
 
--- What each call itself brings: "s, e and r; rule and position".
+-- What each call itself brings: "s, e and r; rule and position; the number of row slots".
 pub data Call : Type 0 where
   edit : (s e : ℕ) (r : List ℕ) → Call
   reading : Call
   look-up : (rule position : ℕ) → Call
+  listing : (slots : ℕ) → Call
 
+-- "Each call along it has given the ledger's answer or number, an answered listing its rows too": the words of the rows.
 pub data Reply : Type 0 where
   edits : EditAnswer → Reply
   reads : ReadAnswer → Reply
   finds : LookUpAnswer → Reply
+  lists : ListAnswer → (rows : List ℕ) → Reply
 
 pub record Ledger : Type 0 where
   pub image : List ℕ
@@ -64,12 +75,16 @@ valueIn ev l = ev .value (l .image) (l .accepted) (l .text)
 abbrev pub reachedIn : Evaluations → Ledger → (rule position : ℕ) → Bool
 reachedIn ev l = ev .reached (l .image) (l .accepted) (l .text)
 
+-- The words of the rows of the ledger's text.
+abbrev pub rowsIn : Evaluations → Ledger → List ℕ
+rowsIn ev l = rowWords (ev .rows (l .image) (l .accepted) (l .text))
+
 -- What a call answers and what it leaves.
 pub record Turn : Type 0 where
   pub reply : Reply
   pub left : Ledger
 
--- "It asks questions 9 to 11, 14 [..] of its own text".
+-- "It asks questions 9 to 11, 14 and 15 of its own text".
 abbrev pub passes9 : Ledger → (s e : ℕ) → Bool
 passes9 l s e = leb s e && leb e (length (l .text))
 
@@ -90,6 +105,9 @@ pairsOf img text test = countPairs (rules img) (length text + 1) test
 module _ (ev : Evaluations) where
   abbrev pub passes14 : Ledger → Bool
   passes14 l = leb (valueIn ev l (start (l .image)) 0 .nesting) 4096
+
+  abbrev pub passes15 : Ledger → (slots : ℕ) → Bool
+  passes15 l slots = leb (length (rowsIn ev l)) slots
 
   -- The pairs that stand after an edit. "Examined is the fresh one on the old text".
   abbrev pub standing : Ledger → (s e : ℕ) → List ℕ → (rule q : ℕ) → Bool
@@ -118,22 +136,30 @@ module _ (ev : Evaluations) where
 
   -- "Reading: the answer is the start pair's evaluation, as whole, part or none [..]. The set gains every reached pair. [..] A
   -- reading refused with 14 empties the set."
+  abbrev pub readAnswer : Ledger → SheetReading
+  readAnswer l = sheetReading (length (l .text)) (valueIn ev l (start (l .image)) 0) (newPairs l)
+
+  abbrev pub readLeft : Ledger → Ledger
+  readLeft l =
+      record {
+        image = l .image;
+        accepted = l .accepted;
+        text = l .text;
+        held = λ rule q. l .held rule q || reachedIn ev l rule q;
+      }
+
   abbrev pub readTurn : (passes14 : Bool) → Ledger → Turn
   readTurn false l = record { reply = reads (ReadAnswer.Refused 14); left = openedLedger (l .image) (l .accepted) (l .text) }
-  readTurn true l =
+  readTurn true l = record { reply = reads (ReadAnswer.Read (readAnswer l)); left = readLeft l }
+
+  -- "To it a listing is a reading, also one refused with 15." "a listing's rows are those of the ledger's text".
+  abbrev pub listTurn : (passes14 passes15 : Bool) → Ledger → Turn
+  listTurn false b l = record { reply = lists (ListAnswer.Refused 14) []; left = readTurn false l .left }
+  listTurn true false l = record { reply = lists (ListAnswer.Refused 15) []; left = readTurn true l .left }
+  listTurn true true l =
       record {
-        reply =
-            reads
-            (ReadAnswer.Read
-            (sheetReading (length (l .text)) (valueIn ev l (start (l .image)) 0)
-            (newPairs l)));
-        left =
-            record {
-              image = l .image;
-              accepted = l .accepted;
-              text = l .text;
-              held = λ rule q. l .held rule q || reachedIn ev l rule q;
-            };
+        reply = lists (ListAnswer.Listed (record { reading = readAnswer l; rows = length (rowsIn ev l) })) (rowsIn ev l);
+        left = readTurn true l .left;
       }
 
   -- "Look-up: gives the true word of a held pair, else 0."
@@ -152,6 +178,7 @@ module _ (ev : Evaluations) where
   turn cap l (edit s e r) = editTurn (passes9 l s e) (passes10 cap l s e r) l s e r
   turn cap l reading = readTurn (passes14 l) l
   turn cap l (look-up rule position) = lookUpTurn (passes11 l rule position) l rule position
+  turn cap l (listing slots) = listTurn (passes14 l) (passes15 l slots) l
 
   -- A list of calls: every reply along it, and what is left.
   unfoldable pub replies : (cap : ℕ) → Ledger → List Call → List Reply

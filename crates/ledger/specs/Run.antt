@@ -1,6 +1,7 @@
 -- For the function that reads: the answer and the words that it makes of a run of the evaluator over the lent words. The promise does not
 -- cite these; proofs/SheetReads.antt shows that they keep it.
 use Prim.Native.Nat.{ℕ}
+use mathlib.Core.Bool.{Bool, true, false}
 use mathlib.Core.List.{List}
 use Rattle.grammar.specs.Image.{rules}
 use Rattle.reading.specs.Model.{answered, refused, Out, out}
@@ -17,3 +18,8 @@ answerOf n (out (refused k) t count) = ReadAnswer.Refused k
 abbrev pub wordsOf : (img : List ℕ) (cap : ℕ) → Out → List ℕ
 wordsOf img cap (out (answered z) t count) = t
 wordsOf img cap (out (refused k) t count) = clearedTable (rules img) cap t
+
+-- The words after a listing whose walk stopped: with 15 those that the reading left, else those with the table zeroed.
+abbrev pub stoppedWords : (no-slots : Bool) (img : List ℕ) (cap : ℕ) → List ℕ → List ℕ
+stoppedWords true img cap words = words
+stoppedWords false img cap words = clearedTable (rules img) cap words

@@ -33,6 +33,17 @@ pub enum ReadAnswer {
     Refused(u8),
 }
 
+// "The answer is the reading's and the number of rows."
+pub struct SheetListing {
+    pub reading: SheetReading,
+    pub rows: usize,
+}
+
+pub enum ListAnswer {
+    Listed(SheetListing),
+    Refused(u8),
+}
+
 // "The program gives the slot's word whole."
 pub enum LookUpAnswer {
     Word(u64),

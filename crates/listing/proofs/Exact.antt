@@ -2,9 +2,9 @@
 -- do not. Assumes nothing.
 --     exact            of any walk that ends as `Fits` says
 --     rows-listed      over the table of a reading, for the start pair
-use Prim.Native.Nat.{ℕ, _+_, _≤_, _<_}
+use Prim.Native.Nat.{ℕ, _≤_}
 use native.Mathlib.Omega.{arith}
-use mathlib.Core.Path.{_≡_, refl, sym, ap, _∙_}
+use mathlib.Core.Path.{_≡_, sym, ap, _∙_}
 use mathlib.Core.Bool.{Bool}
 use mathlib.Core.List.{List, _++_}
 use lib.ListN.{length, drop}
@@ -17,13 +17,13 @@ use Rattle.reading.specs.Closed.{Reads}
 use Rattle.reading.specs.Loaded.{Loaded}
 use Rattle.reading.specs.Model.{Out}
 use Rattle.rows.specs.Rows.{rowsOf, rowWords}
-use Rattle.rows.specs.Walk.{Walked, walked, stopped, Trail, trail, startV}
+use Rattle.rows.specs.Walk.{walked, stopped, Trail, trail, startV}
 use Rattle.rows.specs.Fits.{Fits, rows-fit, too-many}
 use Rattle.rows.specs.Bounds.{Number, impossible, too-deep, no-slot}
 use Rattle.rows.proofs.Listed.{reading-lists}
 use Rattle.listing.specs.declared.list.Listed.{Listed}
 use Rattle.listing.specs.declared.list.Listed.the-variants.{Rows, Refused}
-use Rattle.listing.specs.Listed.{Written, NotWritten, ListedAs, ListedIn, Answers, all-written, no-slots}
+use Rattle.listing.specs.Listed.{ListedAs, ListedIn, Answers, all-written, no-slots}
 
 abbrev wordsOf : Trail → List ℕ
 wordsOf (trail a ws) = ws

@@ -11,8 +11,8 @@ use mathlib.Core.List.{List, [], _∷_, _++_}
 use lib.ListN.{length, length-append, set}
 use lib.Seq.{sets}
 use Rattle.rows.specs.Walk.{Walked, walked, stopped, Trail, trail, bind, after}
-use Rattle.rows.specs.Bounds.{Ends, Number, impossible, too-deep, no-slot, May, Bounded}
-use Rattle.listing.specs.Gives.{coded, lengthOr, Gives}
+use Rattle.rows.specs.Bounds.{Number, impossible, too-deep, no-slot, May, Bounded}
+use Rattle.listing.specs.Gives.{coded, Gives}
 
 -- One run of stores after another.
 pub sets-both : (l : List ℕ) (c : ℕ) (ws vs : List ℕ) → sets l c (ws ++ vs) ≡ sets (sets l c ws) (c + length ws) vs

@@ -3,16 +3,16 @@ use Prim.Native.Nat.{ℕ, _+_, _-_, _≤_, _<_}
 use native.Mathlib.Omega.{arith}
 use mathlib.Core.Path.{_≡_, refl, sym, ap, _∙_, subst}
 use mathlib.Core.Bool.{Bool, true, false}
-use mathlib.Core.List.{List, [], _∷_, _++_}
-use lib.ListN.{length, drop, take}
+use mathlib.Core.List.{List, _++_}
+use lib.ListN.{length, drop}
 use lib.Seq.{sets, sets-eq}
 use lib.Dec.{ltb}
 use borrow.Author.Tests.{ltb-true, ltb-false}
-use Rattle.rows.specs.Walk.{Walked, walked, stopped, Trail, trail}
+use Rattle.rows.specs.Walk.{walked, stopped, Trail, trail}
 use Rattle.rows.specs.Bounds.{Number, Bounded}
 use Rattle.listing.specs.Gives.{Gives}
 use Rattle.listing.specs.Listed.{Written, NotWritten}
-use Rattle.listing.proofs.Gives.{Found, Failed, Halted, found, failed, halted, on-trail}
+use Rattle.listing.proofs.Gives.{found, failed, halted, on-trail}
 
 abbrev wordsOf : Trail → List ℕ
 wordsOf (trail a ws) = ws

@@ -1,22 +1,20 @@
 -- The ways through the functions of the walk: from what the calls give to what a function gives. Assumes nothing.
-use Prim.Native.Nat.{ℕ, zero, suc, _+_, _*_, _%_, _≤_, _<_}
+use Prim.Native.Nat.{ℕ, zero, suc, _+_, _≤_, _<_}
 use native.Mathlib.Omega.{arith}
 use mathlib.Core.Path.{_≡_, refl, sym, ap, _∙_}
-use mathlib.Core.Bool.{Bool, true, false, not, _&&_, and-false}
-use mathlib.Core.List.{List, [], _∷_, _++_, append-assoc}
-use lib.ListN.{length, getD, set, length-append}
+use mathlib.Core.Bool.{Bool, true, false, not}
+use mathlib.Core.List.{List, [], _++_, append-assoc}
+use lib.ListN.{length, length-append}
 use lib.Seq.{sets}
-use lib.Dec.{ltb, leb, eqb}
-use borrow.Author.Tests.{ltb-true, ltb-false, ne-eqb, eq-eqb, le-leb, lt-leb}
-use Rattle.grammar.specs.Image.{Node, sequence, choice, star, not-predicate}
-use Rattle.records.specs.Words.{isHeld, possible, matchedOf, lengthOf}
-use Rattle.rows.specs.Rows.{rowWord}
+use lib.Dec.{ltb, eqb}
+use borrow.Author.Tests.{ltb-true, ltb-false, ne-eqb, eq-eqb}
+use Rattle.grammar.specs.Image.{sequence, choice, star, not-predicate}
 use Rattle.rows.specs.Window.{touches}
-use Rattle.rows.specs.Walk.{Walked, walked, stopped, Trail, trail, Walker, bind, after, afterLook, partV, joined, afterFirst, afterChoice}
-use Rattle.rows.specs.Walk.{afterRound, roundsV, met, entered, pairV, kindV}
+use Rattle.rows.specs.Walk.{walked, stopped, Trail, trail, Walker, bind, after, afterLook, partV, joined, afterFirst, afterChoice}
+use Rattle.rows.specs.Walk.{afterRound, roundsV, kindV}
 use Rattle.rows.proofs.Bounds.{Stays, part-bounded}
-use Rattle.listing.specs.Gives.{Gives, Steady}
-use Rattle.listing.proofs.Gives.{sets-both, Found, Failed, Halted, found, failed, halted, at-once, just, and-then, and-stop}
+use Rattle.listing.specs.Gives.{Gives}
+use Rattle.listing.proofs.Gives.{sets-both, Found, found, failed, halted, at-once, just, and-then, and-stop}
 
 -- Stores and rows before a walk.
 pub prefixed :

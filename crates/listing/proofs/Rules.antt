@@ -5,7 +5,6 @@ use mathlib.Core.Path.{_≡_, refl, sym, ap, _∙_, subst}
 use mathlib.Core.Bool.{Bool, true, false, _&&_, and-false}
 use mathlib.Core.List.{List, [], _∷_}
 use lib.ListN.{length, getD, set}
-use lib.Seq.{sets}
 use lib.Dec.{leb}
 use borrow.Author.Tests.{le-leb, lt-leb, ltb-true, ltb-false}
 use lib.Dec.{ltb}
@@ -16,10 +15,10 @@ use Rattle.records.proofs.Test.{says-possible}
 use Rattle.reading.specs.Loaded.{rulesIn, wordNode, wordB}
 use Rattle.rows.specs.Rows.{rowWord}
 use Rattle.rows.specs.Window.{touches}
-use Rattle.rows.specs.Walk.{Walked, walked, stopped, Trail, trail, Walker, bind, after, met, entered, pairV, kindV, nodeV}
+use Rattle.rows.specs.Walk.{walked, stopped, Trail, trail, Walker, bind, after, met, entered, pairV, kindV, nodeV}
 use Rattle.rows.proofs.Bounds.{Stays}
-use Rattle.listing.specs.Gives.{Gives, coded, toldLength}
-use Rattle.listing.proofs.Gives.{Found, Failed, Halted, found, failed, halted, at-once, just, and-then, and-stop}
+use Rattle.listing.specs.Gives.{Gives, toldLength}
+use Rattle.listing.proofs.Gives.{found, failed, halted, at-once, just, and-then, and-stop}
 use Rattle.listing.proofs.Paths.{prefixed}
 
 module _ (rules root room : ℕ) (text table : List ℕ) (ev : Walker) (r at lo hi k : ℕ) {word : ℕ} (word-is : word ≡ getD table (at * rules + r) 0)

@@ -1,12 +1,11 @@
 -- What the terminals tell: the length of a match, or that they fail. Assumes nothing.
 use Prim.Native.Nat.{ℕ, _≤_, _<_}
 use borrow.Author.Tests.{lt-ltb, le-ltb}
-use mathlib.Core.Path.{_≡_, refl, sym, ap, _∙_}
+use mathlib.Core.Path.{_≡_, sym, ap, _∙_}
 use mathlib.Core.Bool.{Bool, true, false, _&&_, and-false}
 use mathlib.Core.List.{List}
 use lib.ListN.{length}
 use lib.Dec.{ltb}
-use Rattle.grammar.specs.declared.Evaluation.{Evaluation}
 use Rattle.grammar.specs.Image.{byteAt, Terminal}
 use Rattle.grammar.specs.Terminal.{accepts, tested, terminalAt}
 use Rattle.listing.specs.Gives.{toldLength}

@@ -5,7 +5,8 @@ use mathlib.Core.Path.{_≡_}
 use mathlib.Core.Bool.{Bool}
 use mathlib.Core.List.{List, _++_}
 use lib.ListN.{length, drop}
-use Rattle.reading.specs.Loaded.{rulesIn}
+use Rattle.grammar.specs.Image.{start, root}
+use Rattle.reading.specs.Loaded.{rulesIn, Loaded}
 use Rattle.rows.specs.Walk.{walked, stopped, Trail, trail, pairV, nodeV}
 use Rattle.rows.specs.Bounds.{Number}
 use Rattle.listing.specs.declared.list.Listed.{Listed}
@@ -41,3 +42,9 @@ ListedIn ws text table start root slots r left =
 pub data Answers (words slots : List ℕ) (r : Listed) (left : List ℕ) : Type 0 where
   all-written : length words ≤ length slots → r ≡ Rows (length words) → left ≡ words ++ drop (length words) slots → Answers words slots r left
   no-slots : length slots < length words → r ≡ Refused 15 → left ≡ slots → Answers words slots r left
+
+-- The start pair of an image, by a grammar that was loaded from it.
+pub record ListedOver (img text table slots : List ℕ) (r : Listed) (left : List ℕ) : Type 0 where
+  pub grammar : List ℕ
+  pub loaded : Loaded img grammar
+  pub listed : ListedIn grammar text table (start img) (root img (start img)) slots r left

@@ -3,4 +3,5 @@
 mod bytes;
 pub mod list;
 mod slots;
+pub mod start;
 mod walk;

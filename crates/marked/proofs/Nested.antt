@@ -19,13 +19,16 @@ use Rattle.grammar.specs.Evaluates.{Fresh, bodiesOnly, a-node, a-pair}
 use Rattle.grammar.specs.Evaluates.{ev-empty, ev-terminal, ev-then-first-fails, ev-then, ev-else-first, ev-else-second, ev-call, ev-body}
 use Rattle.grammar.proofs.Tests.{every, headerTest, ruleTest, nodeTest, wordsTest, onceTest, lawful-image}
 use Rattle.grammar.proofs.First.{then-asked}
-use Rattle.grammar.proofs.Acceptance.{checked}
+use Rattle.grammar.proofs.Acceptance.{checked, accepted}
 use Rattle.grammar.proofs.Determinism.{one}
 use Rattle.reading.specs.declared.plain.Outcome.{Outcome}
 use Rattle.reading.specs.declared.plain.PlainAnswer.{PlainAnswer}
 use Rattle.reading.specs.Plain.{ShortText, DepthAllowed, ofPlain, PlainRead}
+use Rattle.ledger.specs.Sessions.{SessionSays}
 use Rattle.ledger.proofs.Asked.{image-numbers}
+use Rattle.ledger.proofs.Sessions.{session-deep}
 use Rattle.marked.specs.Images.{M10, brackets}
+use Rattle.marked.specs.Sessions.{callsDeep, repliesDeep}
 
 -- The image is accepted.
 passes : (headerTest M10 ≡ true) × (wordsTest M10 ≡ true) × (every (nodes M10) (onceTest M10) ≡ true)
@@ -149,3 +152,8 @@ m10-read = read-brackets 1364 (omega arith) (omega arith)
 
 pub m10-refused : PlainRead M10 (brackets 1365) (PlainAnswer.Refused 14)
 m10-refused = refuse-brackets 1365 (omega arith) (omega arith)
+
+pub deep-holds : SessionSays M10 (brackets 1365) 1365 callsDeep repliesDeep
+deep-holds =
+    session-deep M10 (brackets 1365) 1365 (accepted m10-accepted) (omega arith) (let e = long 1365 in omega arith)
+    (m10-refused .values .1 refl) 1

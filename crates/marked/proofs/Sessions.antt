@@ -9,16 +9,22 @@ use Rattle.grammar.specs.Terminal.{accepts, terminalAt}
 use Rattle.grammar.proofs.Acceptance.{accepted}
 use Rattle.records.specs.Words.{matchedOf, spareOf, nestingOf, examinedOf, lengthOf, valueOf, wordOf, possible}
 use Rattle.reading.specs.Model.{afterFirst, afterChoice, afterRound, roundsM, met, looked, pairM, kindM, nodeM}
+use Rattle.reading.specs.Loaded.{wordNode}
+use Rattle.rows.specs.Rows.{rowWord, rowWords}
+use Rattle.rows.specs.Window.{touches}
+use Rattle.rows.specs.Walk.{after, bind, afterLook, partV, joined, roundsV, entered, pairV, kindV, nodeV, startV}
+use Rattle.rows.specs.Walk as walk
 use Rattle.editing.specs.Text.{textAfter, opened}
 use Rattle.editing.specs.Table.{tableSize, wordAfter, wordsAfter}
 use Rattle.ledger.specs.Ledger.{Call, Reply}
 use Rattle.ledger.specs.Demand.{loan}
 use Rattle.ledger.specs.Sessions.{SessionSays}
+use Rattle.ledger.proofs.LoadedImage.{wordsFrom}
 use Rattle.ledger.proofs.Runs.{repliesOf}
 use Rattle.ledger.proofs.Sessions.{session-says}
 use Rattle.marked.specs.Images.{D2}
-use Rattle.marked.specs.Sessions.{text12a, calls1, replies1, calls2, replies2, calls3, replies3, calls4, replies4, calls5, replies5}
-use Rattle.marked.specs.Sessions.{callsOver, repliesOver, callsRefused, repliesRefused}
+use Rattle.marked.specs.Sessions.{text12a, calls1, replies1, calls2, replies2, calls3, replies3, calls4, replies4, calls5, replies5, text12, calls6, replies6}
+use Rattle.marked.specs.Sessions.{callsOver, repliesOver, callsRefused, repliesRefused, callsListed, repliesListed}
 use Rattle.marked.proofs.Images.{d2-accepted}
 
 -- The calls as functions give these replies.
@@ -38,6 +44,14 @@ unfolding D2 rules nodes start ruleWord root nodeWord kind fieldA fieldB nodeOfK
     spareOf nestingOf examinedOf lengthOf valueOf wordOf possible afterFirst afterChoice afterRound roundsM met looked pairM
     kindM nodeM textAfter wordAfter wordsAfter
 computed = (refl, refl, refl, refl, refl, refl, refl)
+
+-- The same for the sessions with listings, which walk.
+listed : Computed text12 calls6 replies6 × Computed text12 callsListed repliesListed
+unfolding D2 rules nodes start ruleWord root nodeWord kind fieldA fieldB nodeOfKind node body accepts terminalAt matchedOf
+    spareOf nestingOf examinedOf lengthOf valueOf wordOf possible afterFirst afterChoice afterRound roundsM met looked pairM
+    kindM nodeM textAfter wordAfter wordsAfter wordsFrom wordNode after bind afterLook partV joined walk.afterFirst walk.afterChoice walk.afterRound
+    roundsV entered walk.met pairV kindV nodeV startV touches rowWord rowWords
+listed = (refl, refl)
 
 -- D2 is accepted.
 says :
@@ -65,3 +79,9 @@ over-holds = says text12a callsOver repliesOver (omega arith) (computed .5)
 
 pub refused-holds : SessionSays D2 text12a 4 callsRefused repliesRefused
 refused-holds = says text12a callsRefused repliesRefused (omega arith) (computed .6)
+
+pub m6-holds : SessionSays D2 text12 4 calls6 replies6
+m6-holds = says text12 calls6 replies6 (omega arith) (listed .0)
+
+pub listed-holds : SessionSays D2 text12 4 callsListed repliesListed
+listed-holds = says text12 callsListed repliesListed (omega arith) (listed .1)

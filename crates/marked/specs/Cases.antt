@@ -8,8 +8,8 @@ use Rattle.reading.specs.declared.plain.PlainAnswer.{PlainAnswer}
 use Rattle.reading.specs.Plain.{PlainRead}
 use Rattle.ledger.specs.Ledger.{Call, Reply}
 use Rattle.ledger.specs.Sessions.{SessionSays}
-use Rattle.marked.specs.Sessions.{text12a, calls1, replies1, calls2, replies2, calls3, replies3, calls4, replies4, calls5, replies5}
-use Rattle.marked.specs.Sessions.{callsOver, repliesOver, callsRefused, repliesRefused}
+use Rattle.marked.specs.Sessions.{text12a, calls1, replies1, calls2, replies2, calls3, replies3, calls4, replies4, calls5, replies5, text12, calls6, replies6}
+use Rattle.marked.specs.Sessions.{callsOver, repliesOver, callsRefused, repliesRefused, callsListed, repliesListed, callsDeep, repliesDeep}
 use Rattle.marked.specs.Images.{D2, M7, M8, M9, M10, brackets, secondEdition, startTooHigh, byteTooMany, ownChild, orphan}
 
 pub data Line : Type 0 where
@@ -30,7 +30,7 @@ abbrev pub Hold : List Line → Type 0
 Hold [] = Unit {0}
 Hold (line ∷ lines) = Says line × Hold lines
 
--- "D2 is: [..]." M1 to M5 are in Sessions.antt. "M7 S = S then a byte: 7. M8 S = not S: 7. M9 star over not a byte: 6.
+-- "D2 is: [..]." M1 to M6 are in Sessions.antt. "M7 S = S then a byte: 7. M8 S = not S: 7. M9 star over not a byte: 6.
 -- M10 S = ("(" then S) else empty: 1,364 brackets have nesting 4,095; 1,365 give 14."
 abbrev pub marked : List Line
 marked =
@@ -40,6 +40,7 @@ marked =
     ∷ session D2 text12a 4 calls3 replies3
     ∷ session D2 text12a 4 calls4 replies4
     ∷ session D2 [] 4 calls5 replies5
+    ∷ session D2 text12 4 calls6 replies6
     ∷ image-number M7 7
     ∷ image-number M8 7
     ∷ image-number M9 6
@@ -60,4 +61,6 @@ witnesses =
     ∷ image-number orphan 5
     ∷ session D2 text12a 4 callsOver repliesOver
     ∷ session D2 text12a 4 callsRefused repliesRefused
+    ∷ session D2 text12 4 callsListed repliesListed
+    ∷ session M10 (brackets 1365) 1365 callsDeep repliesDeep
     ∷ []

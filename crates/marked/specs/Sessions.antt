@@ -1,13 +1,16 @@
 -- The marked cases that are sessions: the text opened, the calls, and every reply along them, in a buffer of 4 bytes.
 use Prim.Native.Nat.{ℕ}
 use mathlib.Core.List.{List, [], _∷_}
+use lib.ListN.{length}
 use Rattle.reading.specs.declared.plain.Outcome.{Outcome}
 use Rattle.ledger.specs.declared.EditAnswer.{EditAnswer}
 use Rattle.ledger.specs.declared.EditedSheet.{EditedSheet}
 use Rattle.ledger.specs.declared.LookUpAnswer.{LookUpAnswer}
 use Rattle.ledger.specs.declared.ReadAnswer.{ReadAnswer}
+use Rattle.ledger.specs.declared.ListAnswer.{ListAnswer}
 use Rattle.ledger.specs.declared.SheetReading.{SheetReading}
-use Rattle.ledger.specs.Ledger.{Call, edit, reading, look-up, Reply, edits, reads, finds}
+use Rattle.ledger.specs.declared.SheetListing.{SheetListing}
+use Rattle.ledger.specs.Ledger.{Call, edit, reading, look-up, listing, Reply, edits, reads, finds, lists}
 
 -- A reading's reply, an edit's, and a look-up's.
 abbrev pub answers : Outcome → (length examined nesting evaluations : ℕ) → Reply
@@ -21,6 +24,17 @@ stand length standing = edits (EditAnswer.Edited (record { length = length; stan
 
 abbrev pub word : ℕ → Reply
 word w = finds (LookUpAnswer.Word w)
+
+-- The reply of a listing that gave rows with these words.
+abbrev pub rowsGiven : Outcome → (length examined nesting evaluations : ℕ) → List ℕ → Reply
+rowsGiven outcome len examined nesting evaluations words =
+    lists
+    (ListAnswer.Listed
+    (record {
+      reading = record { outcome = outcome; length = len; examined = examined; nesting = nesting; evaluations = evaluations };
+      rows = length words;
+    }))
+    words
 
 -- "12a"
 abbrev pub text12a : List ℕ
@@ -61,6 +75,40 @@ calls5 = reading ∷ []
 
 abbrev pub replies5 : List Reply
 replies5 = answers Outcome.Nothing 0 1 3 2 ∷ []
+
+-- "M6 "12": 3 rows; 2 slots give 15." The rows are the start rule's and one for each digit.
+abbrev pub text12 : List ℕ
+text12 = 0x31 ∷ 0x32 ∷ []
+
+abbrev pub rows12 : List ℕ
+rows12 = 0x0000000000000002 ∷ 0x0100000100000001 ∷ 0x0100000100010001 ∷ []
+
+abbrev pub calls6 : List Call
+calls6 = listing 3 ∷ listing 2 ∷ []
+
+abbrev pub replies6 : List Reply
+replies6 = rowsGiven Outcome.Whole 2 3 4 4 rows12 ∷ lists (ListAnswer.Refused 15) [] ∷ []
+
+-- A listing refused with 15 is a reading: the one after it evaluates nothing. More slots than rows are no hindrance, and no match gives 0
+-- rows.
+abbrev pub callsListed : List Call
+callsListed = listing 2 ∷ reading ∷ listing 9 ∷ edit 0 2 [] ∷ listing 0 ∷ []
+
+abbrev pub repliesListed : List Reply
+repliesListed =
+    lists (ListAnswer.Refused 15) []
+    ∷ answers Outcome.Whole 2 3 4 0
+    ∷ rowsGiven Outcome.Whole 2 3 4 0 rows12
+    ∷ stand 0 1
+    ∷ rowsGiven Outcome.Nothing 0 1 3 1 []
+    ∷ []
+
+-- A start pair whose nesting is above 4,096: 14 for a reading and for a listing.
+abbrev pub callsDeep : List Call
+callsDeep = reading ∷ listing 1 ∷ []
+
+abbrev pub repliesDeep : List Reply
+repliesDeep = reads (ReadAnswer.Refused 14) ∷ lists (ListAnswer.Refused 14) [] ∷ []
 
 -- Witnesses: "M1, then (2, 3, "3"), then says part where whole is right"; and a refusal with each of 9, 10 and 11, after which the session
 -- goes on as before.

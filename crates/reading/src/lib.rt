@@ -4,7 +4,7 @@ mod answers;
 pub mod code;
 mod evaluate;
 mod fresh;
-mod loaded;
+pub mod loaded;
 mod memo;
 pub mod plain;
 pub mod session;

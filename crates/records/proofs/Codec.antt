@@ -1,9 +1,8 @@
 -- The codec of a record word: a word says the evaluation that it was made of, it is held, and its zero bits are 0. Assumes nothing.
 use Prim.Native.Nat.{ℕ, _+_, _*_, _/_, _%_, _^_, _≤_, _<_}
 use native.Mathlib.Omega.{arith}
-use mathlib.Core.Path.{_≡_, refl, sym, ap, _∙_}
+use mathlib.Core.Path.{_≡_, refl, ap, _∙_}
 use mathlib.Core.Bool.{Bool, true, false}
-use borrow.Author.Tests.{eq-eqb, ne-eqb}
 use lib.Dec.{eqb}
 use mir.Val.{boolByte}
 use Rattle.grammar.specs.declared.Evaluation.{Evaluation}
@@ -67,10 +66,6 @@ module _ (x : Evaluation) (r : InRange x) where
   unfolding wordOf
   word-held = omega arith
 
-  pub word-fits : wordOf x < 2 ^ 64
-  unfolding wordOf
-  word-fits = omega (arith, r .nesting-fits, r .examined-fits, r .length-fits, byte-of (x .matched))
-
 -- A record with no spare bits has the word of its evaluation.
 pub plain-word :
     (m : Bool) (nesting examined length : ℕ)
@@ -90,9 +85,3 @@ word-again word e =
     let b = examined-small word in
     let c = length-small word in
     omega arith
-
--- The fields of a word fit their bits.
-pub value-in-range : (word : ℕ) → InRange (valueOf word)
-unfolding valueOf
-value-in-range word =
-    record { nesting-fits = nesting-small word; examined-fits = examined-small word; length-fits = length-small word }

@@ -1,11 +1,10 @@
 -- The test of question 12 says what question 12 says; what the decoder answers. Assumes nothing.
-use Prim.Native.Nat.{ℕ, _+_, _≤_}
+use Prim.Native.Nat.{ℕ, _+_}
 use mathlib.Core.Path.{_≡_, refl, sym, ap, _∙_}
 use mathlib.Core.Bool.{Bool, true, false, _&&_, _||_, true≢false}
 use borrow.Author.Tests.{leb-true, le-leb, eqb-true, eq-eqb}
-use lib.Dec.{leb, eqb}
+use lib.Dec.{eqb}
 use Rattle.records.specs.declared.Record.{Record}
-use Rattle.records.specs.declared.Decoded.{Decoded}
 use Rattle.records.specs.declared.Decoded.the-variants.{Possible, Impossible}
 use Rattle.records.specs.Words.{matchedOf, spareOf, nestingOf, examinedOf, lengthOf, IsPossible, possible, recordOf, pick, decoded}
 

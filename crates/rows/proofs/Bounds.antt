@@ -3,14 +3,13 @@
 --     node-bounded, pair-bounded    for every loaded grammar, text, table, window and number of rows before
 use Prim.Native.Nat.{ℕ, zero, suc, _+_, _*_, _%_, _≤_, _<_}
 use native.Mathlib.Omega.{arith}
-use mathlib.Core.Path.{_≡_, refl, sym, ap, _∙_, subst}
+use mathlib.Core.Path.{_≡_, refl, sym, ap, _∙_}
 use mathlib.Core.Bool.{Bool, true, false, not, _&&_, true≢false}
 use mathlib.Core.List.{List, [], _∷_, _++_, append-nil}
 use lib.ListN.{length, getD, length-append}
 use lib.Dec.{leb, eqb}
-use borrow.Author.Tests.{leb-true, leb-false}
+use borrow.Author.Tests.{leb-false}
 use Rattle.grammar.specs.Image.{Node, empty, terminal, sequence, choice, star, not-predicate, call, unlawful}
-use Rattle.grammar.specs.Terminal.{terminalAt}
 use Rattle.grammar.proofs.Terminals.{shape}
 use Rattle.records.specs.Words.{isHeld, possible, matchedOf, lengthOf}
 use Rattle.records.proofs.Test.{says-possible}
@@ -19,7 +18,7 @@ use Rattle.rows.specs.Rows.{rowWord}
 use Rattle.rows.specs.Window.{touches}
 use Rattle.rows.specs.Walk.{Walked, walked, stopped, Trail, trail, Walker, bind, after, afterLook, partV, joined, afterFirst}
 use Rattle.rows.specs.Walk.{afterChoice, afterRound, roundsV, met, entered, pairV, kindV, nodeV}
-use Rattle.rows.specs.Bounds.{Ends, Number, impossible, too-deep, no-slot, May, Bounded}
+use Rattle.rows.specs.Bounds.{Number, impossible, too-deep, no-slot, May, Bounded}
 
 both : (a b : Bool) → a && b ≡ true → (a ≡ true) × (b ≡ true)
 both true b e = (refl, e)

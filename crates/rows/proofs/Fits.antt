@@ -1,11 +1,11 @@
 -- How walks that end as `Fits` says follow each other. Assumes nothing.
 use Prim.Native.Nat.{ℕ, _+_, _≤_, _<_}
 use native.Mathlib.Omega.{arith}
-use mathlib.Core.Path.{_≡_, refl, sym, ap, _∙_, subst}
-use mathlib.Core.Bool.{Bool, true, false}
+use mathlib.Core.Path.{_≡_, sym, ap, _∙_, subst}
+use mathlib.Core.Bool.{Bool}
 use mathlib.Core.List.{List, [], _∷_, _++_, append-nil}
 use lib.ListN.{length, length-append}
-use Rattle.rows.specs.Walk.{Walked, walked, stopped, Trail, trail, bind, after}
+use Rattle.rows.specs.Walk.{walked, Trail, trail, bind, after}
 use Rattle.rows.specs.Fits.{Fits, rows-fit, too-many}
 
 -- No row.

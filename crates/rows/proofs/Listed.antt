@@ -21,16 +21,16 @@ use Rattle.records.specs.Words.{isHeld}
 use Rattle.reading.specs.Over.{wordAt}
 use Rattle.reading.specs.True.{TrueTable}
 use Rattle.reading.specs.Closed.{ClosedTable, Reads}
-use Rattle.reading.specs.Loaded.{Loaded, rulesIn}
+use Rattle.reading.specs.Loaded.{Loaded}
 use Rattle.reading.specs.Model.{Out}
 use Rattle.rows.specs.Rows.{ifMatched, rowsOf, rowWord, rowWords}
 use Rattle.rows.specs.Window.{touches}
-use Rattle.rows.specs.Walk.{walked, Trail, trail, met, entered, pairV, nodeV, startV}
+use Rattle.rows.specs.Walk.{Trail, met, entered, nodeV, startV}
 use Rattle.rows.specs.Fits.{Fits}
 use Rattle.rows.proofs.RowsInside.{start-rows}
 use Rattle.rows.proofs.Windows.{all-shown}
 use Rattle.rows.proofs.Pairs.{pair-says}
-use Rattle.rows.proofs.Fits.{same-walk, same-words, same-length, same-match, no-row}
+use Rattle.rows.proofs.Fits.{same-words, same-length, same-match, no-row}
 use Rattle.rows.proofs.Lists.{lists}
 
 -- "No match gives 0 rows."

@@ -10,14 +10,14 @@ use lib.ListN.{length, getD}
 use lib.Dec.{leb, eqb}
 use borrow.Author.Tests.{ne-eqb, leb-true, leb-false}
 use Rattle.grammar.specs.declared.Evaluation.{Evaluation}
-use Rattle.grammar.specs.Image.{Node, call, rules, root, node, body}
+use Rattle.grammar.specs.Image.{call, rules, root, node, body}
 use Rattle.grammar.specs.Questions.{Question4}
 use Rattle.grammar.specs.Evaluates.{Fresh, Subject, bodiesOnly, a-node, a-pair, rounds-of, lengthIf}
 use Rattle.grammar.specs.Evaluates.{ev-empty, ev-terminal, ev-then-first-fails, ev-then, ev-else-first, ev-else-second}
 use Rattle.grammar.specs.Evaluates.{ev-star, ev-last-round, ev-round, ev-not, ev-call, ev-body, ev-record}
 use Rattle.grammar.proofs.Determinism.{still}
 use Rattle.grammar.proofs.References.{refers, root-in-range}
-use Rattle.evaluation.specs.Calls.{Pair, callsOf, here}
+use Rattle.evaluation.specs.Calls.{callsOf, here}
 use Rattle.evaluation.proofs.Pairs.{in-left, in-right}
 use Rattle.evaluation.proofs.Plain.{fresh-within, no-record}
 use Rattle.evaluation.proofs.Range.{InImage}
@@ -26,13 +26,13 @@ use Rattle.reading.specs.Closed.{ClosedTable}
 use Rattle.reading.specs.Loaded.{Loaded, rulesIn, wordB}
 use Rattle.rows.specs.Rows.{Row, rowWord, ifMatched, rowsOf}
 use Rattle.rows.specs.Window.{touches, wordIf, shown}
-use Rattle.rows.specs.Fits.{Fits, rows-fit, too-many}
-use Rattle.rows.specs.Walk.{Walked, walked, stopped, Trail, trail, Walker, bind, after, afterLook, partV, joined, afterFirst}
+use Rattle.rows.specs.Fits.{Fits, too-many}
+use Rattle.rows.specs.Walk.{walked, Trail, trail, afterLook, partV, joined, afterFirst}
 use Rattle.rows.specs.Walk.{afterChoice, afterRound, roundsV, met, entered, pairV, kindV, nodeV}
 use Rattle.rows.proofs.Windows.{none-shown, shown-both}
-use Rattle.rows.proofs.RowsInside.{AllInside, inside}
+use Rattle.rows.proofs.RowsInside.{inside}
 use Rattle.rows.proofs.Pairs.{Held, pair-says, numbered}
-use Rattle.rows.proofs.Looks.{step, told, looks, by-number, part-look, rounds-match}
+use Rattle.rows.proofs.Looks.{step, looks, by-number, rounds-match}
 use Rattle.rows.proofs.Fits.{same-walk, same-words, same-length, no-row, in-turn, at-end, row-first}
 
 module _ (img text table : List ℕ) (words : Question4 img) (narrow : rules img ≤ 64) (short : length text ≤ 65535)

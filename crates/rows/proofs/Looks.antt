@@ -10,22 +10,21 @@ use lib.ListN.{length, getD}
 use lib.Dec.{leb, eqb}
 use borrow.Author.Tests.{ne-eqb}
 use Rattle.grammar.specs.declared.Evaluation.{Evaluation}
-use Rattle.grammar.specs.Image.{rules, root, node, body}
+use Rattle.grammar.specs.Image.{rules, node}
 use Rattle.grammar.specs.Questions.{Question4}
 use Rattle.grammar.specs.Evaluates.{Fresh, Subject, bodiesOnly, a-node, a-pair, rounds-of, lengthIf}
 use Rattle.grammar.specs.Evaluates.{ev-empty, ev-terminal, ev-then-first-fails, ev-then, ev-else-first, ev-else-second}
 use Rattle.grammar.specs.Evaluates.{ev-star, ev-last-round, ev-round, ev-not, ev-call, ev-body, ev-record}
 use Rattle.grammar.proofs.Determinism.{still}
 use Rattle.grammar.proofs.References.{refers}
-use Rattle.evaluation.specs.Calls.{Pair, callsOf, here}
+use Rattle.evaluation.specs.Calls.{callsOf, here}
 use Rattle.evaluation.proofs.Pairs.{in-left, in-right}
 use Rattle.evaluation.proofs.Plain.{fresh-within, no-record}
 use Rattle.evaluation.proofs.Range.{InImage}
 use Rattle.reading.specs.True.{TrueTable}
 use Rattle.reading.specs.Loaded.{Loaded, rulesIn, wordB}
-use Rattle.rows.specs.Rows.{rowWord}
 use Rattle.rows.specs.Window.{touches}
-use Rattle.rows.specs.Walk.{Walked, walked, Trail, trail, Walker, bind, after, afterLook, partV, joined, afterFirst, afterChoice}
+use Rattle.rows.specs.Walk.{walked, Trail, trail, Walker, bind, after, afterLook, partV, joined, afterFirst, afterChoice}
 use Rattle.rows.specs.Walk.{afterRound, roundsV, met, entered, pairV, kindV, nodeV}
 use Rattle.rows.proofs.Windows.{touches-nothing}
 use Rattle.rows.proofs.Pairs.{Held, pair-says, numbered}

@@ -4,12 +4,11 @@
 --     Held            the pair itself is held, or the pairs that are called in what is not a pair
 use Prim.Native.Nat.{ℕ, suc, _+_, _%_, _≤_, _<_}
 use native.Mathlib.Omega.{arith}
-use mathlib.Core.Path.{_≡_, refl, sym, ap, _∙_}
-use mathlib.Core.Bool.{Bool, true, false, _&&_}
+use mathlib.Core.Path.{_≡_, ap, _∙_}
+use mathlib.Core.Bool.{Bool, true, _&&_}
 use mathlib.Core.List.{List}
 use lib.ListN.{length, getD}
 use lib.Dec.{leb}
-use borrow.Author.Tests.{le-leb}
 use Rattle.grammar.specs.declared.Evaluation.{Evaluation}
 use Rattle.grammar.specs.Image.{Node, rules, node}
 use Rattle.grammar.specs.Evaluates.{Fresh, Subject, bodiesOnly, a-node, a-pair, rounds-of}
@@ -17,7 +16,7 @@ use Rattle.grammar.proofs.Determinism.{one}
 use Rattle.evaluation.specs.Calls.{Pair, In}
 use Rattle.evaluation.proofs.Plain.{fresh-within}
 use Rattle.records.specs.Words.{isHeld, possible, matchedOf, lengthOf, wordOf}
-use Rattle.records.proofs.Codec.{matched-back, length-back, word-held}
+use Rattle.records.proofs.Codec.{matched-back, length-back}
 use Rattle.records.proofs.Test.{passes-test}
 use Rattle.reading.specs.Over.{wordAt}
 use Rattle.reading.specs.True.{TrueTable}
@@ -25,7 +24,7 @@ use Rattle.reading.specs.Loaded.{Loaded, rulesIn, wordB}
 use Rattle.reading.proofs.OverTables.{word-possible}
 use Rattle.rows.specs.Rows.{rowWord}
 use Rattle.rows.specs.Window.{touches}
-use Rattle.rows.specs.Walk.{Trail, Walker, met, entered, pairV, kindV, nodeV}
+use Rattle.rows.specs.Walk.{Walker, met, entered, pairV, kindV, nodeV}
 
 both-true : {a b : Bool} → a ≡ true → b ≡ true → a && b ≡ true
 both-true e f = simp (e, f)

@@ -1,6 +1,6 @@
 -- What windows touch: nothing lies in the window (n + 1, 0), all rows of the text lie in (0, n), and where a window does not touch what
 -- matched it touches none of its rows. Assumes nothing.
-use Prim.Native.Nat.{ℕ, _+_, _≤_, _<_}
+use Prim.Native.Nat.{ℕ, _+_, _≤_}
 use native.Mathlib.Omega.{arith}
 use mathlib.Core.Path.{_≡_, refl, sym, ap, _∙_}
 use mathlib.Core.Bool.{Bool, true, false, _&&_, true≢false}
@@ -9,7 +9,7 @@ use lib.Dec.{leb}
 use borrow.Author.Tests.{leb-true, le-leb, lt-leb}
 use Rattle.rows.specs.Rows.{Row, rowWord, rowWords}
 use Rattle.rows.specs.Window.{touches, wordIf, shown}
-use Rattle.rows.proofs.RowsInside.{Inside, AllInside, none-left, and-then}
+use Rattle.rows.proofs.RowsInside.{AllInside, none-left, and-then}
 
 and-false : (a b : Bool) → b ≡ false → a && b ≡ false
 and-false true b e = e

@@ -2,9 +2,7 @@
 -- with 12, 14 or 15 if at all.
 use Prim.Native.Nat.{ℕ, _+_, _≤_}
 use mathlib.Core.Path.{_≡_}
-use mathlib.Core.Bool.{false}
 use mathlib.Core.List.{List}
-use mathlib.Core.Logic.{_⊎_}
 use lib.ListN.{length}
 use Rattle.rows.specs.Walk.{Walked, walked, stopped, Trail, trail}
 

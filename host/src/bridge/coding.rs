@@ -13,6 +13,8 @@ pub enum Refusal {
     Question(u64),
     /// Fields that stand for no answer. Only a library other than the proved one gives them.
     UnknownFields(AnswerFields),
+    /// A word that stands for no row; from such a library too.
+    UnknownRow(u64),
 }
 
 impl Refusal {
@@ -20,6 +22,7 @@ impl Refusal {
         match self {
             Refusal::Question(number) => question_in_words(number),
             Refusal::UnknownFields(_) => "The fields stand for no answer.",
+            Refusal::UnknownRow(_) => "The word stands for no row.",
         }
     }
 }
@@ -29,6 +32,7 @@ impl fmt::Display for Refusal {
         match self {
             Refusal::Question(number) => write!(out, "refused with {number}"),
             Refusal::UnknownFields(fields) => write!(out, "unknown fields {fields:?}"),
+            Refusal::UnknownRow(word) => write!(out, "the unknown row {word:#018x}"),
         }
     }
 }
@@ -48,32 +52,41 @@ impl AnswerFields {
         }
     }
 
-    pub fn of_answer(answer: Answer) -> AnswerFields {
+    pub fn of_answer(answer: &Answer) -> AnswerFields {
         match answer {
             Answer::Edited(Edited { length, standing }) => AnswerFields {
-                length: length as u64,
-                value: standing as u64,
+                length: *length as u64,
+                value: *standing as u64,
                 ..AnswerFields::default()
             },
-            Answer::Reading(SheetReading {
-                reading,
-                evaluations,
-            }) => AnswerFields {
-                outcome: match reading.outcome {
-                    Outcome::Nothing => 0,
-                    Outcome::Part => 1,
-                    Outcome::Whole => 2,
-                },
-                length: reading.length as u64,
-                examined: reading.examined as u64,
-                nesting: reading.nesting as u64,
-                evaluations: evaluations as u64,
-                ..AnswerFields::default()
-            },
+            Answer::Reading(read) => AnswerFields::of_reading(*read),
             Answer::Word(word) => AnswerFields {
-                value: word,
+                value: *word,
                 ..AnswerFields::default()
             },
+            Answer::Listing(listing) => AnswerFields {
+                value: listing.rows.len() as u64,
+                ..AnswerFields::of_reading(listing.read)
+            },
+        }
+    }
+
+    fn of_reading(read: SheetReading) -> AnswerFields {
+        let SheetReading {
+            reading,
+            evaluations,
+        } = read;
+        AnswerFields {
+            outcome: match reading.outcome {
+                Outcome::Nothing => 0,
+                Outcome::Part => 1,
+                Outcome::Whole => 2,
+            },
+            length: reading.length as u64,
+            examined: reading.examined as u64,
+            nesting: reading.nesting as u64,
+            evaluations: evaluations as u64,
+            ..AnswerFields::default()
         }
     }
 
@@ -88,7 +101,7 @@ impl AnswerFields {
             length: self.length as usize,
             standing: self.value as usize,
         };
-        self.if_coded(edited, AnswerFields::of_answer(Answer::Edited(edited)))
+        self.if_coded(edited, AnswerFields::of_answer(&Answer::Edited(edited)))
     }
 
     pub fn read(self) -> Result<SheetReading, Refusal> {
@@ -105,21 +118,21 @@ impl AnswerFields {
             },
             evaluations: self.evaluations as usize,
         };
-        self.if_coded(reading, AnswerFields::of_answer(Answer::Reading(reading)))
+        self.if_coded(reading, AnswerFields::of_reading(reading))
     }
 
     pub fn word(self) -> Result<u64, Refusal> {
         let word = Answer::Word(self.value);
-        self.if_coded(self.value, AnswerFields::of_answer(word))
+        self.if_coded(self.value, AnswerFields::of_answer(&word))
     }
 
     /// The answer where these are its fields, else the refusal that they are.
-    fn if_coded<T>(self, answer: T, coded: AnswerFields) -> Result<T, Refusal> {
+    pub(super) fn if_coded<T>(self, answer: T, coded: AnswerFields) -> Result<T, Refusal> {
         if self == coded {
             return Ok(answer);
         }
         match self.number {
-            1..=12 | 14 if self == AnswerFields::of_number(self.number) => {
+            1..=12 | 14 | 15 if self == AnswerFields::of_number(self.number) => {
                 Err(Refusal::Question(self.number))
             }
             _ => Err(Refusal::UnknownFields(self)),

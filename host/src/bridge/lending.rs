@@ -1,6 +1,7 @@
-//! The four calls over lent buffers. Every loan and every number has an answer.
+//! The five calls over lent buffers. Every loan and every number has an answer.
 //!
-//! Where the nesting comes near 4,096 a reading needs a stack of up to 2 MiB.
+//! Where the nesting comes near 4,096 a reading needs a stack of up to 2 MiB, a listing of up to
+//! 2.5 MiB.
 
 use super::raw::{self, AnswerFields};
 
@@ -83,6 +84,30 @@ pub fn look_up(
             table.len(),
             rule,
             position,
+        )
+    }
+}
+
+/// Reads the first `n` bytes of `buffer` and writes the rows to `rows`, each a word.
+pub fn list(
+    image: &[u8],
+    buffer: &[u8],
+    n: usize,
+    table: &mut [u64],
+    rows: &mut [u64],
+) -> AnswerFields {
+    // SAFETY: each pointer and length are those of one slice, which is lent for the whole call.
+    unsafe {
+        raw::bannelgo_list(
+            image.as_ptr(),
+            image.len(),
+            buffer.as_ptr(),
+            buffer.len(),
+            n,
+            table.as_mut_ptr(),
+            table.len(),
+            rows.as_mut_ptr(),
+            rows.len(),
         )
     }
 }

@@ -1,7 +1,8 @@
-//! The sheet: open, edit, reading and look-up of the proved library `bridge`.
+//! The sheet: open, edit, reading, look-up and listing of the proved library `bridge`.
 
 mod coding;
 pub mod lending;
+mod listing;
 pub mod raw;
 mod sheet;
 

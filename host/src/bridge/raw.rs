@@ -12,7 +12,7 @@ pub struct AnswerFields {
     pub examined: u64,
     pub nesting: u64,
     pub evaluations: u64,
-    /// The pairs that stand after an edit; the word that was looked up.
+    /// The pairs that stand after an edit; the word that was looked up; the number of rows.
     pub value: u64,
 }
 
@@ -62,5 +62,17 @@ extern "C" {
         table_length: usize,
         rule: usize,
         position: usize,
+    ) -> AnswerFields;
+
+    pub fn bannelgo_list(
+        image: *const u8,
+        image_length: usize,
+        buffer: *const u8,
+        buffer_length: usize,
+        n: usize,
+        table: *mut u64,
+        table_length: usize,
+        rows: *mut u64,
+        rows_length: usize,
     ) -> AnswerFields;
 }

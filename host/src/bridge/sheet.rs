@@ -2,7 +2,7 @@
 
 use super::coding::Refusal;
 use super::lending;
-use crate::calls::{Edited, SheetReading};
+use crate::calls::{Answer, Call, Edited, Listing, SheetReading};
 
 /// A text with its memo table, and the image of the grammar that it is read by.
 pub struct Sheet {
@@ -64,6 +64,35 @@ impl Sheet {
             (rule, position),
         )
         .word()
+    }
+
+    /// Reads the text and lists the calls that made the match; a refusal is 14, or 15 where there are
+    /// more than `most`. After 15 the records of the reading are kept. Near the limit of 14 it needs a
+    /// stack of up to 2.5 MiB.
+    pub fn list(&mut self, most: usize) -> Result<Listing, Refusal> {
+        let mut rows = vec![0; most];
+        let answer = lending::list(
+            &self.image,
+            &self.buffer,
+            self.length,
+            &mut self.table,
+            &mut rows,
+        );
+        answer.listed(&rows)
+    }
+
+    /// Makes any of these calls.
+    pub fn call(&mut self, call: &Call) -> Result<Answer, Refusal> {
+        match call {
+            Call::Edit {
+                start,
+                end,
+                replacement,
+            } => self.edit(*start, *end, replacement).map(Answer::Edited),
+            Call::Read => self.read().map(Answer::Reading),
+            Call::LookUp { rule, position } => self.look_up(*rule, *position).map(Answer::Word),
+            Call::List { slots } => self.list(*slots).map(Answer::Listing),
+        }
     }
 
     pub fn text(&self) -> &[u8] {

@@ -7,8 +7,9 @@ use super::machine::{evaluate_pair, Found, Pair};
 use super::pair_map::PairMap;
 use super::reading::{of_start, MOST_NESTING};
 use super::record::true_word;
+use super::rows::rows;
 use super::Refusal;
-use crate::calls::{Answer, Call, Edited, SheetReading};
+use crate::calls::{Answer, Call, Edited, Listing, Row, SheetReading};
 use crate::expr::Grammar;
 use std::collections::BTreeSet;
 
@@ -52,6 +53,7 @@ impl<'g> Ledger<'g> {
             } => self.edit(*start, *end, replacement).map(Answer::Edited),
             Call::Read => self.read().map(Answer::Reading),
             Call::LookUp { rule, position } => self.look_up(*rule, *position).map(Answer::Word),
+            Call::List { slots } => self.list(*slots).map(Answer::Listing),
         }
     }
 
@@ -112,6 +114,18 @@ impl<'g> Ledger<'g> {
             return Err(11);
         }
         Ok(self.word((rule as u8, position)))
+    }
+
+    /// "To it a listing is a reading, also one refused with 15."
+    fn list(&mut self, slots: usize) -> Result<Listing, Refusal> {
+        let read = self.read()?;
+        let rows = self.rows(slots).ok_or(15u64)?;
+        Ok(Listing { read, rows })
+    }
+
+    /// The rows of the present text; nothing where there are more than `most`.
+    pub fn rows(&mut self, most: usize) -> Option<Vec<Row>> {
+        rows(self.grammar, &self.text, &mut self.evaluations, most)
     }
 
     fn word(&mut self, pair: Pair) -> u64 {

@@ -8,13 +8,14 @@
 //! position; it reads at any depth. `recursive` is a second one, which follows the paper's sentences
 //! without keeping anything.
 //!
-//! The ledger is the paper's plain ledger over that recogniser. `lent` and `lent_reading` say what
-//! single calls do with any lent words, true or not.
+//! The ledger is the paper's plain ledger over that recogniser, and `rows` gives the rows of its text.
+//! `lent`, `lent_reading` and `lent_listing` say what single calls do with any lent words, true or not.
 
 mod evaluation;
 mod header;
 pub mod ledger;
 pub mod lent;
+pub mod lent_listing;
 pub mod lent_reading;
 pub mod machine;
 mod occurrences;
@@ -24,6 +25,7 @@ mod reading;
 pub mod record;
 pub mod recursive;
 mod rings;
+pub mod rows;
 mod top_bits;
 mod trees;
 mod words;

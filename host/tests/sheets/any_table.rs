@@ -1,15 +1,16 @@
-//! Calls over any lent words, compared with the paper's definitions, or where these leave a reading
-//! free with what holds of it.
+//! Calls over any lent words, compared with the paper's definitions, or where these leave a reading or
+//! a listing free with what holds of it.
 
+use super::answers::{fields_of, row_words};
+use super::free::{row_frame, table_frame};
 use super::lent::Lent;
 use super::session::first_difference;
 use super::tally::Tally;
-use bannelgo_host::bridge::AnswerFields;
 use bannelgo_host::calls::{Answer, Call};
 use bannelgo_host::expr::Grammar;
 use bannelgo_host::numbering::{image_of, Numbering};
 use bannelgo_host::reference::lent::Loan;
-use bannelgo_host::reference::lent_reading;
+use bannelgo_host::reference::{lent_listing, lent_reading, Refusal};
 use bannelgo_host::rng::Rng;
 
 pub struct AnyTable<'a> {
@@ -45,20 +46,24 @@ impl<'a> AnyTable<'a> {
         let fences = lent.fences_stand();
         assert!(fences, "a fence is down\n{}", self.story(call, &before));
         match expected(self.grammar, &mut self.loan, call) {
-            Some(expected) => {
+            Some(answer) => {
+                let expected = fields_of(&answer);
                 self.tally.count_call(call, expected);
-                let settled = fields == expected && left == self.loan;
+                let rows = lent.rows_with(&row_words(&answer));
+                let settled = fields == expected && left == self.loan && lent.rows() == rows;
                 if !settled {
                     let words = first_difference(&left.words, &self.loan.words);
                     let bytes = first_difference(&left.buffer, &self.loan.buffer);
-                    let seen = format!("words {words}\n  bytes {bytes}\n  ours {fields:?}");
+                    let rows = first_difference(lent.rows(), &rows);
+                    let seen = format!("words {words}\n  bytes {bytes}\n  rows {rows}");
                     let story = self.story(call, &before);
-                    panic!("{seen}\n  expected {expected:?}\n{story}");
+                    panic!("{seen}\n  ours {fields:?}\n  expected {expected:?}\n{story}");
                 }
             }
             None => {
-                self.tally.count_free();
-                if let Err(broken) = frame(self.grammar, &before, &left, fields) {
+                self.tally.count_free(call);
+                let kept = table_frame(self.grammar, &before, &left, call, fields);
+                if let Err(broken) = kept.and(row_frame(&lent, call, fields)) {
                     let story = self.story(call, &before);
                     panic!("{broken}\n  ours {fields:?}\n{story}");
                 }
@@ -77,56 +82,26 @@ impl<'a> AnyTable<'a> {
     }
 }
 
-/// What the paper says of a call, and does with the loan; nothing for a reading that is free.
-fn expected(grammar: &Grammar, loan: &mut Loan, call: &Call) -> Option<AnswerFields> {
+/// What the paper says of a call, and does with the loan; nothing for one that is free.
+fn expected(grammar: &Grammar, loan: &mut Loan, call: &Call) -> Option<Result<Answer, Refusal>> {
     if let Some(number) = loan.question_failed(grammar, call) {
-        return Some(AnswerFields::of_number(number));
+        return Some(Err(number));
     }
     Some(match call {
         Call::Edit {
             start,
             end,
             replacement,
-        } => {
-            let edited = loan.edit(grammar, *start, *end, replacement);
-            AnswerFields::of_answer(Answer::Edited(edited))
-        }
-        Call::Read => match lent_reading::read(grammar, loan)? {
-            Ok(reading) => AnswerFields::of_answer(Answer::Reading(reading)),
-            Err(number) => AnswerFields::of_number(number),
-        },
+        } => Ok(Answer::Edited(loan.edit(
+            grammar,
+            *start,
+            *end,
+            replacement,
+        ))),
+        Call::Read => lent_reading::read(grammar, loan)?.map(Answer::Reading),
         Call::LookUp { rule, position } => {
-            let word = loan.look_up(grammar, *rule, *position);
-            AnswerFields::of_answer(Answer::Word(word))
+            Ok(Answer::Word(loan.look_up(grammar, *rule, *position)))
         }
+        Call::List { slots } => lent_listing::list(grammar, loan, *slots)?.map(Answer::Listing),
     })
-}
-
-/// "It ends, changes only the table, has a length of at most n, zeroes the table with 12 and 14."
-fn frame(
-    grammar: &Grammar,
-    before: &Loan,
-    left: &Loan,
-    fields: AnswerFields,
-) -> Result<(), &'static str> {
-    let table = before.table_length(grammar);
-    if left.buffer != before.buffer || left.n != before.n {
-        return Err("the text has changed");
-    }
-    if left.words[table..] != before.words[table..] {
-        return Err("a word after the table has changed");
-    }
-    match fields.number {
-        0 if fields.read().is_err() => Err("the fields are no reading"),
-        0 if fields.length > before.n as u64 => Err("the length is above n"),
-        0 => Ok(()),
-        12 | 14 if fields != AnswerFields::of_number(fields.number) => {
-            Err("a refusal has other fields")
-        }
-        12 | 14 if left.words[..table].iter().any(|&word| word != 0) => {
-            Err("the table is not zeroed")
-        }
-        12 | 14 => Ok(()),
-        _ => Err("a number other than 12 and 14"),
-    }
 }

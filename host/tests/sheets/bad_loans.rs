@@ -23,8 +23,12 @@ pub fn bad_call(rng: &mut Rng, session: &mut Session, grammar: &Grammar) {
     }
 }
 
-/// Any call, now and then one that would be refused with 9, 10 or 11.
+/// Any call, now and then one that would be refused with 9, 10, 11 or 15.
 fn any_call(rng: &mut Rng, session: &Session, grammar: &Grammar) -> Call {
+    if rng.one_in(4) {
+        let slots = rng.below(4);
+        return Call::List { slots };
+    }
     Typist::default().call(rng, grammar, session.ledger.text(), session.cap)
 }
 
@@ -112,6 +116,7 @@ fn long_buffer(rng: &mut Rng, session: &mut Session, grammar: &Grammar) {
     };
     let (words, tail) = loan.words.split_at(table);
     let same = lent.is(&loan.buffer, loan.n, words, tail);
-    assert!(same, "a refused call changed its loan: {call}");
+    let same_rows = lent.rows() == lent.rows_with(&[]);
+    assert!(same && same_rows, "a refused call changed its loan: {call}");
     session.count_refused("buffer too long", fields, 8);
 }

@@ -16,7 +16,7 @@ const TEXTS: [&[u8]; 7] = [b"", b"a", b"b", b"aa", b"ab", b"ba", b"bb"];
 
 const REPLACEMENTS: [&[u8]; 4] = [b"", b"a", b"b", b"ab"];
 
-/// Two rules of at most 4 nodes together: a reading, an edit, a reading.
+/// Two rules of at most 4 nodes together: a reading, an edit, a reading or a listing.
 pub fn edits(seed: u64) -> Tally {
     let mut tally = Tally::drawn("all of 2 rules, 4 nodes", seed);
     let rng = &mut Rng::new(seed);
@@ -39,7 +39,10 @@ fn edits_of(tally: &mut Tally, rng: &mut Rng, grammar: &Grammar, text: &[u8]) {
                 let mut session = Session::open(tally, rng, grammar, n + 1, text);
                 session.call(Call::Read);
                 session.edit(start, end, replacement);
-                session.call(Call::Read);
+                match rng.one_in(2) {
+                    true => drop(session.call(Call::Read)),
+                    false => session.list(rng),
+                }
             }
         }
     }

@@ -5,10 +5,14 @@ use bannelgo_host::bridge::{lending, AnswerFields};
 use bannelgo_host::calls::Call;
 use bannelgo_host::reference::lent::Loan;
 
+const POST: u64 = 0xA5A5_A5A5_A5A5_A5A5;
+
 pub struct Lent {
     buffer: Fenced<u8>,
     n: usize,
     words: Fenced<u64>,
+    /// The row slots of the last call; none where it was no listing.
+    rows: Fenced<u64>,
 }
 
 impl Lent {
@@ -16,7 +20,8 @@ impl Lent {
         Lent {
             buffer: Fenced::new(&loan.buffer, 0xA5),
             n: loan.n,
-            words: Fenced::new(&loan.words, 0xA5A5_A5A5_A5A5_A5A5),
+            words: Fenced::new(&loan.words, POST),
+            rows: Fenced::new(&[], POST),
         }
     }
 
@@ -39,8 +44,10 @@ impl Lent {
         fields
     }
 
-    /// Lends the text buffer, any length of the text and the first so many words.
+    /// Lends the text buffer, any length of the text and the first so many words; to a listing also
+    /// row slots that are full of junk.
     pub fn call_with(&mut self, image: &[u8], n: usize, words: usize, call: &Call) -> AnswerFields {
+        self.rows = Fenced::new(&junk(slots_of(call)), POST);
         let words = &mut self.words.lent()[..words];
         let buffer = self.buffer.lent();
         match call {
@@ -53,6 +60,7 @@ impl Lent {
             Call::LookUp { rule, position } => {
                 lending::look_up(image, buffer, n, words, (*rule, *position))
             }
+            Call::List { .. } => lending::list(image, buffer, n, words, self.rows.lent()),
         }
     }
 
@@ -68,7 +76,25 @@ impl Lent {
     }
 
     pub fn fences_stand(&self) -> bool {
-        self.buffer.fence_stands() && self.words.fence_stands()
+        let text_and_table = self.buffer.fence_stands() && self.words.fence_stands();
+        text_and_table && self.rows.fence_stands()
+    }
+
+    /// The row slots that the last call was lent.
+    pub fn rows(&self) -> &[u64] {
+        self.rows.content()
+    }
+
+    /// No row slots are lent from here on to the next listing.
+    pub fn take_rows_back(&mut self) {
+        self.rows = Fenced::new(&[], POST);
+    }
+
+    /// What they have where these words are written to the first of them, and nothing else is.
+    pub fn rows_with(&self, words: &[u64]) -> Vec<u64> {
+        let mut rows = junk(self.rows().len());
+        rows[..words.len()].copy_from_slice(words);
+        rows
     }
 
     pub fn left(&self) -> Loan {
@@ -78,4 +104,17 @@ impl Lent {
             words: self.words.content().to_vec(),
         }
     }
+}
+
+/// The number of row slots that a call brings.
+fn slots_of(call: &Call) -> usize {
+    match call {
+        Call::List { slots } => *slots,
+        Call::Edit { .. } | Call::Read | Call::LookUp { .. } => 0,
+    }
+}
+
+/// What row slots have at first. No row has these bits in its zero field.
+fn junk(slots: usize) -> Vec<u64> {
+    (0..slots as u64).map(|slot| !slot).collect()
 }

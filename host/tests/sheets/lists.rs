@@ -69,8 +69,12 @@ fn list(tally: &mut Tally, rng: &mut Rng, grammar: &Grammar, text: &[u8], cap: u
     let mut session = Session::open(tally, rng, grammar, cap, text);
     let mut typist = Typist::default();
     for _ in 0..rng.between(2, 14) {
-        let call = typist.call(rng, grammar, session.ledger.text(), cap);
-        session.call(call);
+        if rng.one_in(6) {
+            session.list(rng);
+        } else {
+            let call = typist.call(rng, grammar, session.ledger.text(), cap);
+            session.call(call);
+        }
         if rng.one_in(16) {
             bad_call(rng, &mut session, grammar);
         }

@@ -1,12 +1,15 @@
 //! The families of lists and single calls that the comparison of sheets goes through.
 
+pub mod answers;
 pub mod any_table;
 pub mod bad_loans;
 pub mod deep;
 pub mod every;
 pub mod fence;
 pub mod foreign;
+pub mod free;
 pub mod lent;
+pub mod listings;
 pub mod lists;
 pub mod long;
 pub mod planners;

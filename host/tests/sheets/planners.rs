@@ -27,7 +27,7 @@ pub fn sheets(seed: u64) -> Tally {
     tally
 }
 
-/// Types up to 40 keys, with a reading after each and now and then a key that deletes.
+/// Types up to 40 keys, with a reading or listing after each and now and then a key that deletes.
 fn typing(tally: &mut Tally, rng: &mut Rng, grammars: &[Grammar], text: &[u8]) {
     let cap = text.len() + rng.between(0, 50);
     let grammar = rng.pick(grammars);
@@ -43,7 +43,10 @@ fn typing(tally: &mut Tally, rng: &mut Rng, grammars: &[Grammar], text: &[u8]) {
             let refused = session.edit(cursor, cursor, &[key]).number != 0;
             cursor += usize::from(!refused);
         }
-        session.call(Call::Read);
+        match rng.one_in(4) {
+            true => session.list(rng),
+            false => drop(session.call(Call::Read)),
+        }
         if rng.one_in(20) {
             cursor = rng.below(session.ledger.text().len() + 1);
         }

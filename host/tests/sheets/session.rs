@@ -2,8 +2,10 @@
 //!
 //! After every call the answers are the same, the buffer holds the ledger's text and then zeros, the
 //! slot of each held pair has its true word, every other table word is 0, and the words after the
-//! table are as they were.
+//! table are as they were. After an answered listing the row slots have the ledger's rows, and behind
+//! them, or after a refused one, what they had.
 
+use super::answers::{fields_of, row_words, some_slots, MOST_SLOTS};
 use super::lent::Lent;
 use super::tally::Tally;
 use bannelgo_host::bridge::AnswerFields;
@@ -57,21 +59,31 @@ impl<'a> Session<'a> {
         session.tally.count_list();
         let fields = session.lent.open(&session.image, text);
         session.tally.count_open(fields);
-        session.compare("open", fields, AnswerFields::of_open(text.len()));
+        session.compare("open", fields, AnswerFields::of_open(text.len()), &[]);
         session
     }
 
     /// Makes a call in both ways.
     pub fn call(&mut self, call: Call) -> AnswerFields {
         let fields = self.lent.call(&self.image, &call);
-        let expected = match self.ledger.call(&call) {
-            Ok(answer) => AnswerFields::of_answer(answer),
-            Err(number) => AnswerFields::of_number(number),
-        };
+        let answer = self.ledger.call(&call);
+        let expected = fields_of(&answer);
         self.tally.count_call(&call, expected);
         self.calls.push(call);
-        self.compare("call", fields, expected);
+        self.compare("call", fields, expected, &row_words(&answer));
         fields
+    }
+
+    /// Lists with a number of slots that matters: as many as there are rows, one less, more, few.
+    pub fn list(&mut self, rng: &mut Rng) {
+        let slots = some_slots(rng, self.fitting_slots());
+        self.call(Call::List { slots });
+    }
+
+    /// The number of the text's rows, or `MOST_SLOTS` where there are more.
+    pub fn fitting_slots(&mut self) -> usize {
+        let rows = self.ledger.rows(MOST_SLOTS);
+        rows.map_or(MOST_SLOTS, |rows| rows.len())
     }
 
     pub fn edit(&mut self, start: usize, end: usize, replacement: &[u8]) -> AnswerFields {
@@ -86,10 +98,10 @@ impl<'a> Session<'a> {
     pub fn count_refused(&mut self, what: &str, fields: AnswerFields, number: u64) {
         let expected = AnswerFields::of_number(number);
         self.tally.count_open(expected);
-        self.compare(what, fields, expected);
+        self.compare(what, fields, expected, &[]);
     }
 
-    fn compare(&mut self, what: &str, fields: AnswerFields, expected: AnswerFields) {
+    fn compare(&mut self, what: &str, fields: AnswerFields, expected: AnswerFields, rows: &[u64]) {
         let (buffer, table) = (self.ledger.buffer(), self.ledger.table());
         let n = self.ledger.text().len();
         if fields != expected {
@@ -104,6 +116,12 @@ impl<'a> Session<'a> {
             let seen = format!("fences stand: {fences}, bytes: {bytes}, words: {words}");
             panic!("{what}: buffers differ; {seen}\n{}", self.story());
         }
+        let rows = self.lent.rows_with(rows);
+        if self.lent.rows() != rows {
+            let seen = first_difference(self.lent.rows(), &rows);
+            panic!("{what}: rows differ; {seen}\n{}", self.story());
+        }
+        self.lent.take_rows_back();
     }
 
     fn story(&self) -> String {

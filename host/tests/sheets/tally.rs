@@ -4,14 +4,17 @@ use bannelgo_host::bridge::AnswerFields;
 use bannelgo_host::calls::Call;
 use std::io::Write;
 
-/// The kinds of answer: an open, an edit, a look-up, the outcomes of a reading, the refusals, and a
-/// reading that the paper leaves free.
-const ANSWERS: [&str; 20] = [
+/// The kinds of answer: an open, an edit, a look-up, the outcomes of a reading, the refusals, a listing
+/// with rows and one without, and a reading and a listing that the paper leaves free.
+const ANSWERS: [&str; 24] = [
     "open", "edit", "word", "whole", "part", "none", "1", "2", "3", "4", "5", "6", "7", "8", "9",
-    "10", "11", "12", "14", "free",
+    "10", "11", "12", "14", "15", "rows", "0 rows", "free", "free l",
 ];
 
-const FREE: usize = 19;
+const ROWS: usize = 20;
+const NO_ROWS: usize = 21;
+const FREE: usize = 22;
+const FREE_LISTING: usize = 23;
 
 /// The counts of one family.
 pub struct Tally {
@@ -57,13 +60,18 @@ impl Tally {
             (0, Call::Edit { .. }, _) => 1,
             (0, Call::LookUp { .. }, _) => 2,
             (0, Call::Read, outcome) => 5 - outcome as usize,
+            (0, Call::List { .. }, 0) => NO_ROWS,
+            (0, Call::List { .. }, _) => ROWS,
             (number, ..) => refused(number),
         };
         self.count(place);
     }
 
-    pub fn count_free(&mut self) {
-        self.count(FREE);
+    pub fn count_free(&mut self, call: &Call) {
+        self.count(match call {
+            Call::List { .. } => FREE_LISTING,
+            _ => FREE,
+        });
     }
 
     fn count(&mut self, place: usize) {
@@ -83,7 +91,7 @@ impl Tally {
 
 fn refused(number: u64) -> usize {
     match number {
-        14 => 18,
+        14 | 15 => number as usize + 4,
         _ => number as usize + 5,
     }
 }

@@ -1,4 +1,3 @@
-use Rattle.image.proofs.PastTheEnd.{past-word32}
 use Rattle.grammar.specs.Image.{byteAt}
 use native.Mathlib.Omega.{arith}
 use mathlib.Core.Path.{_≡_, ap}

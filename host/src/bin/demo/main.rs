@@ -1,15 +1,16 @@
-//! Checks the paper's sample images, reads sample texts and types into a sheet with the proved
-//! libraries, and prints what they say.
+//! Checks the paper's sample images, reads sample texts, lists the rows of a sheet and types into it
+//! with the proved libraries, and prints what they say.
 
 mod images;
 mod lines;
 mod readings;
+mod rows;
 mod typing;
 
 use std::process::ExitCode;
 
 fn main() -> ExitCode {
-    match images::print() + readings::print() + typing::print() {
+    match images::print() + readings::print() + rows::print() + typing::print() {
         0 => ExitCode::SUCCESS,
         count => {
             eprintln!("{count} answers are other than expected");

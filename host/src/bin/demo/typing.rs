@@ -75,18 +75,7 @@ impl Both<'_> {
 
     fn ask(&mut self, call: Call) -> Said {
         let expected = self.ledger.call(&call).map_err(Refusal::Question);
-        let said = match call {
-            Call::Edit {
-                start,
-                end,
-                replacement,
-            } => {
-                let edited = self.sheet.edit(start, end, &replacement);
-                edited.map(Answer::Edited)
-            }
-            Call::Read => self.sheet.read().map(Answer::Reading),
-            Call::LookUp { rule, position } => self.sheet.look_up(rule, position).map(Answer::Word),
-        };
+        let said = self.sheet.call(&call);
         if said != expected {
             eprintln!("the sheet says {said:?}, the ledger {expected:?}");
             self.wrong += 1;

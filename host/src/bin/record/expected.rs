@@ -1,11 +1,12 @@
 //! What the program must print: the answers of the checker and the ledger written apart.
 
 use crate::line::Line;
-use bannelgo_host::calls::{Answer, Call, Edited, SheetReading};
+use bannelgo_host::calls::{Answer, Call, Edited, Listing, SheetReading};
 use bannelgo_host::expr::Grammar;
 use bannelgo_host::plain_reading::Outcome;
 use bannelgo_host::reference::ledger::Ledger;
 use bannelgo_host::reference::lent::lent_wholly;
+use bannelgo_host::reference::rows::word;
 use bannelgo_host::reference::{accepted_grammar, Refusal};
 
 /// What the images of the lists are: a grammar, or the number of a question from 1 to 7.
@@ -125,6 +126,7 @@ fn name(call: &Call) -> &'static str {
         Call::Edit { .. } => "edit",
         Call::Read => "read",
         Call::LookUp { .. } => "look",
+        Call::List { .. } => "list",
     }
 }
 
@@ -133,18 +135,26 @@ fn in_words(answer: Answer) -> String {
         Answer::Edited(Edited { length, standing }) => {
             format!("length {length}, standing {standing}")
         }
-        Answer::Reading(SheetReading {
-            reading,
-            evaluations,
-        }) => {
-            let outcome = match reading.outcome {
-                Outcome::Whole => "whole",
-                Outcome::Part => "part",
-                Outcome::Nothing => "none",
-            };
-            let (length, examined, nesting) = (reading.length, reading.examined, reading.nesting);
-            format!("{outcome}, length {length}, examined {examined}, nesting {nesting}, evaluations {evaluations}")
-        }
+        Answer::Reading(read) => reading_in_words(read),
         Answer::Word(word) => format!("word {word:016x}"),
+        Answer::Listing(Listing { read, rows }) => {
+            let words = rows.iter().map(|row| format!(" {:016x}", word(row)));
+            let words: String = words.collect();
+            format!("{}, rows {}{words}", reading_in_words(read), rows.len())
+        }
     }
+}
+
+fn reading_in_words(read: SheetReading) -> String {
+    let SheetReading {
+        reading,
+        evaluations,
+    } = read;
+    let outcome = match reading.outcome {
+        Outcome::Whole => "whole",
+        Outcome::Part => "part",
+        Outcome::Nothing => "none",
+    };
+    let (length, examined, nesting) = (reading.length, reading.examined, reading.nesting);
+    format!("{outcome}, length {length}, examined {examined}, nesting {nesting}, evaluations {evaluations}")
 }

@@ -47,6 +47,7 @@ fn call_line(call: &Call, out: &mut fmt::Formatter<'_>) -> fmt::Result {
         }
         Call::Read => write!(out, "read"),
         Call::LookUp { rule, position } => write!(out, "look {rule} {position}"),
+        Call::List { slots } => write!(out, "list {slots}"),
     }
 }
 

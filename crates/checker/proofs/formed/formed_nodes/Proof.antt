@@ -2,7 +2,7 @@ use Rattle.grammar.specs.Image.{nodes}
 use lib.ListN.{length}
 use borrow.Author.Tests.{not-true, not-false}
 use mathlib.Core.Logic.{⊎-elim}
-use mathlib.Core.Path.{_≡_, refl}
+use mathlib.Core.Path.{refl}
 use Rattle.checker.proofs.FormedRounds.{SoundMarks, marks, marks-start, marked, marked-heavier, not-qualified, has-mark, marks-bound, least-marks}
 use Rattle.checker.proofs.Turns.{Turned, turn-none, turn-write, turn-keep, round-heavier, round-closed}
 use Rattle.checker.proofs.Forming.{CannotJoin}

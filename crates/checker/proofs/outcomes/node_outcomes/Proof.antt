@@ -2,7 +2,6 @@ use Rattle.checker.proofs.ByKind.{gathers-by-kind}
 use Rattle.checker.proofs.Links.{linked-a-below, linked-b-below}
 use mathlib.Core.Path.{_∙_}
 use native.Mathlib.Omega.{arith}
-use borrow.Author.Needs.{needs}
 use Rattle.checker.proofs.outcomes.node_outcomes.Statement.{statement}
 use Rattle.checker.proofs.outcomes.node_outcomes.Tie as tie
 

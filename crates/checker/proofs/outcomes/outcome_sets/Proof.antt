@@ -1,6 +1,6 @@
 use Rattle.checker.specs.Rounds.{gathered}
 use Rattle.checker.specs.Sets.{union}
-use Rattle.grammar.specs.Image.{node, nodes}
+use Rattle.grammar.specs.Image.{node}
 use borrow.Author.Tests.{not-true, not-false}
 use mathlib.Core.Logic.{⊎-elim}
 use mathlib.Core.Path.{_≡_, refl}

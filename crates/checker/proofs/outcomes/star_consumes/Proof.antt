@@ -2,10 +2,10 @@ use Rattle.checker.specs.Sets.{bit}
 use lib.ListN.{getD}
 use mathlib.Core.Bool.{false}
 use Rattle.grammar.proofs.Nodes.{kind-of-star, is-star}
-use Rattle.grammar.specs.Outcomes.{Has, matches-empty}
-use Rattle.grammar.specs.Image.{node, fieldA, star}
+use Rattle.grammar.specs.Outcomes.{matches-empty}
+use Rattle.grammar.specs.Image.{fieldA}
 use mathlib.Core.Bool.{true≢false}
-use mathlib.Core.Path.{_≡_, sym, _∙_, ap}
+use mathlib.Core.Path.{_≡_, sym, _∙_}
 use Rattle.lawful.proofs.InRange.{a-below}
 use Rattle.lawful.proofs.Told.{so, not-so}
 use native.Mathlib.Omega.{arith}

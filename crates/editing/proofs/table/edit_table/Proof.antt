@@ -1,5 +1,4 @@
 -- `table::edit_table` meets its contract, by the law of the edited table. Assumes nothing.
-use Prim.Native.Nat.{_-_}
 use native.Mathlib.Omega.{arith}
 use borrow.Author.Needs.{needs}
 use Rattle.editing.proofs.TableLaw.{slots-fit, back-room, table-is, standing-is, few-standing}

@@ -1,6 +1,6 @@
 use Rattle.lawful.proofs.InRange.{children-3-4, children-5-6, childless-below-3, childless-from-7}
 use Rattle.lawful.proofs.Tallies.{tallied-none, tallied-more}
-use mathlib.Core.Path.{_≡_, sym}
+use mathlib.Core.Path.{sym}
 use Rattle.lawful.proofs.InRange.{a-below, b-below}
 use native.Mathlib.Omega.{arith}
 use borrow.Author.Needs.{needs}

@@ -4,7 +4,6 @@ use Rattle.lawful.proofs.Tallies.{tallied-none, tallied-more, roots-ste
 use Rattle.grammar.specs.Questions.{roots}
 use Rattle.lawful.specs.Tally.{Tallied}
 use mathlib.Core.Path.{_≡_}
-use lib.ListN.{length}
 use native.Mathlib.Omega.{arith}
 use Prim.Native.Nat.{_≤_, _-_}
 use borrow.Author.Needs.{needs}

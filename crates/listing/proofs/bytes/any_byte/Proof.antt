@@ -2,7 +2,6 @@ use Rattle.listing.proofs.Terminals.{match-told, end-told}
 use Rattle.grammar.specs.Terminal.{accepts}
 use Rattle.grammar.specs.Image.{any}
 use mathlib.Core.Path.{refl}
-use borrow.Author.Needs.{needs}
 use Rattle.listing.proofs.bytes.any_byte.Statement.{statement}
 use Rattle.listing.proofs.bytes.any_byte.Tie as tie
 

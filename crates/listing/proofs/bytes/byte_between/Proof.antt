@@ -2,8 +2,6 @@ use Rattle.listing.proofs.Terminals.{match-told, failure-told, end-told
 use Rattle.reading.proofs.TerminalWords.{between, below, above}
 use Rattle.grammar.specs.Image.{range}
 use lib.ListN.{getD}
-use mathlib.Core.Bool.{Bool}
-use mathlib.Core.Path.{_≡_, ap, _∙_, sym}
 use native.Mathlib.Omega.{arith}
 use borrow.Author.Needs.{needs}
 use Rattle.listing.proofs.bytes.byte_between.Statement.{statement}

@@ -1,5 +1,5 @@
 use Rattle.listing.proofs.Passes.{refused, written}
-use Rattle.rows.specs.Walk.{nodeV, pairV}
+use Rattle.rows.specs.Walk.{nodeV}
 use Rattle.rows.proofs.Bounds.{node-bounded, pair-bounded}
 use Rattle.reading.specs.Loaded.{rulesIn}
 use lib.ListN.{length}
@@ -8,32 +8,25 @@ use borrow.Author.Needs.{needs}
 use Rattle.listing.proofs.list.list_in.Statement.{statement}
 use Rattle.listing.proofs.list.list_in.Tie as tie
 
--- src/list.rt:30:49
 slice-aggregate-walk-rule : tie.Need-slice-aggregate-walk-rule
 slice-aggregate-walk-rule c = search needs
 
--- src/list.rt:30:9
 walk-rule-requires : tie.Need-walk-rule-requires
 walk-rule-requires c κs = search needs
 
--- src/list.rt:32:32
 sub-t17 : tie.Need-sub-t17
 sub-t17 c = search needs
 
--- src/list.rt:32:9
 returns : tie.Need-returns
 returns c =
     refused (c .before .before .before .before .before .before .before .before .pre .0) (pair-bounded (rulesIn (c .before .before .before .before .before .before .before .before .args .words .now)) (c .before .before .before .before .before .before .before .before .args .root) (length (c .before .before .before .before .before .before .before .before .args .rows .now)) (c .before .before .before .before .before .before .before .before .args .text .now) (c .before .before .before .before .before .before .before .before .args .table .now) (nodeV (length (c .before .before .before .before .before .before .before .before .args .rows .now)) (c .before .before .before .before .before .before .before .before .args .words .now) (c .before .before .before .before .before .before .before .before .args .text .now) (c .before .before .before .before .before .before .before .before .args .table .now) 4096) (node-bounded (length (c .before .before .before .before .before .before .before .before .args .rows .now)) (c .before .before .before .before .before .before .before .before .args .words .now) (c .before .before .before .before .before .before .before .before .args .text .now) (c .before .before .before .before .before .before .before .before .args .table .now) 4096) (c .before .before .before .before .before .before .before .before .args .start) 0 0 (length (c .before .before .before .before .before .before .before .before .args .text .now)) 0 0 (omega arith) (omega arith)) (c .before .before .walk-rule .ensures) (c .if1 .taken)
 
--- src/list.rt:35:5
 walk-rule-requires-2 : tie.Need-walk-rule-requires-2
 walk-rule-requires-2 c κs = search needs
 
--- src/list.rt:15:1
 same-length : tie.Need-same-length
 same-length c = search needs
 
--- src/list.rt:15:1
 returns-2 : tie.Need-returns-2
 returns-2 c =
     written (c .before .before .before .before .before .before .before .before .before .before .before .before .before .pre .0) (pair-bounded (rulesIn (c .before .before .before .before .before .before .before .before .before .before .before .before .before .args .words .now)) (c .before .before .before .before .before .before .before .before .before .before .before .before .before .args .root) (length (c .before .before .before .before .before .before .before .before .before .before .before .before .before .args .rows .now)) (c .before .before .before .before .before .before .before .before .before .before .before .before .before .args .text .now) (c .before .before .before .before .before .before .before .before .before .before .before .before .before .args .table .now) (nodeV (length (c .before .before .before .before .before .before .before .before .before .before .before .before .before .args .rows .now)) (c .before .before .before .before .before .before .before .before .before .before .before .before .before .args .words .now) (c .before .before .before .before .before .before .before .before .before .before .before .before .before .args .text .now) (c .before .before .before .before .before .before .before .before .before .before .before .before .before .args .table .now) 4096) (node-bounded (length (c .before .before .before .before .before .before .before .before .before .before .before .before .before .args .rows .now)) (c .before .before .before .before .before .before .before .before .before .before .before .before .before .args .words .now) (c .before .before .before .before .before .before .before .before .before .before .before .before .before .args .text .now) (c .before .before .before .before .before .before .before .before .before .before .before .before .before .args .table .now) 4096) (c .before .before .before .before .before .before .before .before .before .before .before .before .before .args .start) 0 0 (length (c .before .before .before .before .before .before .before .before .before .before .before .before .before .args .text .now)) 0 0 (omega arith) (omega arith)) (c .before .before .before .before .before .before .before .walk-rule .ensures) (c .before .before .before .before .before .if1 .left) (c .before .before .walk-rule2 .ensures)

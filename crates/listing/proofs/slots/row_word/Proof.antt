@@ -6,31 +6,24 @@ use Rattle.listing.proofs.slots.row_word.Tie as tie
 use Rattle.listing.proofs.slots.row_word.Reads as reads
 use Rattle.listing.proofs.slots.row_word.Lts as lts
 
--- src/slots.rt:13:6
 mul-result : tie.Need-mul-result
 mul-result c = search needs
 
--- src/slots.rt:13:39
 mul-result-2 : tie.Need-mul-result-2
 mul-result-2 c = search needs
 
--- src/slots.rt:13:6
 add-result : tie.Need-add-result
 add-result c = search needs
 
--- src/slots.rt:13:60
 mul-result-3 : tie.Need-mul-result-3
 mul-result-3 c = search needs
 
--- src/slots.rt:13:6
 add-result-2 : tie.Need-add-result-2
 add-result-2 c = search needs
 
--- src/slots.rt:13:6
 add-result-3 : tie.Need-add-result-3
 add-result-3 c = search needs
 
--- src/slots.rt:9:1
 returns : tie.Need-returns
 unfolding rowWord
 returns c = omega arith

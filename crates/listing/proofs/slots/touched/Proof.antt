@@ -10,17 +10,14 @@ use Rattle.listing.proofs.slots.touched.Tie as tie
 use Rattle.listing.proofs.slots.touched.Reads as reads
 use Rattle.listing.proofs.slots.touched.Lts as lts
 
--- src/slots.rt:31:9
 returns : tie.Need-returns
 unfolding touches
 returns c =
     sym (ap (λ (b : Bool). b && leb (c .before .args .lo) (c .before .args .at + c .before .args .length)) (lt-leb (c .before .args .at) (c .before .args .hi) (c .if1 .taken)))
 
--- src/slots.rt:33:11
 add-result : tie.Need-add-result
 add-result c = search needs
 
--- src/slots.rt:26:1
 returns-2 : tie.Need-returns-2
 unfolding touches
 returns-2 c =

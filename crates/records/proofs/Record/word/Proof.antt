@@ -1,7 +1,6 @@
 use Rattle.records.specs.Words.{recordWord}
 use mir.Val.{boolByte}
-use mathlib.Core.Bool.{true, false}
-use mathlib.Core.Path.{_≡_, ap}
+use mathlib.Core.Path.{ap}
 use native.Mathlib.Omega.{arith}
 use borrow.Author.Needs.{needs}
 use Rattle.records.proofs.Record.word.Statement.{statement}

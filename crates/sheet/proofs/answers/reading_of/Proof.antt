@@ -3,8 +3,8 @@ use lib.Dec.{eqb}
 use Rattle.records.specs.Words.{valueOf}
 use Rattle.reading.specs.Plain.{outcomeOf}
 use borrow.Author.Needs.{needs}
-use Rattle.sheet.proofs.read.reading_of.Statement.{statement}
-use Rattle.sheet.proofs.read.reading_of.Tie as tie
+use Rattle.sheet.proofs.answers.reading_of.Statement.{statement}
+use Rattle.sheet.proofs.answers.reading_of.Tie as tie
 
 length-of-requires : tie.Need-length-of-requires
 length-of-requires c κs = search needs

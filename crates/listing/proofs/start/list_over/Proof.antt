@@ -1,0 +1,44 @@
+use native.Mathlib.Omega.{arith}
+use mathlib.Core.Path.{_≡_, ap, _∙_}
+use Rattle.grammar.specs.Image.{root, start}
+use Rattle.reading.proofs.LoadedWords.{root-small}
+use borrow.Author.Needs.{needs}
+use Rattle.listing.proofs.start.list_over.Statement.{statement}
+use Rattle.listing.proofs.start.list_over.Tie as tie
+
+load-requires : tie.Need-load-requires
+load-requires c κs = search needs
+
+header-of-requires : tie.Need-header-of-requires
+header-of-requires c κs = search needs
+
+rule-at-requires : tie.Need-rule-at-requires
+rule-at-requires c κs = search needs
+
+list-in-requires : tie.Need-list-in-requires
+list-in-requires c κs =
+    let small = root-small (c .before .before .before .before .before .before .before .before .before .args .image .now) (c .before .before .before .header-of .result .start) in (
+      c .before .before .before .before .before .before .before .before .before .pre .1,
+      omega (arith, c .before .before .before .header-of .ensures .its-start, c .before .before .before .before .before .before .before .before .before .pre .0 .lawful .counts .start-rule, c .before .before .before .before .before .before .before .before .before .pre .0 .lawful .counts .few-rules),
+      omega (arith, c .before .before .rule-at .ensures .its-root),
+    )
+
+same-length : tie.Need-same-length
+same-length c = search needs
+
+returns : tie.Need-returns
+returns c =
+    let e : c .before .before .before .before .before .rule-at .result .root ≡ root (c .before .before .before .before .before .before .before .before .before .before .before .before .args .image .now) (start (c .before .before .before .before .before .before .before .before .before .before .before .before .args .image .now)) =
+    c .before .before .before .before .before .rule-at .ensures .its-root ∙ ap (root (c .before .before .before .before .before .before .before .before .before .before .before .before .args .image .now)) (c .before .before .before .before .before .before .header-of .ensures .its-start) in
+    record { grammar = c .before .before .before .before .before .before .before .load .result; loaded = c .before .before .before .before .before .before .before .load .ensures; listed = rw (e, c .before .before .before .before .before .before .header-of .ensures .its-start) at (c .before .before .list-in .ensures) }
+
+pub list-over-spec : {M : Type 1} → statement M
+list-over-spec =
+    tie.close
+    (tie.spec
+    load-requires
+    header-of-requires
+    rule-at-requires
+    list-in-requires
+    same-length
+    returns)

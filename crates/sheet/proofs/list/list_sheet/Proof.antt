@@ -1,0 +1,132 @@
+use Prim.Native.Nat.{ℕ, _-_}
+use native.Mathlib.Omega.{arith}
+use mathlib.Core.Path.{_≡_, refl, sym, ap, _∙_, subst}
+use lib.ListN.{length}
+use Rattle.grammar.specs.Questions.{First}
+use Rattle.ledger.specs.Questions.{ofSheet}
+use Rattle.ledger.proofs.SheetLists.{lists-unasked}
+use Rattle.sheet.proofs.Laws.{loan, accepted-image, table-lent, part-short}
+use Rattle.sheet.proofs.ListLaws.{stop-number, list-refused, list-rows, list-stopped}
+use borrow.Author.Needs.{needs}
+use Rattle.sheet.proofs.list.list_sheet.Statement.{statement}
+use Rattle.sheet.proofs.list.list_sheet.Tie as tie
+
+asked-requires : tie.Need-asked-requires
+asked-requires c κs = search needs
+
+returns : tie.Need-returns
+returns c =
+    lists-unasked (c .before .before .before .before .before .before .args .image .now) (c .before .before .before .before .before .before .args .buffer .now) (c .before .before .before .before .before .before .args .n) (c .before .before .before .before .before .before .args .table .now) (c .before .before .before .before .before .before .args .rows .now) (c .before .asked .result) (let ne = c .if1 .taken in omega (arith, ne)) (c .before .asked .ensures)
+
+sub-start-over : tie.Need-sub-start-over
+sub-start-over c = search needs
+
+part-start-over-start : tie.Need-part-start-over-start
+part-start-over-start c = search needs
+
+part-start-over-end : tie.Need-part-start-over-end
+part-start-over-end c =
+    loan (c .before .before .before .before .before .before .args .image .now) (length (c .before .before .before .before .before .before .args .buffer .now)) (c .before .before .before .before .before .before .args .n) (length (c .before .before .before .before .before .before .args .table .now)) (subst (λ (k : ℕ). First (ofSheet (c .before .before .before .before .before .before .args .image .now) (length (c .before .before .before .before .before .before .args .buffer .now)) (c .before .before .before .before .before .before .args .n) (length (c .before .before .before .before .before .before .args .table .now))) k) (c .if1 .left) (c .before .asked .ensures)) .text-fits
+
+start-over-requires : tie.Need-start-over-requires
+start-over-requires c κs =
+    (accepted-image (c .before .before .before .before .before .before .before .before .before .args .image .now) (length (c .before .before .before .before .before .before .before .before .before .args .buffer .now)) (c .before .before .before .before .before .before .before .before .before .args .n) (length (c .before .before .before .before .before .before .before .before .before .args .table .now)) (subst (λ (k : ℕ). First (ofSheet (c .before .before .before .before .before .before .before .before .before .args .image .now) (length (c .before .before .before .before .before .before .before .before .before .args .buffer .now)) (c .before .before .before .before .before .before .before .before .before .args .n) (length (c .before .before .before .before .before .before .before .before .before .args .table .now))) k) (c .before .before .before .if1 .left) (c .before .before .before .before .asked .ensures)), part-short (c .before .before .before .before .before .before .before .before .before .args .image .now) (c .before .before .before .before .before .before .before .before .before .args .buffer .now) (c .before .before .before .before .before .before .before .before .before .args .n) (c .before .before .before .before .before .before .before .before .before .args .table .now) (subst (λ (k : ℕ). First (ofSheet (c .before .before .before .before .before .before .before .before .before .args .image .now) (length (c .before .before .before .before .before .before .before .before .before .args .buffer .now)) (c .before .before .before .before .before .before .before .before .before .args .n) (length (c .before .before .before .before .before .before .before .before .before .args .table .now))) k) (c .before .before .before .if1 .left) (c .before .before .before .before .asked .ensures)) {m = c .before .before .before .before .before .before .before .before .before .args .n - 0} (omega arith))
+
+header-of-requires : tie.Need-header-of-requires
+header-of-requires c κs = search needs
+
+clear-table-requires : tie.Need-clear-table-requires
+clear-table-requires c κs =
+    table-lent (c .before .before .before .before .before .before .before .before .before .before .before .before .before .before .before .args .image .now) (length (c .before .before .before .before .before .before .before .before .before .before .before .before .before .before .before .args .buffer .now)) (c .before .before .before .before .before .before .before .before .before .before .before .before .before .before .before .args .n) (length (c .before .before .before .before .before .before .before .before .before .before .before .before .before .before .before .args .table .now)) (subst (λ (k : ℕ). First (ofSheet (c .before .before .before .before .before .before .before .before .before .before .before .before .before .before .before .args .image .now) (length (c .before .before .before .before .before .before .before .before .before .before .before .before .before .before .before .args .buffer .now)) (c .before .before .before .before .before .before .before .before .before .before .before .before .before .before .before .args .n) (length (c .before .before .before .before .before .before .before .before .before .before .before .before .before .before .before .args .table .now))) k) (c .before .before .before .before .before .before .before .before .before .if1 .left) (c .before .before .before .before .before .before .before .before .before .before .asked .ensures)) (c .before .header-of .ensures .its-rules) _ (c .before .before .before .before .before .start-over .kept .1 .1 .0)
+
+number-of-requires : tie.Need-number-of-requires
+number-of-requires c κs = search needs
+
+same-length : tie.Need-same-length
+same-length c = search needs
+
+returns-2 : tie.Need-returns-2
+returns-2 c =
+    rw (c .number-of .ensures, c .before .before .before .clear-table .ensures, c .before .before .before .before .before .header-of .ensures .its-rules)
+    (list-refused (c .before .before .before .before .before .before .before .before .before .before .before .before .before .before .before .before .before .before .before .args .image .now) (c .before .before .before .before .before .before .before .before .before .before .before .before .before .before .before .before .before .before .before .args .buffer .now) (c .before .before .before .before .before .before .before .before .before .before .before .before .before .before .before .before .before .before .before .args .n) (c .before .before .before .before .before .before .before .before .before .before .before .before .before .before .before .before .before .before .before .args .table .now) (c .before .before .before .before .before .before .before .before .before .before .before .before .before .before .before .before .before .before .before .args .rows .now) (subst (λ (k : ℕ). First (ofSheet (c .before .before .before .before .before .before .before .before .before .before .before .before .before .before .before .before .before .before .before .args .image .now) (length (c .before .before .before .before .before .before .before .before .before .before .before .before .before .before .before .before .before .before .before .args .buffer .now)) (c .before .before .before .before .before .before .before .before .before .before .before .before .before .before .before .before .before .before .before .args .n) (length (c .before .before .before .before .before .before .before .before .before .before .before .before .before .before .before .before .before .before .before .args .table .now))) k) (c .before .before .before .before .before .before .before .before .before .before .before .before .before .if1 .left) (c .before .before .before .before .before .before .before .before .before .before .before .before .before .before .asked .ensures)) {m = c .before .before .before .before .before .before .before .before .before .before .before .before .before .before .before .before .before .before .before .args .n - 0} (c .before .before .before .before .before .before .before .before .before .start-over .ensures) (omega arith) (c .before .before .before .before .before .before .if2 .taken))
+
+sub-list-over : tie.Need-sub-list-over
+sub-list-over c = search needs
+
+part-list-over-start : tie.Need-part-list-over-start
+part-list-over-start c = search needs
+
+part-list-over-end : tie.Need-part-list-over-end
+part-list-over-end c =
+    loan (c .before .before .before .before .before .before .before .before .before .before .before .before .before .args .image .now) (length (c .before .before .before .before .before .before .before .before .before .before .before .before .before .args .buffer .now)) (c .before .before .before .before .before .before .before .before .before .before .before .before .before .args .n) (length (c .before .before .before .before .before .before .before .before .before .before .before .before .before .args .table .now)) (subst (λ (k : ℕ). First (ofSheet (c .before .before .before .before .before .before .before .before .before .before .before .before .before .args .image .now) (length (c .before .before .before .before .before .before .before .before .before .before .before .before .before .args .buffer .now)) (c .before .before .before .before .before .before .before .before .before .before .before .before .before .args .n) (length (c .before .before .before .before .before .before .before .before .before .before .before .before .before .args .table .now))) k) (c .before .before .before .before .before .before .before .if1 .left) (c .before .before .before .before .before .before .before .before .asked .ensures)) .text-fits
+
+list-over-requires : tie.Need-list-over-requires
+list-over-requires c κs =
+    (accepted-image (c .before .before .before .before .before .before .before .before .before .before .before .before .before .before .before .before .args .image .now) (length (c .before .before .before .before .before .before .before .before .before .before .before .before .before .before .before .before .args .buffer .now)) (c .before .before .before .before .before .before .before .before .before .before .before .before .before .before .before .before .args .n) (length (c .before .before .before .before .before .before .before .before .before .before .before .before .before .before .before .before .args .table .now)) (subst (λ (k : ℕ). First (ofSheet (c .before .before .before .before .before .before .before .before .before .before .before .before .before .before .before .before .args .image .now) (length (c .before .before .before .before .before .before .before .before .before .before .before .before .before .before .before .before .args .buffer .now)) (c .before .before .before .before .before .before .before .before .before .before .before .before .before .before .before .before .args .n) (length (c .before .before .before .before .before .before .before .before .before .before .before .before .before .before .before .before .args .table .now))) k) (c .before .before .before .before .before .before .before .before .before .before .if1 .left) (c .before .before .before .before .before .before .before .before .before .before .before .asked .ensures)), part-short (c .before .before .before .before .before .before .before .before .before .before .before .before .before .before .before .before .args .image .now) (c .before .before .before .before .before .before .before .before .before .before .before .before .before .before .before .before .args .buffer .now) (c .before .before .before .before .before .before .before .before .before .before .before .before .before .before .before .before .args .n) (c .before .before .before .before .before .before .before .before .before .before .before .before .before .before .before .before .args .table .now) (subst (λ (k : ℕ). First (ofSheet (c .before .before .before .before .before .before .before .before .before .before .before .before .before .before .before .before .args .image .now) (length (c .before .before .before .before .before .before .before .before .before .before .before .before .before .before .before .before .args .buffer .now)) (c .before .before .before .before .before .before .before .before .before .before .before .before .before .before .before .before .args .n) (length (c .before .before .before .before .before .before .before .before .before .before .before .before .before .before .before .before .args .table .now))) k) (c .before .before .before .before .before .before .before .before .before .before .if1 .left) (c .before .before .before .before .before .before .before .before .before .before .before .asked .ensures)) {m = c .before .before .before .before .before .before .before .before .before .before .before .before .before .before .before .before .args .n - 0} (omega arith))
+
+enum-known-written : tie.Need-enum-known-written
+enum-known-written c = search needs
+
+reading-of-requires : tie.Need-reading-of-requires
+reading-of-requires c κs = search needs
+
+enum-known-k : tie.Need-enum-known-k
+enum-known-k c = search needs
+
+stopped-requires : tie.Need-stopped-requires
+stopped-requires c κs = (
+  stop-number (c .before .before .before .before .before .before .before .before .before .before .before .before .before .before .before .before .before .before .before .before .before .before .before .args .image .now) (c .before .before .before .before .before .before .before .before .before .before .before .before .before .before .before .before .before .before .before .before .before .before .before .args .buffer .now) (c .before .before .before .before .before .before .before .before .before .before .before .before .before .before .before .before .before .before .before .before .before .before .before .args .n) (c .before .before .before .before .before .before .before .before .before .before .before .before .before .before .before .before .before .before .before .before .before .before .before .args .table .now) (c .before .before .before .before .before .before .before .before .before .before .before .before .before .before .before .before .before .before .before .before .before .before .before .args .rows .now) (subst (λ (k : ℕ). First (ofSheet (c .before .before .before .before .before .before .before .before .before .before .before .before .before .before .before .before .before .before .before .before .before .before .before .args .image .now) (length (c .before .before .before .before .before .before .before .before .before .before .before .before .before .before .before .before .before .before .before .before .before .before .before .args .buffer .now)) (c .before .before .before .before .before .before .before .before .before .before .before .before .before .before .before .before .before .before .before .before .before .before .before .args .n) (length (c .before .before .before .before .before .before .before .before .before .before .before .before .before .before .before .before .before .before .before .before .before .before .before .args .table .now))) k) (c .before .before .before .before .before .before .before .before .before .before .before .before .before .before .before .before .before .if1 .left) (c .before .before .before .before .before .before .before .before .before .before .before .before .before .before .before .before .before .before .asked .ensures)) (c .before .before .before .before .before .before .before .before .before .before .before .before .before .before .before .before .before .before .before .before .before .before .before .args .n - 0) (c .before .before .before .before .before .before .list-over .ensures) (c .before .before .k .given .1),
+  table-lent (c .before .before .before .before .before .before .before .before .before .before .before .before .before .before .before .before .before .before .before .before .before .before .before .args .image .now) (length (c .before .before .before .before .before .before .before .before .before .before .before .before .before .before .before .before .before .before .before .before .before .before .before .args .buffer .now)) (c .before .before .before .before .before .before .before .before .before .before .before .before .before .before .before .before .before .before .before .before .before .before .before .args .n) (length (c .before .before .before .before .before .before .before .before .before .before .before .before .before .before .before .before .before .before .before .before .before .before .before .args .table .now)) (subst (λ (k : ℕ). First (ofSheet (c .before .before .before .before .before .before .before .before .before .before .before .before .before .before .before .before .before .before .before .before .before .before .before .args .image .now) (length (c .before .before .before .before .before .before .before .before .before .before .before .before .before .before .before .before .before .before .before .before .before .before .before .args .buffer .now)) (c .before .before .before .before .before .before .before .before .before .before .before .before .before .before .before .before .before .before .before .before .before .before .before .args .n) (length (c .before .before .before .before .before .before .before .before .before .before .before .before .before .before .before .before .before .before .before .before .before .before .before .args .table .now))) k) (c .before .before .before .before .before .before .before .before .before .before .before .before .before .before .before .before .before .if1 .left) (c .before .before .before .before .before .before .before .before .before .before .before .before .before .before .before .before .before .before .asked .ensures)) refl _ (c .before .before .before .before .before .before .before .before .before .before .before .before .before .start-over .kept .1 .1 .0),
+)
+
+same-length-2 : tie.Need-same-length-2
+same-length-2 c = search needs
+
+same-length-3 : tie.Need-same-length-3
+same-length-3 c = search needs
+
+returns-3 : tie.Need-returns-3
+returns-3 c =
+    rw (c .reading-of .ensures)
+    (list-rows (c .before .before .before .before .before .before .before .before .before .before .before .before .before .before .before .before .before .before .before .before .before .before .before .args .image .now) (c .before .before .before .before .before .before .before .before .before .before .before .before .before .before .before .before .before .before .before .before .before .before .before .args .buffer .now) (c .before .before .before .before .before .before .before .before .before .before .before .before .before .before .before .before .before .before .before .before .before .before .before .args .n) (c .before .before .before .before .before .before .before .before .before .before .before .before .before .before .before .before .before .before .before .before .before .before .before .args .table .now) (c .before .before .before .before .before .before .before .before .before .before .before .before .before .before .before .before .before .before .before .before .before .before .before .args .rows .now) (subst (λ (k : ℕ). First (ofSheet (c .before .before .before .before .before .before .before .before .before .before .before .before .before .before .before .before .before .before .before .before .before .before .before .args .image .now) (length (c .before .before .before .before .before .before .before .before .before .before .before .before .before .before .before .before .before .before .before .before .before .before .before .args .buffer .now)) (c .before .before .before .before .before .before .before .before .before .before .before .before .before .before .before .before .before .before .before .before .before .before .before .args .n) (length (c .before .before .before .before .before .before .before .before .before .before .before .before .before .before .before .before .before .before .before .before .before .before .before .args .table .now))) k) (c .before .before .before .before .before .before .before .before .before .before .before .before .before .before .before .before .before .if1 .left) (c .before .before .before .before .before .before .before .before .before .before .before .before .before .before .before .before .before .before .asked .ensures)) {m = c .before .before .before .before .before .before .before .before .before .before .before .before .before .before .before .before .before .before .before .before .before .before .before .args .n - 0} (c .before .before .before .before .before .before .before .before .before .before .before .before .before .start-over .ensures) (omega arith) (c .before .before .before .before .before .before .before .before .before .before .if2 .left) (c .before .before .before .before .before .before .list-over .ensures) (c .before .before .written .given .1))
+
+same-length-4 : tie.Need-same-length-4
+same-length-4 c = search needs
+
+same-length-5 : tie.Need-same-length-5
+same-length-5 c = search needs
+
+returns-4 : tie.Need-returns-4
+returns-4 c =
+    rw (c .before .before .stopped .ensures .0, c .before .before .stopped .ensures .1)
+    (list-stopped (c .before .before .before .before .before .before .before .before .before .before .before .before .before .before .before .before .before .before .before .before .before .before .before .before .before .before .args .image .now) (c .before .before .before .before .before .before .before .before .before .before .before .before .before .before .before .before .before .before .before .before .before .before .before .before .before .before .args .buffer .now) (c .before .before .before .before .before .before .before .before .before .before .before .before .before .before .before .before .before .before .before .before .before .before .before .before .before .before .args .n) (c .before .before .before .before .before .before .before .before .before .before .before .before .before .before .before .before .before .before .before .before .before .before .before .before .before .before .args .table .now) (c .before .before .before .before .before .before .before .before .before .before .before .before .before .before .before .before .before .before .before .before .before .before .before .before .before .before .args .rows .now) (subst (λ (k : ℕ). First (ofSheet (c .before .before .before .before .before .before .before .before .before .before .before .before .before .before .before .before .before .before .before .before .before .before .before .before .before .before .args .image .now) (length (c .before .before .before .before .before .before .before .before .before .before .before .before .before .before .before .before .before .before .before .before .before .before .before .before .before .before .args .buffer .now)) (c .before .before .before .before .before .before .before .before .before .before .before .before .before .before .before .before .before .before .before .before .before .before .before .before .before .before .args .n) (length (c .before .before .before .before .before .before .before .before .before .before .before .before .before .before .before .before .before .before .before .before .before .before .before .before .before .before .args .table .now))) k) (c .before .before .before .before .before .before .before .before .before .before .before .before .before .before .before .before .before .before .before .before .if1 .left) (c .before .before .before .before .before .before .before .before .before .before .before .before .before .before .before .before .before .before .before .before .before .asked .ensures)) {m = c .before .before .before .before .before .before .before .before .before .before .before .before .before .before .before .before .before .before .before .before .before .before .before .before .before .before .args .n - 0} (c .before .before .before .before .before .before .before .before .before .before .before .before .before .before .before .before .start-over .ensures) (omega arith) (c .before .before .before .before .before .before .before .before .before .before .before .before .before .if2 .left) (c .before .before .before .before .before .before .before .before .before .list-over .ensures) (c .before .before .before .before .before .k .given .1))
+
+pub list-sheet-spec : {M : Type 1} → statement M
+list-sheet-spec =
+    tie.close
+    (tie.spec
+    asked-requires
+    returns
+    sub-start-over
+    part-start-over-start
+    part-start-over-end
+    start-over-requires
+    header-of-requires
+    clear-table-requires
+    number-of-requires
+    same-length
+    returns-2
+    sub-list-over
+    part-list-over-start
+    part-list-over-end
+    list-over-requires
+    enum-known-written
+    reading-of-requires
+    enum-known-k
+    stopped-requires
+    same-length-2
+    same-length-3
+    returns-3
+    same-length-4
+    same-length-5
+    returns-4)
