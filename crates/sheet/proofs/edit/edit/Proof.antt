@@ -2,10 +2,8 @@ use Prim.Native.Nat.{ℕ}
 use native.Mathlib.Omega.{arith}
 use mathlib.Core.Path.{refl, subst}
 use lib.ListN.{length}
-use Rattle.grammar.specs.Questions.{First}
-use Rattle.ledger.specs.Questions.{ofSheet}
 use Rattle.ledger.proofs.Asked.{front-edit, edit-9, edit-10, edit-0}
-use Rattle.sheet.proofs.Laws.{loan, table-lent}
+use Rattle.sheet.proofs.Laws.{passed, loan, table-lent}
 use borrow.Author.Needs.{needs}
 use Rattle.sheet.proofs.edit.edit.Statement.{statement}
 use Rattle.sheet.proofs.edit.edit.Tie as tie
@@ -15,37 +13,83 @@ asked-requires c κs = search needs
 
 returns : tie.Need-returns
 returns c =
-    record { first = front-edit (c .before .before .before .before .before .before .args .image .now) (length (c .before .before .before .before .before .before .args .buffer .now)) (c .before .before .before .before .before .before .args .n) (length (c .before .before .before .before .before .before .args .table .now)) (c .before .before .before .before .before .before .args .s) (c .before .before .before .before .before .before .args .e) (length (c .before .before .before .before .before .before .args .replacement .now)) (c .before .asked .result) (let ne = c .if1 .taken in omega (arith, ne)) (c .before .asked .ensures); values = record { numbered = (let ne = c .if1 .taken in omega (arith, ne)); same-bytes = refl; same-words = refl } }
+    let image = c .before .before .before .before .before .before .args .image .now in
+    let buffer = c .before .before .before .before .before .before .args .buffer .now in
+    let n = c .before .before .before .before .before .before .args .n in
+    let table = c .before .before .before .before .before .before .args .table .now in
+    let s = c .before .before .before .before .before .before .args .s in
+    let e = c .before .before .before .before .before .before .args .e in
+    let replacement = c .before .before .before .before .before .before .args .replacement .now in
+    record { first = front-edit image (length buffer) n (length table) s e (length replacement) (c .before .asked .result) (let ne = c .if1 .taken in omega (arith, ne)) (c .before .asked .ensures); values = record { numbered = (let ne = c .if1 .taken in omega (arith, ne)); same-bytes = refl; same-words = refl } }
 
 returns-2 : tie.Need-returns-2
 returns-2 c =
-    record { first = edit-9 (c .before .before .before .before .before .before .before .args .image .now) (length (c .before .before .before .before .before .before .before .args .buffer .now)) (c .before .before .before .before .before .before .before .args .n) (length (c .before .before .before .before .before .before .before .args .table .now)) (subst (λ (k : ℕ). First (ofSheet (c .before .before .before .before .before .before .before .args .image .now) (length (c .before .before .before .before .before .before .before .args .buffer .now)) (c .before .before .before .before .before .before .before .args .n) (length (c .before .before .before .before .before .before .before .args .table .now))) k) (c .before .if1 .left) (c .before .before .asked .ensures)) (c .before .before .before .before .before .before .before .args .s) (c .before .before .before .before .before .before .before .args .e) (length (c .before .before .before .before .before .before .before .args .replacement .now)) (λ q. let h = q .ordered in omega (arith, c .if2 .taken)); values = record { numbered = omega arith; same-bytes = refl; same-words = refl } }
+    let image = c .before .before .before .before .before .before .before .args .image .now in
+    let buffer = c .before .before .before .before .before .before .before .args .buffer .now in
+    let n = c .before .before .before .before .before .before .before .args .n in
+    let table = c .before .before .before .before .before .before .before .args .table .now in
+    let s = c .before .before .before .before .before .before .before .args .s in
+    let e = c .before .before .before .before .before .before .before .args .e in
+    let replacement = c .before .before .before .before .before .before .before .args .replacement .now in
+    let good = passed image (length buffer) n (length table) (c .before .before .asked .ensures) (c .before .if1 .left) in
+    record { first = edit-9 image (length buffer) n (length table) good s e (length replacement) (λ q. let h = q .ordered in omega (arith, c .if2 .taken)); values = record { numbered = omega arith; same-bytes = refl; same-words = refl } }
 
 returns-3 : tie.Need-returns-3
 returns-3 c =
-    record { first = edit-9 (c .before .before .before .before .before .before .before .before .args .image .now) (length (c .before .before .before .before .before .before .before .before .args .buffer .now)) (c .before .before .before .before .before .before .before .before .args .n) (length (c .before .before .before .before .before .before .before .before .args .table .now)) (subst (λ (k : ℕ). First (ofSheet (c .before .before .before .before .before .before .before .before .args .image .now) (length (c .before .before .before .before .before .before .before .before .args .buffer .now)) (c .before .before .before .before .before .before .before .before .args .n) (length (c .before .before .before .before .before .before .before .before .args .table .now))) k) (c .before .before .if1 .left) (c .before .before .before .asked .ensures)) (c .before .before .before .before .before .before .before .before .args .s) (c .before .before .before .before .before .before .before .before .args .e) (length (c .before .before .before .before .before .before .before .before .args .replacement .now)) (λ q. let h = q .in-text in omega (arith, c .if3 .taken)); values = record { numbered = omega arith; same-bytes = refl; same-words = refl } }
+    let image = c .before .before .before .before .before .before .before .before .args .image .now in
+    let buffer = c .before .before .before .before .before .before .before .before .args .buffer .now in
+    let n = c .before .before .before .before .before .before .before .before .args .n in
+    let table = c .before .before .before .before .before .before .before .before .args .table .now in
+    let s = c .before .before .before .before .before .before .before .before .args .s in
+    let e = c .before .before .before .before .before .before .before .before .args .e in
+    let replacement = c .before .before .before .before .before .before .before .before .args .replacement .now in
+    let good = passed image (length buffer) n (length table) (c .before .before .before .asked .ensures) (c .before .before .if1 .left) in
+    record { first = edit-9 image (length buffer) n (length table) good s e (length replacement) (λ q. let h = q .in-text in omega (arith, c .if3 .taken)); values = record { numbered = omega arith; same-bytes = refl; same-words = refl } }
 
 sub-if4 : tie.Need-sub-if4
 sub-if4 c = search needs
 
 add-if4 : tie.Need-add-if4
 add-if4 c =
-    let q = loan (c .before .before .before .before .before .before .before .before .args .image .now) (length (c .before .before .before .before .before .before .before .before .args .buffer .now)) (c .before .before .before .before .before .before .before .before .args .n) (length (c .before .before .before .before .before .before .before .before .args .table .now)) (subst (λ (k : ℕ). First (ofSheet (c .before .before .before .before .before .before .before .before .args .image .now) (length (c .before .before .before .before .before .before .before .before .args .buffer .now)) (c .before .before .before .before .before .before .before .before .args .n) (length (c .before .before .before .before .before .before .before .before .args .table .now))) k) (c .before .before .if1 .left) (c .before .before .before .asked .ensures)) in omega (arith, q .short, q .text-fits)
+    let image = c .before .before .before .before .before .before .before .before .args .image .now in
+    let buffer = c .before .before .before .before .before .before .before .before .args .buffer .now in
+    let n = c .before .before .before .before .before .before .before .before .args .n in
+    let table = c .before .before .before .before .before .before .before .before .args .table .now in
+    let good = passed image (length buffer) n (length table) (c .before .before .before .asked .ensures) (c .before .before .if1 .left) in
+    let q = loan image (length buffer) n (length table) good in omega (arith, q .short, q .text-fits)
 
 returns-4 : tie.Need-returns-4
 returns-4 c =
-    record { first = edit-10 (c .before .before .before .before .before .before .before .before .before .args .image .now) (length (c .before .before .before .before .before .before .before .before .before .args .buffer .now)) (c .before .before .before .before .before .before .before .before .before .args .n) (length (c .before .before .before .before .before .before .before .before .before .args .table .now)) (subst (λ (k : ℕ). First (ofSheet (c .before .before .before .before .before .before .before .before .before .args .image .now) (length (c .before .before .before .before .before .before .before .before .before .args .buffer .now)) (c .before .before .before .before .before .before .before .before .before .args .n) (length (c .before .before .before .before .before .before .before .before .before .args .table .now))) k) (c .before .before .before .if1 .left) (c .before .before .before .before .asked .ensures)) (c .before .before .before .before .before .before .before .before .before .args .s) (c .before .before .before .before .before .before .before .before .before .args .e) (length (c .before .before .before .before .before .before .before .before .before .args .replacement .now)) (record { ordered = c .before .before .if2 .left; in-text = c .before .if3 .left }) (λ q. let h = q .room in omega (arith, c .if4 .taken)); values = record { numbered = omega arith; same-bytes = refl; same-words = refl } }
+    let image = c .before .before .before .before .before .before .before .before .before .args .image .now in
+    let buffer = c .before .before .before .before .before .before .before .before .before .args .buffer .now in
+    let n = c .before .before .before .before .before .before .before .before .before .args .n in
+    let table = c .before .before .before .before .before .before .before .before .before .args .table .now in
+    let s = c .before .before .before .before .before .before .before .before .before .args .s in
+    let e = c .before .before .before .before .before .before .before .before .before .args .e in
+    let replacement = c .before .before .before .before .before .before .before .before .before .args .replacement .now in
+    let good = passed image (length buffer) n (length table) (c .before .before .before .before .asked .ensures) (c .before .before .before .if1 .left) in
+    record { first = edit-10 image (length buffer) n (length table) good s e (length replacement) (record { ordered = c .before .before .if2 .left; in-text = c .before .if3 .left }) (λ q. let h = q .room in omega (arith, c .if4 .taken)); values = record { numbered = omega arith; same-bytes = refl; same-words = refl } }
 
 header-of-requires : tie.Need-header-of-requires
 header-of-requires c κs = search needs
 
 edit-table-requires : tie.Need-edit-table-requires
 edit-table-requires c κs =
-    (table-lent (c .before .before .before .before .before .before .before .before .before .before .before .args .image .now) (length (c .before .before .before .before .before .before .before .before .before .before .before .args .buffer .now)) (c .before .before .before .before .before .before .before .before .before .before .before .args .n) (length (c .before .before .before .before .before .before .before .before .before .before .before .args .table .now)) (subst (λ (k : ℕ). First (ofSheet (c .before .before .before .before .before .before .before .before .before .before .before .args .image .now) (length (c .before .before .before .before .before .before .before .before .before .before .before .args .buffer .now)) (c .before .before .before .before .before .before .before .before .before .before .before .args .n) (length (c .before .before .before .before .before .before .before .before .before .before .before .args .table .now))) k) (c .before .before .before .before .before .if1 .left) (c .before .before .before .before .before .before .asked .ensures)) (c .before .header-of .ensures .its-rules) (c .before .before .before .before .before .before .before .before .before .before .before .args .table .now) refl, record { lent = loan (c .before .before .before .before .before .before .before .before .before .before .before .args .image .now) (length (c .before .before .before .before .before .before .before .before .before .before .before .args .buffer .now)) (c .before .before .before .before .before .before .before .before .before .before .before .args .n) (length (c .before .before .before .before .before .before .before .before .before .before .before .args .table .now)) (subst (λ (k : ℕ). First (ofSheet (c .before .before .before .before .before .before .before .before .before .before .before .args .image .now) (length (c .before .before .before .before .before .before .before .before .before .before .before .args .buffer .now)) (c .before .before .before .before .before .before .before .before .before .before .before .args .n) (length (c .before .before .before .before .before .before .before .before .before .before .before .args .table .now))) k) (c .before .before .before .before .before .if1 .left) (c .before .before .before .before .before .before .asked .ensures)) .text-fits; ordered = c .before .before .before .before .if2 .left; within = c .before .before .before .if3 .left; room = c .before .before .if4 .left })
+    let image = c .before .before .before .before .before .before .before .before .before .before .before .args .image .now in
+    let buffer = c .before .before .before .before .before .before .before .before .before .before .before .args .buffer .now in
+    let n = c .before .before .before .before .before .before .before .before .before .before .before .args .n in
+    let table = c .before .before .before .before .before .before .before .before .before .before .before .args .table .now in
+    let good = passed image (length buffer) n (length table) (c .before .before .before .before .before .before .asked .ensures) (c .before .before .before .before .before .if1 .left) in
+    (table-lent image (length buffer) n (length table) good (c .before .header-of .ensures .its-rules) table refl, record { lent = loan image (length buffer) n (length table) good .text-fits; ordered = c .before .before .before .before .if2 .left; within = c .before .before .before .if3 .left; room = c .before .before .if4 .left })
 
 edit-text-requires : tie.Need-edit-text-requires
 edit-text-requires c κs =
-    record { lent = loan (c .before .before .before .before .before .before .before .before .before .before .before .before .before .before .before .args .image .now) (length (c .before .before .before .before .before .before .before .before .before .before .before .before .before .before .before .args .buffer .now)) (c .before .before .before .before .before .before .before .before .before .before .before .before .before .before .before .args .n) (length (c .before .before .before .before .before .before .before .before .before .before .before .before .before .before .before .args .table .now)) (subst (λ (k : ℕ). First (ofSheet (c .before .before .before .before .before .before .before .before .before .before .before .before .before .before .before .args .image .now) (length (c .before .before .before .before .before .before .before .before .before .before .before .before .before .before .before .args .buffer .now)) (c .before .before .before .before .before .before .before .before .before .before .before .before .before .before .before .args .n) (length (c .before .before .before .before .before .before .before .before .before .before .before .before .before .before .before .args .table .now))) k) (c .before .before .before .before .before .before .before .before .before .if1 .left) (c .before .before .before .before .before .before .before .before .before .before .asked .ensures)) .text-fits; ordered = c .before .before .before .before .before .before .before .before .if2 .left; within = c .before .before .before .before .before .before .before .if3 .left; room = c .before .before .before .before .before .before .if4 .left }
+    let image = c .before .before .before .before .before .before .before .before .before .before .before .before .before .before .before .args .image .now in
+    let buffer = c .before .before .before .before .before .before .before .before .before .before .before .before .before .before .before .args .buffer .now in
+    let n = c .before .before .before .before .before .before .before .before .before .before .before .before .before .before .before .args .n in
+    let table = c .before .before .before .before .before .before .before .before .before .before .before .before .before .before .before .args .table .now in
+    let good = passed image (length buffer) n (length table) (c .before .before .before .before .before .before .before .before .before .before .asked .ensures) (c .before .before .before .before .before .before .before .before .before .if1 .left) in
+    record { lent = loan image (length buffer) n (length table) good .text-fits; ordered = c .before .before .before .before .before .before .before .before .if2 .left; within = c .before .before .before .before .before .before .before .if3 .left; room = c .before .before .before .before .before .before .if4 .left }
 
 same-length : tie.Need-same-length
 same-length c = search needs
@@ -55,8 +99,16 @@ same-length-2 c = search needs
 
 returns-5 : tie.Need-returns-5
 returns-5 c =
+    let image = c .before .before .before .before .before .before .before .before .before .before .before .before .before .before .before .before .before .before .args .image .now in
+    let buffer = c .before .before .before .before .before .before .before .before .before .before .before .before .before .before .before .before .before .before .args .buffer .now in
+    let n = c .before .before .before .before .before .before .before .before .before .before .before .before .before .before .before .before .before .before .args .n in
+    let table = c .before .before .before .before .before .before .before .before .before .before .before .before .before .before .before .before .before .before .args .table .now in
+    let s = c .before .before .before .before .before .before .before .before .before .before .before .before .before .before .before .before .before .before .args .s in
+    let e = c .before .before .before .before .before .before .before .before .before .before .before .before .before .before .before .before .before .before .args .e in
+    let replacement = c .before .before .before .before .before .before .before .before .before .before .before .before .before .before .before .before .before .before .args .replacement .now in
+    let good = passed image (length buffer) n (length table) (c .before .before .before .before .before .before .before .before .before .before .before .before .before .asked .ensures) (c .before .before .before .before .before .before .before .before .before .before .before .before .if1 .left) in
     record {
-      first = edit-0 (c .before .before .before .before .before .before .before .before .before .before .before .before .before .before .before .before .before .before .args .image .now) (length (c .before .before .before .before .before .before .before .before .before .before .before .before .before .before .before .before .before .before .args .buffer .now)) (c .before .before .before .before .before .before .before .before .before .before .before .before .before .before .before .before .before .before .args .n) (length (c .before .before .before .before .before .before .before .before .before .before .before .before .before .before .before .before .before .before .args .table .now)) (subst (λ (k : ℕ). First (ofSheet (c .before .before .before .before .before .before .before .before .before .before .before .before .before .before .before .before .before .before .args .image .now) (length (c .before .before .before .before .before .before .before .before .before .before .before .before .before .before .before .before .before .before .args .buffer .now)) (c .before .before .before .before .before .before .before .before .before .before .before .before .before .before .before .before .before .before .args .n) (length (c .before .before .before .before .before .before .before .before .before .before .before .before .before .before .before .before .before .before .args .table .now))) k) (c .before .before .before .before .before .before .before .before .before .before .before .before .if1 .left) (c .before .before .before .before .before .before .before .before .before .before .before .before .before .asked .ensures)) (c .before .before .before .before .before .before .before .before .before .before .before .before .before .before .before .before .before .before .args .s) (c .before .before .before .before .before .before .before .before .before .before .before .before .before .before .before .before .before .before .args .e) (length (c .before .before .before .before .before .before .before .before .before .before .before .before .before .before .before .before .before .before .args .replacement .now)) (record { ordered = c .before .before .before .before .before .before .before .before .before .before .before .if2 .left; in-text = c .before .before .before .before .before .before .before .before .before .before .if3 .left }) (record { room = c .before .before .before .before .before .before .before .before .before .if4 .left });
+      first = edit-0 image (length buffer) n (length table) good s e (length replacement) (record { ordered = c .before .before .before .before .before .before .before .before .before .before .before .if2 .left; in-text = c .before .before .before .before .before .before .before .before .before .before .if3 .left }) (record { room = c .before .before .before .before .before .before .before .before .before .if4 .left });
       values =
           record {
             length-is = c .before .before .edit-text .ensures .0;

@@ -2,9 +2,7 @@ use Prim.Native.Nat.{ℕ}
 use native.Mathlib.Omega.{arith}
 use mathlib.Core.Path.{refl, subst}
 use lib.ListN.{length}
-use Rattle.grammar.specs.Questions.{First}
-use Rattle.ledger.specs.Questions.{ofSheet}
-use Rattle.sheet.proofs.Laws.{loan, table-lent}
+use Rattle.sheet.proofs.Laws.{passed, loan, table-lent}
 use borrow.Author.Needs.{needs}
 use Rattle.sheet.proofs.open.open.Statement.{statement}
 use Rattle.sheet.proofs.open.open.Tie as tie
@@ -20,11 +18,21 @@ header-of-requires c κs = search needs
 
 fill-requires : tie.Need-fill-requires
 fill-requires c κs =
-    loan (c .before .before .before .before .before .before .before .before .args .image .now) (length (c .before .before .before .before .before .before .before .before .args .buffer .now)) (length (c .before .before .before .before .before .before .before .before .args .text .now)) (length (c .before .before .before .before .before .before .before .before .args .table .now)) (subst (λ (k : ℕ). First (ofSheet (c .before .before .before .before .before .before .before .before .args .image .now) (length (c .before .before .before .before .before .before .before .before .args .buffer .now)) (length (c .before .before .before .before .before .before .before .before .args .text .now)) (length (c .before .before .before .before .before .before .before .before .args .table .now))) k) (c .before .before .if1 .left) (c .before .before .before .asked .ensures)) .text-fits
+    let image = c .before .before .before .before .before .before .before .before .args .image .now in
+    let text = c .before .before .before .before .before .before .before .before .args .text .now in
+    let buffer = c .before .before .before .before .before .before .before .before .args .buffer .now in
+    let table = c .before .before .before .before .before .before .before .before .args .table .now in
+    let good = passed image (length buffer) (length text) (length table) (c .before .before .before .asked .ensures) (c .before .before .if1 .left) in
+    loan image (length buffer) (length text) (length table) good .text-fits
 
 clear-table-requires : tie.Need-clear-table-requires
 clear-table-requires c κs =
-    table-lent (c .before .before .before .before .before .before .before .before .before .before .before .before .args .image .now) (length (c .before .before .before .before .before .before .before .before .before .before .before .before .args .buffer .now)) (length (c .before .before .before .before .before .before .before .before .before .before .before .before .args .text .now)) (length (c .before .before .before .before .before .before .before .before .before .before .before .before .args .table .now)) (subst (λ (k : ℕ). First (ofSheet (c .before .before .before .before .before .before .before .before .before .before .before .before .args .image .now) (length (c .before .before .before .before .before .before .before .before .before .before .before .before .args .buffer .now)) (length (c .before .before .before .before .before .before .before .before .before .before .before .before .args .text .now)) (length (c .before .before .before .before .before .before .before .before .before .before .before .before .args .table .now))) k) (c .before .before .before .before .before .before .if1 .left) (c .before .before .before .before .before .before .before .asked .ensures)) (c .before .before .before .before .before .header-of .ensures .its-rules) (c .before .before .before .before .before .before .before .before .before .before .before .before .args .table .now) refl
+    let image = c .before .before .before .before .before .before .before .before .before .before .before .before .args .image .now in
+    let text = c .before .before .before .before .before .before .before .before .before .before .before .before .args .text .now in
+    let buffer = c .before .before .before .before .before .before .before .before .before .before .before .before .args .buffer .now in
+    let table = c .before .before .before .before .before .before .before .before .before .before .before .before .args .table .now in
+    let good = passed image (length buffer) (length text) (length table) (c .before .before .before .before .before .before .before .asked .ensures) (c .before .before .before .before .before .before .if1 .left) in
+    table-lent image (length buffer) (length text) (length table) good (c .before .before .before .before .before .header-of .ensures .its-rules) table refl
 
 same-length : tie.Need-same-length
 same-length c = search needs
@@ -34,8 +42,13 @@ same-length-2 c = search needs
 
 returns-2 : tie.Need-returns-2
 returns-2 c =
+    let image = c .before .before .before .before .before .before .before .before .before .before .before .before .before .before .before .args .image .now in
+    let text = c .before .before .before .before .before .before .before .before .before .before .before .before .before .before .before .args .text .now in
+    let buffer = c .before .before .before .before .before .before .before .before .before .before .before .before .before .before .before .args .buffer .now in
+    let table = c .before .before .before .before .before .before .before .before .before .before .before .before .before .before .before .args .table .now in
+    let good = passed image (length buffer) (length text) (length table) (c .before .before .before .before .before .before .before .before .before .before .asked .ensures) (c .before .before .before .before .before .before .before .before .before .if1 .left) in
     record {
-      first = (subst (λ (k : ℕ). First (ofSheet (c .before .before .before .before .before .before .before .before .before .before .before .before .before .before .before .args .image .now) (length (c .before .before .before .before .before .before .before .before .before .before .before .before .before .before .before .args .buffer .now)) (length (c .before .before .before .before .before .before .before .before .before .before .before .before .before .before .before .args .text .now)) (length (c .before .before .before .before .before .before .before .before .before .before .before .before .before .before .before .args .table .now))) k) (c .before .before .before .before .before .before .before .before .before .if1 .left) (c .before .before .before .before .before .before .before .before .before .before .asked .ensures));
+      first = good;
       values =
           record {
             length-is = refl;
