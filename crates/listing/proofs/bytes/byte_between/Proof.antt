@@ -8,7 +8,9 @@ use Rattle.listing.proofs.bytes.byte_between.Statement.{statement}
 use Rattle.listing.proofs.bytes.byte_between.Tie as tie
 
 returns : tie.Need-returns
-returns c = end-told (range (c .before .before .args .from) (c .before .before .args .to)) (c .before .before .args .text .now) (c .before .before .args .at) (c .if1 .taken)
+returns c =
+    let entry = c .before .before in
+    end-told (range (entry .args .from) (entry .args .to)) (entry .args .text .now) (entry .args .at) (c .if1 .taken)
 
 shared-slice-read-wide : tie.Need-shared-slice-read-wide
 shared-slice-read-wide c = search needs
@@ -17,13 +19,19 @@ wide-requires : tie.Need-wide-requires
 wide-requires c κs = search needs
 
 returns-2 : tie.Need-returns-2
-returns-2 c = failure-told (range (c .before .before .before .before .before .args .from) (c .before .before .before .before .before .args .to)) (c .before .before .before .before .before .args .text .now) (c .before .before .before .before .before .args .at) (below (c .before .before .before .before .before .args .from) (c .before .before .before .before .before .args .to) (getD (c .before .before .before .before .before .args .text .now) (c .before .before .before .before .before .args .at) 0) (omega arith))
+returns-2 c =
+    let entry = c .before .before .before .before .before in
+    failure-told (range (entry .args .from) (entry .args .to)) (entry .args .text .now) (entry .args .at) (below (entry .args .from) (entry .args .to) (getD (entry .args .text .now) (entry .args .at) 0) (omega arith))
 
 returns-3 : tie.Need-returns-3
-returns-3 c = failure-told (range (c .before .before .before .before .before .before .args .from) (c .before .before .before .before .before .before .args .to)) (c .before .before .before .before .before .before .args .text .now) (c .before .before .before .before .before .before .args .at) (above (c .before .before .before .before .before .before .args .from) (c .before .before .before .before .before .before .args .to) (getD (c .before .before .before .before .before .before .args .text .now) (c .before .before .before .before .before .before .args .at) 0) (omega arith))
+returns-3 c =
+    let entry = c .before .before .before .before .before .before in
+    failure-told (range (entry .args .from) (entry .args .to)) (entry .args .text .now) (entry .args .at) (above (entry .args .from) (entry .args .to) (getD (entry .args .text .now) (entry .args .at) 0) (omega arith))
 
 returns-4 : tie.Need-returns-4
-returns-4 c = match-told (range (c .before .before .before .before .before .before .args .from) (c .before .before .before .before .before .before .args .to)) (c .before .before .before .before .before .before .args .text .now) (c .before .before .before .before .before .before .args .at) (c .before .before .before .before .if1 .left) (between (c .before .before .before .before .before .before .args .from) (c .before .before .before .before .before .before .args .to) (getD (c .before .before .before .before .before .before .args .text .now) (c .before .before .before .before .before .before .args .at) 0) (omega arith) (omega arith))
+returns-4 c =
+    let entry = c .before .before .before .before .before .before in
+    match-told (range (entry .args .from) (entry .args .to)) (entry .args .text .now) (entry .args .at) (c .before .before .before .before .if1 .left) (between (entry .args .from) (entry .args .to) (getD (entry .args .text .now) (entry .args .at) 0) (omega arith) (omega arith))
 
 pub byte-between-spec : {M : Type 1} → statement M
 byte-between-spec =

@@ -19,7 +19,8 @@ sub-t17 c = search needs
 
 returns : tie.Need-returns
 returns c =
-    refused (c .before .before .before .before .before .before .before .before .pre .0) (pair-bounded (rulesIn (c .before .before .before .before .before .before .before .before .args .words .now)) (c .before .before .before .before .before .before .before .before .args .root) (length (c .before .before .before .before .before .before .before .before .args .rows .now)) (c .before .before .before .before .before .before .before .before .args .text .now) (c .before .before .before .before .before .before .before .before .args .table .now) (nodeV (length (c .before .before .before .before .before .before .before .before .args .rows .now)) (c .before .before .before .before .before .before .before .before .args .words .now) (c .before .before .before .before .before .before .before .before .args .text .now) (c .before .before .before .before .before .before .before .before .args .table .now) 4096) (node-bounded (length (c .before .before .before .before .before .before .before .before .args .rows .now)) (c .before .before .before .before .before .before .before .before .args .words .now) (c .before .before .before .before .before .before .before .before .args .text .now) (c .before .before .before .before .before .before .before .before .args .table .now) 4096) (c .before .before .before .before .before .before .before .before .args .start) 0 0 (length (c .before .before .before .before .before .before .before .before .args .text .now)) 0 0 (omega arith) (omega arith)) (c .before .before .walk-rule .ensures) (c .if1 .taken)
+    let entry = c .before .before .before .before .before .before .before .before in
+    refused (entry .pre .0) (pair-bounded (rulesIn (entry .args .words .now)) (entry .args .root) (length (entry .args .rows .now)) (entry .args .text .now) (entry .args .table .now) (nodeV (length (entry .args .rows .now)) (entry .args .words .now) (entry .args .text .now) (entry .args .table .now) 4096) (node-bounded (length (entry .args .rows .now)) (entry .args .words .now) (entry .args .text .now) (entry .args .table .now) 4096) (entry .args .start) 0 0 (length (entry .args .text .now)) 0 0 (omega arith) (omega arith)) (c .before .before .walk-rule .ensures) (c .if1 .taken)
 
 walk-rule-requires-2 : tie.Need-walk-rule-requires-2
 walk-rule-requires-2 c κs = search needs
@@ -29,7 +30,8 @@ same-length c = search needs
 
 returns-2 : tie.Need-returns-2
 returns-2 c =
-    written (c .before .before .before .before .before .before .before .before .before .before .before .before .before .pre .0) (pair-bounded (rulesIn (c .before .before .before .before .before .before .before .before .before .before .before .before .before .args .words .now)) (c .before .before .before .before .before .before .before .before .before .before .before .before .before .args .root) (length (c .before .before .before .before .before .before .before .before .before .before .before .before .before .args .rows .now)) (c .before .before .before .before .before .before .before .before .before .before .before .before .before .args .text .now) (c .before .before .before .before .before .before .before .before .before .before .before .before .before .args .table .now) (nodeV (length (c .before .before .before .before .before .before .before .before .before .before .before .before .before .args .rows .now)) (c .before .before .before .before .before .before .before .before .before .before .before .before .before .args .words .now) (c .before .before .before .before .before .before .before .before .before .before .before .before .before .args .text .now) (c .before .before .before .before .before .before .before .before .before .before .before .before .before .args .table .now) 4096) (node-bounded (length (c .before .before .before .before .before .before .before .before .before .before .before .before .before .args .rows .now)) (c .before .before .before .before .before .before .before .before .before .before .before .before .before .args .words .now) (c .before .before .before .before .before .before .before .before .before .before .before .before .before .args .text .now) (c .before .before .before .before .before .before .before .before .before .before .before .before .before .args .table .now) 4096) (c .before .before .before .before .before .before .before .before .before .before .before .before .before .args .start) 0 0 (length (c .before .before .before .before .before .before .before .before .before .before .before .before .before .args .text .now)) 0 0 (omega arith) (omega arith)) (c .before .before .before .before .before .before .before .walk-rule .ensures) (c .before .before .before .before .before .if1 .left) (c .before .before .walk-rule2 .ensures)
+    let entry = c .before .before .before .before .before .before .before .before .before .before .before .before .before in
+    written (entry .pre .0) (pair-bounded (rulesIn (entry .args .words .now)) (entry .args .root) (length (entry .args .rows .now)) (entry .args .text .now) (entry .args .table .now) (nodeV (length (entry .args .rows .now)) (entry .args .words .now) (entry .args .text .now) (entry .args .table .now) 4096) (node-bounded (length (entry .args .rows .now)) (entry .args .words .now) (entry .args .text .now) (entry .args .table .now) 4096) (entry .args .start) 0 0 (length (entry .args .text .now)) 0 0 (omega arith) (omega arith)) (c .before .before .before .before .before .before .before .walk-rule .ensures) (c .before .before .before .before .before .if1 .left) (c .before .before .walk-rule2 .ensures)
 
 pub list-in-spec : {M : Type 1} → statement M
 list-in-spec =
