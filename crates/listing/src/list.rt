@@ -1,8 +1,12 @@
 // The rows of a start pair over records: counted first, and written only where they fit.
 use crate::bytes::FAILED;
 use crate::walk;
+use records::Record;
 ghost use Prim.Native.Nat.{_≤_, _<_};
 ghost use lib.ListN.{length};
+ghost use Rattle.reading.specs.Loaded.{rulesIn};
+ghost use Rattle.rows.specs.Walk.{pairV, nodeV};
+ghost use Rattle.listing.specs.Gives.{Gives};
 ghost use Rattle.listing.specs.Listed.{ListedIn};
 
 pub enum Listed {
@@ -10,6 +14,39 @@ pub enum Listed {
     Rows(usize),
     // The number of the question that failed: 12, 14 or 15.
     Refused(usize),
+}
+
+// The walk of the start rule, whose body has that root, over the whole text: where `room` rows fit and `count` stand before it.
+fn walk_all(
+    words: &[u32; 4097],
+    text: &[u8],
+    table: &[u64],
+    rows: &mut [u64],
+    count: &mut usize,
+    room: usize,
+    start: usize,
+    root: usize,
+) -> usize
+    requires { ⌜ (length (now text) ≤ 65535) × (now count ≤ room) × (start < 4096) × (root < 4096) ⌝ }
+    ensures { λ r. ⌜ Gives (now (count .entry)) (now (rows .entry)) r (now (rows .exit)) (now (count .exit)) (pairV (rulesIn (now (words .entry))) root room (now (text .entry)) (now (table .entry)) (nodeV room (now (words .entry)) (now (text .entry)) (now (table .entry)) 4096) start 0 0 (length (now (text .entry))) 0 (now (count .entry))) ⌝ }
+{
+    let n = text.len();
+    let left = Record::MAX_NESTING;
+    walk::walk_rule(
+        words,
+        text,
+        table,
+        rows,
+        count,
+        room,
+        start,
+        root,
+        0,
+        0,
+        n,
+        0,
+        left,
+    )
 }
 
 // "Counting ends at the first row too many". The start rule has that number and its body that root.
@@ -25,10 +62,9 @@ pub fn list_in(
     ensures { λ r. ⌜ ListedIn (now (words .entry)) (now (text .entry)) (now (table .entry)) start root (now (rows .entry)) r (now (rows .exit)) ⌝ }
 {
     let room = rows.len();
-    let n = text.len();
     let mut none = [0u64; 0];
     let mut counted = 0usize;
-    let x = walk::walk_rule(
+    let x = walk_all(
         words,
         text,
         table,
@@ -37,30 +73,11 @@ pub fn list_in(
         room,
         start,
         root,
-        0,
-        0,
-        n,
-        0,
-        4096,
     );
     if FAILED < x {
         return Listed::Refused(x - FAILED);
     }
     let mut written = 0usize;
-    walk::walk_rule(
-        words,
-        text,
-        table,
-        rows,
-        &mut written,
-        room,
-        start,
-        root,
-        0,
-        0,
-        n,
-        0,
-        4096,
-    );
+    walk_all(words, text, table, rows, &mut written, room, start, root);
     Listed::Rows(counted)
 }

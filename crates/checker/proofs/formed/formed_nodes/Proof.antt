@@ -40,13 +40,19 @@ visited-requires : tie.Need-visited-requires Inv-loop μ-loop Inv-rounds μ-roun
 visited-requires c κs = omega (arith, c .before .before .before .before .before .pre .0 .counts .few-nodes)
 
 array-read-old : tie.Need-array-read-old Inv-loop μ-loop Inv-rounds μ-rounds
-array-read-old c = omega (arith, c .before .before .before .before .before .before .pre .1 .only-nodes (c .before .before .loop .i) (omega arith), c .before .before .before .before .before .before .pre .0 .counts .few-nodes)
+array-read-old c =
+    let entry = c .before .before .before .before .before .before in
+    omega (arith, entry .pre .1 .only-nodes (c .before .before .loop .i) (omega arith), entry .pre .0 .counts .few-nodes)
 
 node-formed-requires : tie.Need-node-formed-requires Inv-loop μ-loop Inv-rounds μ-rounds
-node-formed-requires c κs = (c .before .before .before .before .before .before .before .before .pre .0, omega (arith, c .before .before .before .before .before .before .before .before .pre .1 .only-nodes (c .before .before .before .before .loop .i) (omega arith)), c .before .before .before .before .before .before .before .before .pre .3)
+node-formed-requires c κs =
+    let entry = c .before .before .before .before .before .before .before .before in
+    (entry .pre .0, omega (arith, entry .pre .1 .only-nodes (c .before .before .before .before .loop .i) (omega arith)), entry .pre .3)
 
 array-write-formed : tie.Need-array-write-formed Inv-loop μ-loop Inv-rounds μ-rounds
-array-write-formed c = omega (arith, c .before .before .before .before .before .before .before .before .before .before .pre .1 .only-nodes (c .before .before .before .before .before .before .loop .i) (omega arith), c .before .before .before .before .before .before .before .before .before .before .pre .0 .counts .few-nodes)
+array-write-formed c =
+    let entry = c .before .before .before .before .before .before .before .before .before .before in
+    omega (arith, entry .pre .1 .only-nodes (c .before .before .before .before .before .before .loop .i) (omega arith), entry .pre .0 .counts .few-nodes)
 
 add-i : tie.Need-add-i Inv-loop μ-loop Inv-rounds μ-rounds
 add-i c = search needs
@@ -90,8 +96,9 @@ rounds-again c = c .before .before .loop .inv .1 .sound
 
 returns : tie.Need-returns Inv-loop μ-loop Inv-rounds μ-rounds
 returns c =
+    let entry = c .before .before .before .before .before .before in
     let t = c .before .before .loop .inv .1 in
-    least-marks (c .before .before .before .before .before .before .args .image .now) (c .before .before .before .before .before .before .args .known .now) (c .before .before .before .before .before .before .args .order .now) (c .before .before .loop .formed) (c .before .before .before .before .before .before .pre .0 .words) (c .before .before .before .before .before .before .pre .1) (c .before .before .before .before .before .before .pre .2) (t .sound)
+    least-marks (entry .args .image .now) (entry .args .known .now) (entry .args .order .now) (c .before .before .loop .formed) (entry .pre .0 .words) (entry .pre .1) (entry .pre .2) (t .sound)
     (λ k l. round-closed t (not-true (c .before .before .loop .changed) (c .if3 .taken)) k (omega (arith, c .before .before .before .before .header-of .ensures .its-nodes)))
 
 pub formed-nodes-spec : {M : Type 1} → statement M

@@ -43,16 +43,22 @@ visited-requires : tie.Need-visited-requires Inv-loop μ-loop Inv-rounds μ-roun
 visited-requires c κs = omega (arith, c .before .before .before .before .before .before .pre .0 .counts .few-nodes)
 
 array-read-old : tie.Need-array-read-old Inv-loop μ-loop Inv-rounds μ-rounds
-array-read-old c = omega (arith, c .before .before .before .before .before .before .before .pre .1 .only-nodes (c .before .before .loop .i) (omega arith), c .before .before .before .before .before .before .before .pre .0 .counts .few-nodes)
+array-read-old c =
+    let entry = c .before .before .before .before .before .before .before in
+    omega (arith, entry .pre .1 .only-nodes (c .before .before .loop .i) (omega arith), entry .pre .0 .counts .few-nodes)
 
 node-outcomes-requires : tie.Need-node-outcomes-requires Inv-loop μ-loop Inv-rounds μ-rounds
-node-outcomes-requires c κs = (c .before .before .before .before .before .before .before .before .before .before .pre .0, omega (arith, c .before .before .before .before .before .before .before .before .before .before .pre .1 .only-nodes (c .before .before .before .before .before .loop .i) (omega arith)), c .before .before .before .before .before .before .before .set-table .ensures, c .before .before .before .before .before .before .before .before .before .before .pre .2, c .before .before .before .before .before .loop .inv .1 .sound .small)
+node-outcomes-requires c κs =
+    let entry = c .before .before .before .before .before .before .before .before .before .before in
+    (entry .pre .0, omega (arith, entry .pre .1 .only-nodes (c .before .before .before .before .before .loop .i) (omega arith)), c .before .before .before .before .before .before .before .set-table .ensures, entry .pre .2, c .before .before .before .before .before .loop .inv .1 .sound .small)
 
 join-requires : tie.Need-join-requires Inv-loop μ-loop Inv-rounds μ-rounds
 join-requires c κs = search needs
 
 array-write-known : tie.Need-array-write-known Inv-loop μ-loop Inv-rounds μ-rounds
-array-write-known c = omega (arith, c .before .before .before .before .before .before .before .before .before .before .before .before .before .pre .1 .only-nodes (c .before .before .before .before .before .before .before .before .loop .i) (omega arith), c .before .before .before .before .before .before .before .before .before .before .before .before .before .pre .0 .counts .few-nodes)
+array-write-known c =
+    let entry = c .before .before .before .before .before .before .before .before .before .before .before .before .before in
+    omega (arith, entry .pre .1 .only-nodes (c .before .before .before .before .before .before .before .before .loop .i) (omega arith), entry .pre .0 .counts .few-nodes)
 
 add-i : tie.Need-add-i Inv-loop μ-loop Inv-rounds μ-rounds
 add-i c = search needs
@@ -96,8 +102,9 @@ rounds-again c = c .before .before .loop .inv .1 .sound
 
 returns : tie.Need-returns Inv-loop μ-loop Inv-rounds μ-rounds
 returns c =
+    let entry = c .before .before .before .before .before .before .before in
     let t = c .before .before .loop .inv .1 in
-    least (c .before .before .before .before .before .before .before .args .image .now) (c .before .before .loop .known) (c .before .before .before .before .before .before .before .args .order .now) (c .before .before .before .before .before .before .before .pre .0 .words) (c .before .before .before .before .before .before .before .pre .1) (t .sound)
+    least (entry .args .image .now) (c .before .before .loop .known) (entry .args .order .now) (entry .pre .0 .words) (entry .pre .1) (t .sound)
     (λ k l. round-closed t (not-true (c .before .before .loop .changed) (c .if3 .taken)) k (omega (arith, c .before .before .before .before .before .header-of .ensures .its-nodes)))
 
 pub outcome-sets-spec : {M : Type 1} → statement M

@@ -17,31 +17,37 @@ node-at-requires : tie.Need-node-at-requires
 node-at-requires c κs = search needs
 
 returns : tie.Need-returns
-returns c = so (record { lacks-0 = λ a e h. c .if1 .taken (c .before .node-at .ensures .its-kind ∙ kind-of-star (c .before .before .before .args .image .now) (c .before .before .before .args .n) a (c .before .before .before .pre .0 .words .node-words (c .before .before .before .args .n) (c .before .before .before .pre .2) .known-kind) e) })
+returns c =
+    let entry = c .before .before .before in
+    so (record { lacks-0 = λ a e h. c .if1 .taken (c .before .node-at .ensures .its-kind ∙ kind-of-star (entry .args .image .now) (entry .args .n) a (entry .pre .0 .words .node-words (entry .args .n) (entry .pre .2) .known-kind) e) })
 
 element-copy-out-has-empty : tie.Need-element-copy-out-has-empty
-element-copy-out-has-empty c = omega (arith, a-below (c .before .before .before .args .image .now) (c .before .before .before .pre .0 .counts) (c .before .before .before .pre .0 .words) (c .before .before .before .args .n) (c .before .before .before .pre .2) (omega arith) (omega arith))
+element-copy-out-has-empty c =
+    let entry = c .before .before .before in
+    omega (arith, a-below (entry .args .image .now) (entry .pre .0 .counts) (entry .pre .0 .words) (entry .args .n) (entry .pre .2) (omega arith) (omega arith))
 
 has-empty-requires : tie.Need-has-empty-requires
 has-empty-requires c κs = search needs
 
 returns-2 : tie.Need-returns-2
 returns-2 c =
-    let e = is-star (c .before .before .before .before .before .before .args .image .now) (c .before .before .before .before .before .before .args .n) (omega arith) in
-    not-so (λ h. h .lacks-0 (fieldA (c .before .before .before .before .before .before .args .image .now) (c .before .before .before .before .before .before .args .n)) e (c .before .before .before .before .before .before .pre .1 .only (fieldA (c .before .before .before .before .before .before .args .image .now) (c .before .before .before .before .before .before .args .n)) matches-empty (cc (c .before .has-empty .ensures, c .if2 .taken, c .before .before .before .before .node-at .ensures .its-a))))
+    let entry = c .before .before .before .before .before .before in
+    let e = is-star (entry .args .image .now) (entry .args .n) (omega arith) in
+    not-so (λ h. h .lacks-0 (fieldA (entry .args .image .now) (entry .args .n)) e (entry .pre .1 .only (fieldA (entry .args .image .now) (entry .args .n)) matches-empty (cc (c .before .has-empty .ensures, c .if2 .taken, c .before .before .before .before .node-at .ensures .its-a))))
 
 returns-3 : tie.Need-returns-3
 returns-3 c =
-    let img = c .before .before .before .before .before .before .args .image .now in
-    let n = c .before .before .before .before .before .before .args .n in
+    let entry = c .before .before .before .before .before .before in
+    let img = entry .args .image .now in
+    let n = entry .args .n in
     let e = is-star img n (omega arith) in
-    let child = c .before .before .before .before .before .before .pre .0 .words .node-words n (c .before .before .before .before .before .before .pre .2) .child-A (omega arith) (omega arith) in
-    let told : bit matches-empty (getD (c .before .before .before .before .before .before .args .known .now) (fieldA img n) 0) ≡ false = cc in
+    let child = entry .pre .0 .words .node-words n (entry .pre .2) .child-A (omega arith) (omega arith) in
+    let told : bit matches-empty (getD (entry .args .known .now) (fieldA img n) 0) ≡ false = cc in
     so
     (record {
       lacks-0 = λ a f h.
           let same : a ≡ fieldA img n = cc in
-          true≢false (sym (c .before .before .before .before .before .before .pre .1 .all (fieldA img n) matches-empty (child .1) (rw same at h)) ∙ told);
+          true≢false (sym (entry .pre .1 .all (fieldA img n) matches-empty (child .1) (rw same at h)) ∙ told);
     })
 
 pub star-consumes-spec : {M : Type 1} → statement M

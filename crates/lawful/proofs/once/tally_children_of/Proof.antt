@@ -11,25 +11,39 @@ node-at-requires : tie.Need-node-at-requires
 node-at-requires c κs = search needs
 
 tally-requires : tie.Need-tally-requires
-tally-requires c κs = (omega (arith, b-below (c .before .before .before .before .before .args .image .now) (c .before .before .before .before .before .pre .0) (c .before .before .before .before .before .pre .1) (c .before .before .before .before .before .args .n) (c .before .before .before .before .before .pre .2) (omega arith) (omega arith)), c .before .before .before .before .before .pre .3)
+tally-requires c κs =
+    let entry = c .before .before .before .before .before in
+    (omega (arith, b-below (entry .args .image .now) (entry .pre .0) (entry .pre .1) (entry .args .n) (entry .pre .2) (omega arith) (omega arith)), entry .pre .3)
 
 tally-requires-2 : tie.Need-tally-requires-2
-tally-requires-2 c κs = (omega (arith, a-below (c .before .before .before .before .before .before .before .args .image .now) (c .before .before .before .before .before .before .before .pre .0) (c .before .before .before .before .before .before .before .pre .1) (c .before .before .before .before .before .before .before .args .n) (c .before .before .before .before .before .before .before .pre .2) (omega arith) (omega arith)), omega (arith, c .before .tally .ensures .as-long, c .before .before .before .before .before .before .before .pre .3))
+tally-requires-2 c κs =
+    let entry = c .before .before .before .before .before .before .before in
+    (omega (arith, a-below (entry .args .image .now) (entry .pre .0) (entry .pre .1) (entry .args .n) (entry .pre .2) (omega arith) (omega arith)), omega (arith, c .before .tally .ensures .as-long, entry .pre .3))
 
 tally-requires-3 : tie.Need-tally-requires-3
-tally-requires-3 c κs = (omega (arith, a-below (c .before .before .before .before .before .before .args .image .now) (c .before .before .before .before .before .before .pre .0) (c .before .before .before .before .before .before .pre .1) (c .before .before .before .before .before .before .args .n) (c .before .before .before .before .before .before .pre .2) (omega arith) (omega arith)), c .before .before .before .before .before .before .pre .3)
+tally-requires-3 c κs =
+    let entry = c .before .before .before .before .before .before in
+    (omega (arith, a-below (entry .args .image .now) (entry .pre .0) (entry .pre .1) (entry .args .n) (entry .pre .2) (omega arith) (omega arith)), entry .pre .3)
 
 returns : tie.Need-returns
-returns c = rw (childless-below-3 (c .before .before .before .args .image .now) (c .before .before .before .args .n) (omega arith)) (tallied-none (c .before .before .before .args .counts .now))
+returns c =
+    let entry = c .before .before .before in
+    rw (childless-below-3 (entry .args .image .now) (entry .args .n) (omega arith)) (tallied-none (entry .args .counts .now))
 
 returns-2 : tie.Need-returns-2
-returns-2 c = rw (children-3-4 (c .before .before .before .before .before .before .before .before .args .image .now) (c .before .before .before .before .before .before .before .before .args .n) (omega arith) (omega arith), sym (c .before .before .before .before .before .before .node-at .ensures .its-a), sym (c .before .before .before .before .before .before .node-at .ensures .its-b)) (tallied-more (c .before .before .tally .ensures) (c .tally2 .ensures))
+returns-2 c =
+    let entry = c .before .before .before .before .before .before .before .before in
+    rw (children-3-4 (entry .args .image .now) (entry .args .n) (omega arith) (omega arith), sym (c .before .before .before .before .before .before .node-at .ensures .its-a), sym (c .before .before .before .before .before .before .node-at .ensures .its-b)) (tallied-more (c .before .before .tally .ensures) (c .tally2 .ensures))
 
 returns-3 : tie.Need-returns-3
-returns-3 c = rw (children-5-6 (c .before .before .before .before .before .before .before .args .image .now) (c .before .before .before .before .before .before .before .args .n) (omega arith) (omega arith), sym (c .before .before .before .before .before .node-at .ensures .its-a)) (c .tally3 .ensures)
+returns-3 c =
+    let entry = c .before .before .before .before .before .before .before in
+    rw (children-5-6 (entry .args .image .now) (entry .args .n) (omega arith) (omega arith), sym (c .before .before .before .before .before .node-at .ensures .its-a)) (c .tally3 .ensures)
 
 returns-4 : tie.Need-returns-4
-returns-4 c = rw (childless-from-7 (c .before .before .before .before .before .args .image .now) (c .before .before .before .before .before .args .n) (omega arith) (c .before .before .before .before .before .pre .1 .node-words (c .before .before .before .before .before .args .n) (c .before .before .before .before .before .pre .2) .known-kind)) (tallied-none (c .before .before .before .before .before .args .counts .now))
+returns-4 c =
+    let entry = c .before .before .before .before .before in
+    rw (childless-from-7 (entry .args .image .now) (entry .args .n) (omega arith) (entry .pre .1 .node-words (entry .args .n) (entry .pre .2) .known-kind)) (tallied-none (entry .args .counts .now))
 
 pub tally-children-of-spec : {M : Type 1} → statement M
 tally-children-of-spec =

@@ -8,37 +8,39 @@ use borrow.Author.Needs.{needs}
 use Rattle.listing.proofs.list.list_in.Statement.{statement}
 use Rattle.listing.proofs.list.list_in.Tie as tie
 
-slice-aggregate-walk-rule : tie.Need-slice-aggregate-walk-rule
-slice-aggregate-walk-rule c = search needs
+slice-aggregate-walk-all : tie.Need-slice-aggregate-walk-all
+slice-aggregate-walk-all c = search needs
 
-walk-rule-requires : tie.Need-walk-rule-requires
-walk-rule-requires c κs = search needs
+walk-all-requires : tie.Need-walk-all-requires
+walk-all-requires c κs = search needs
 
-sub-t17 : tie.Need-sub-t17
-sub-t17 c = search needs
+sub-t16 : tie.Need-sub-t16
+sub-t16 c = search needs
 
 returns : tie.Need-returns
 returns c =
-    refused (c .before .before .before .before .before .before .before .before .pre .0) (pair-bounded (rulesIn (c .before .before .before .before .before .before .before .before .args .words .now)) (c .before .before .before .before .before .before .before .before .args .root) (length (c .before .before .before .before .before .before .before .before .args .rows .now)) (c .before .before .before .before .before .before .before .before .args .text .now) (c .before .before .before .before .before .before .before .before .args .table .now) (nodeV (length (c .before .before .before .before .before .before .before .before .args .rows .now)) (c .before .before .before .before .before .before .before .before .args .words .now) (c .before .before .before .before .before .before .before .before .args .text .now) (c .before .before .before .before .before .before .before .before .args .table .now) 4096) (node-bounded (length (c .before .before .before .before .before .before .before .before .args .rows .now)) (c .before .before .before .before .before .before .before .before .args .words .now) (c .before .before .before .before .before .before .before .before .args .text .now) (c .before .before .before .before .before .before .before .before .args .table .now) 4096) (c .before .before .before .before .before .before .before .before .args .start) 0 0 (length (c .before .before .before .before .before .before .before .before .args .text .now)) 0 0 (omega arith) (omega arith)) (c .before .before .walk-rule .ensures) (c .if1 .taken)
+    let entry = c .before .before .before .before .before .before .before .before in
+    refused (entry .pre .0) (pair-bounded (rulesIn (entry .args .words .now)) (entry .args .root) (length (entry .args .rows .now)) (entry .args .text .now) (entry .args .table .now) (nodeV (length (entry .args .rows .now)) (entry .args .words .now) (entry .args .text .now) (entry .args .table .now) 4096) (node-bounded (length (entry .args .rows .now)) (entry .args .words .now) (entry .args .text .now) (entry .args .table .now) 4096) (entry .args .start) 0 0 (length (entry .args .text .now)) 0 0 (omega arith) (omega arith)) (c .before .before .walk-all .ensures) (c .if1 .taken)
 
-walk-rule-requires-2 : tie.Need-walk-rule-requires-2
-walk-rule-requires-2 c κs = search needs
+walk-all-requires-2 : tie.Need-walk-all-requires-2
+walk-all-requires-2 c κs = search needs
 
 same-length : tie.Need-same-length
 same-length c = search needs
 
 returns-2 : tie.Need-returns-2
 returns-2 c =
-    written (c .before .before .before .before .before .before .before .before .before .before .before .before .before .pre .0) (pair-bounded (rulesIn (c .before .before .before .before .before .before .before .before .before .before .before .before .before .args .words .now)) (c .before .before .before .before .before .before .before .before .before .before .before .before .before .args .root) (length (c .before .before .before .before .before .before .before .before .before .before .before .before .before .args .rows .now)) (c .before .before .before .before .before .before .before .before .before .before .before .before .before .args .text .now) (c .before .before .before .before .before .before .before .before .before .before .before .before .before .args .table .now) (nodeV (length (c .before .before .before .before .before .before .before .before .before .before .before .before .before .args .rows .now)) (c .before .before .before .before .before .before .before .before .before .before .before .before .before .args .words .now) (c .before .before .before .before .before .before .before .before .before .before .before .before .before .args .text .now) (c .before .before .before .before .before .before .before .before .before .before .before .before .before .args .table .now) 4096) (node-bounded (length (c .before .before .before .before .before .before .before .before .before .before .before .before .before .args .rows .now)) (c .before .before .before .before .before .before .before .before .before .before .before .before .before .args .words .now) (c .before .before .before .before .before .before .before .before .before .before .before .before .before .args .text .now) (c .before .before .before .before .before .before .before .before .before .before .before .before .before .args .table .now) 4096) (c .before .before .before .before .before .before .before .before .before .before .before .before .before .args .start) 0 0 (length (c .before .before .before .before .before .before .before .before .before .before .before .before .before .args .text .now)) 0 0 (omega arith) (omega arith)) (c .before .before .before .before .before .before .before .walk-rule .ensures) (c .before .before .before .before .before .if1 .left) (c .before .before .walk-rule2 .ensures)
+    let entry = c .before .before .before .before .before .before .before .before .before .before .before .before .before in
+    written (entry .pre .0) (pair-bounded (rulesIn (entry .args .words .now)) (entry .args .root) (length (entry .args .rows .now)) (entry .args .text .now) (entry .args .table .now) (nodeV (length (entry .args .rows .now)) (entry .args .words .now) (entry .args .text .now) (entry .args .table .now) 4096) (node-bounded (length (entry .args .rows .now)) (entry .args .words .now) (entry .args .text .now) (entry .args .table .now) 4096) (entry .args .start) 0 0 (length (entry .args .text .now)) 0 0 (omega arith) (omega arith)) (c .before .before .before .before .before .before .before .walk-all .ensures) (c .before .before .before .before .before .if1 .left) (c .before .before .walk-all2 .ensures)
 
 pub list-in-spec : {M : Type 1} → statement M
 list-in-spec =
     tie.close
     (tie.spec
-    slice-aggregate-walk-rule
-    walk-rule-requires
-    sub-t17
+    slice-aggregate-walk-all
+    walk-all-requires
+    sub-t16
     returns
-    walk-rule-requires-2
+    walk-all-requires-2
     same-length
     returns-2)

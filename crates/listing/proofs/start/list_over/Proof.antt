@@ -17,9 +17,10 @@ rule-at-requires c κs = search needs
 
 list-in-requires : tie.Need-list-in-requires
 list-in-requires c κs =
-    let small = root-small (c .before .before .before .before .before .before .before .before .before .args .image .now) (c .before .before .before .header-of .result .start) in (
-      c .before .before .before .before .before .before .before .before .before .pre .1,
-      omega (arith, c .before .before .before .header-of .ensures .its-start, c .before .before .before .before .before .before .before .before .before .pre .0 .lawful .counts .start-rule, c .before .before .before .before .before .before .before .before .before .pre .0 .lawful .counts .few-rules),
+    let entry = c .before .before .before .before .before .before .before .before .before in
+    let small = root-small (entry .args .image .now) (c .before .before .before .header-of .result .start) in (
+      entry .pre .1,
+      omega (arith, c .before .before .before .header-of .ensures .its-start, entry .pre .0 .lawful .counts .start-rule, entry .pre .0 .lawful .counts .few-rules),
       omega (arith, c .before .before .rule-at .ensures .its-root),
     )
 
@@ -28,8 +29,9 @@ same-length c = search needs
 
 returns : tie.Need-returns
 returns c =
-    let e : c .before .before .before .before .before .rule-at .result .root ≡ root (c .before .before .before .before .before .before .before .before .before .before .before .before .args .image .now) (start (c .before .before .before .before .before .before .before .before .before .before .before .before .args .image .now)) =
-    c .before .before .before .before .before .rule-at .ensures .its-root ∙ ap (root (c .before .before .before .before .before .before .before .before .before .before .before .before .args .image .now)) (c .before .before .before .before .before .before .header-of .ensures .its-start) in
+    let entry = c .before .before .before .before .before .before .before .before .before .before .before .before in
+    let e : c .before .before .before .before .before .rule-at .result .root ≡ root (entry .args .image .now) (start (entry .args .image .now)) =
+    c .before .before .before .before .before .rule-at .ensures .its-root ∙ ap (root (entry .args .image .now)) (c .before .before .before .before .before .before .header-of .ensures .its-start) in
     record { grammar = c .before .before .before .before .before .before .before .load .result; loaded = c .before .before .before .before .before .before .before .load .ensures; listed = rw (e, c .before .before .before .before .before .before .header-of .ensures .its-start) at (c .before .before .list-in .ensures) }
 
 pub list-over-spec : {M : Type 1} → statement M

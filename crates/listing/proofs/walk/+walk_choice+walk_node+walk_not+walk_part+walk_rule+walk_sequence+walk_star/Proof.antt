@@ -164,12 +164,16 @@ walk-choice-same-length t c = search needs
 walk-choice-returns : (t : ℕ) → walk-choice-lts.Need-returns (walk-choice-claims t) (walk-choice-at t) walk-choice.Post
 walk-choice-returns t c =
     let entry = c .before .before .before .before .before .before .before .before .before in
-    choice-first (entry .args .text .now) (entry .args .room) (nodeV (entry .args .room) (entry .args .words .now) (entry .args .text .now) (entry .args .table .now) (entry .args .left)) (entry .pre .1 .0 .short) (node-bounded (entry .args .room) (entry .args .words .now) (entry .args .text .now) (entry .args .table .now) (entry .args .left)) (pairV (rulesIn (entry .args .words .now)) (entry .args .b) (entry .args .room) (entry .args .text .now) (entry .args .table .now) (nodeV (entry .args .room) (entry .args .words .now) (entry .args .text .now) (entry .args .table .now) (entry .args .left))) (entry .args .a) (entry .args .b) (entry .args .at) (entry .args .lo) (entry .args .hi) (entry .args .depth) (entry .pre .1 .0 .here) (entry .pre .1 .0 .few) (c .before .before .before .walk-part .ensures) (c .if1 .taken)
+    let given = entry .args in
+    let inner = nodeV (given .room) (given .words .now) (given .text .now) (given .table .now) (given .left) in
+    choice-first (given .text .now) (given .room) inner (entry .pre .1 .0 .short) (node-bounded (given .room) (given .words .now) (given .text .now) (given .table .now) (given .left)) (pairV (rulesIn (given .words .now)) (given .b) (given .room) (given .text .now) (given .table .now) inner) (given .a) (given .b) (given .at) (given .lo) (given .hi) (given .depth) (entry .pre .1 .0 .here) (entry .pre .1 .0 .few) (c .before .before .before .walk-part .ensures) (c .if1 .taken)
 
 walk-choice-walk-node-requires : (t : ℕ) → walk-choice-lts.Need-walk-node-requires (walk-choice-claims t) (walk-choice-at t) walk-choice.Post
 walk-choice-walk-node-requires t c κs =
     let entry = c .before .before .before .before .before .before .before .before .before .before .before in
-    (omega (arith, entry .pre .0), (record { short = (entry .pre .1 .0 .short); here = (entry .pre .1 .0 .here); few = choice-failed (entry .args .text .now) (entry .args .room) (nodeV (entry .args .room) (entry .args .words .now) (entry .args .text .now) (entry .args .table .now) (entry .args .left)) (entry .pre .1 .0 .short) (node-bounded (entry .args .room) (entry .args .words .now) (entry .args .text .now) (entry .args .table .now) (entry .args .left)) (pairV (rulesIn (entry .args .words .now)) (entry .args .b) (entry .args .room) (entry .args .text .now) (entry .args .table .now) (nodeV (entry .args .room) (entry .args .words .now) (entry .args .text .now) (entry .args .table .now) (entry .args .left))) (entry .args .a) (entry .args .b) (entry .args .at) (entry .args .lo) (entry .args .hi) (entry .args .depth) (entry .pre .1 .0 .here) (entry .pre .1 .0 .few) (c .before .before .before .before .before .walk-part .ensures) (c .before .before .if1 .left); shallow = omega (arith, entry .pre .1 .0 .shallow) }, entry .pre .1 .2))
+    let given = entry .args in
+    let inner = nodeV (given .room) (given .words .now) (given .text .now) (given .table .now) (given .left) in
+    (omega (arith, entry .pre .0), (record { short = (entry .pre .1 .0 .short); here = (entry .pre .1 .0 .here); few = choice-failed (given .text .now) (given .room) inner (entry .pre .1 .0 .short) (node-bounded (given .room) (given .words .now) (given .text .now) (given .table .now) (given .left)) (pairV (rulesIn (given .words .now)) (given .b) (given .room) (given .text .now) (given .table .now) inner) (given .a) (given .b) (given .at) (given .lo) (given .hi) (given .depth) (entry .pre .1 .0 .here) (entry .pre .1 .0 .few) (c .before .before .before .before .before .walk-part .ensures) (c .before .before .if1 .left); shallow = omega (arith, entry .pre .1 .0 .shallow) }, entry .pre .1 .2))
 
 walk-choice-same-length-2 : (t : ℕ) → walk-choice-lts.Need-same-length-2 (walk-choice-claims t) (walk-choice-at t) walk-choice.Post
 walk-choice-same-length-2 t c = search needs
@@ -177,15 +181,17 @@ walk-choice-same-length-2 t c = search needs
 walk-choice-returns-2 : (t : ℕ) → walk-choice-lts.Need-returns-2 (walk-choice-claims t) (walk-choice-at t) walk-choice.Post
 walk-choice-returns-2 t c =
     let entry = c .before .before .before .before .before .before .before .before .before .before .before .before .before .before in
-    choice-second (entry .args .text .now) (entry .args .room) (nodeV (entry .args .room) (entry .args .words .now) (entry .args .text .now) (entry .args .table .now) (entry .args .left)) (entry .pre .1 .0 .short) (node-bounded (entry .args .room) (entry .args .words .now) (entry .args .text .now) (entry .args .table .now) (entry .args .left)) (pairV (rulesIn (entry .args .words .now)) (entry .args .b) (entry .args .room) (entry .args .text .now) (entry .args .table .now) (nodeV (entry .args .room) (entry .args .words .now) (entry .args .text .now) (entry .args .table .now) (entry .args .left))) (entry .args .a) (entry .args .b) (entry .args .at) (entry .args .lo) (entry .args .hi) (entry .args .depth) (entry .pre .1 .0 .here) (entry .pre .1 .0 .few) (c .before .before .before .before .before .before .before .before .walk-part .ensures) (c .before .before .before .before .before .if1 .left) (c .before .before .walk-node .ensures)
+    let given = entry .args in
+    let inner = nodeV (given .room) (given .words .now) (given .text .now) (given .table .now) (given .left) in
+    choice-second (given .text .now) (given .room) inner (entry .pre .1 .0 .short) (node-bounded (given .room) (given .words .now) (given .text .now) (given .table .now) (given .left)) (pairV (rulesIn (given .words .now)) (given .b) (given .room) (given .text .now) (given .table .now) inner) (given .a) (given .b) (given .at) (given .lo) (given .hi) (given .depth) (entry .pre .1 .0 .here) (entry .pre .1 .0 .few) (c .before .before .before .before .before .before .before .before .walk-part .ensures) (c .before .before .before .before .before .if1 .left) (c .before .before .walk-node .ensures)
 
 walk-node-add-result : (t : ℕ) → walk-node-lts.Need-add-result (walk-node-claims t) (walk-node-at t) walk-node.Post
 walk-node-add-result t c = search needs
 
 walk-node-returns : (t : ℕ) → walk-node-lts.Need-returns (walk-node-claims t) (walk-node-at t) walk-node.Post
 walk-node-returns t c =
-    let entry = c .before .before .before .before in
-    node-too-deep (entry .args .room) (entry .args .words .now) (entry .args .text .now) (entry .args .table .now) (entry .args .node) (entry .args .at) (entry .args .lo) (entry .args .hi) (entry .args .depth) (entry .args .count .now) (entry .args .rows .now) (entry .args .left) (c .if1 .taken)
+    let given = c .before .before .before .before .args in
+    node-too-deep (given .room) (given .words .now) (given .text .now) (given .table .now) (given .node) (given .at) (given .lo) (given .hi) (given .depth) (given .count .now) (given .rows .now) (given .left) (c .if1 .taken)
 
 walk-node-mul-node-of : (t : ℕ) → walk-node-lts.Need-mul-node-of (walk-node-claims t) (walk-node-at t) walk-node.Post
 walk-node-mul-node-of t c =
@@ -258,20 +264,20 @@ walk-node-add-result-3 t c = search needs
 walk-node-returns-2 : (t : ℕ) → walk-node-lts.Need-returns-2 (walk-node-claims t) (walk-node-at t) walk-node.Post
 unfolding nodeOfKind
 walk-node-returns-2 t c =
-    let entry = c .before .before .before .before .before .before .before in
-    node-goes (entry .args .room) (entry .args .words .now) (entry .args .text .now) (entry .args .table .now) (entry .args .node) (entry .args .at) (entry .args .lo) (entry .args .hi) (entry .args .depth) (entry .args .count .now) (entry .args .rows .now) (entry .args .left) (c .before .before .before .if1 .left) (word-is (getD (entry .args .words .now) (entry .args .node) 0) (c .before .node-of .ensures) {k = 0} (omega arith)) (empty-goes (entry .args .room) (entry .args .words .now) (entry .args .text .now) (entry .args .table .now) (entry .args .node) (entry .args .at) (entry .args .lo) (entry .args .hi) (entry .args .depth) (entry .args .count .now) (entry .args .rows .now) (entry .args .left - 1))
+    let given = c .before .before .before .before .before .before .before .args in
+    node-goes (given .room) (given .words .now) (given .text .now) (given .table .now) (given .node) (given .at) (given .lo) (given .hi) (given .depth) (given .count .now) (given .rows .now) (given .left) (c .before .before .before .if1 .left) (word-is (getD (given .words .now) (given .node) 0) (c .before .node-of .ensures) {k = 0} (omega arith)) (empty-goes (given .room) (given .words .now) (given .text .now) (given .table .now) (given .node) (given .at) (given .lo) (given .hi) (given .depth) (given .count .now) (given .rows .now) (given .left - 1))
 
 walk-node-returns-3 : (t : ℕ) → walk-node-lts.Need-returns-3 (walk-node-claims t) (walk-node-at t) walk-node.Post
 unfolding nodeOfKind
 walk-node-returns-3 t c =
-    let entry = c .before .before .before .before .before .before .before .before in
-    node-goes (entry .args .room) (entry .args .words .now) (entry .args .text .now) (entry .args .table .now) (entry .args .node) (entry .args .at) (entry .args .lo) (entry .args .hi) (entry .args .depth) (entry .args .count .now) (entry .args .rows .now) (entry .args .left) (c .before .before .before .before .if1 .left) (word-is (getD (entry .args .words .now) (entry .args .node) 0) (c .before .before .node-of .ensures) {k = 1} (omega arith)) (terminal-goes (entry .args .room) (entry .args .words .now) (entry .args .text .now) (entry .args .table .now) (entry .args .node) (entry .args .at) (entry .args .lo) (entry .args .hi) (entry .args .depth) (entry .args .count .now) (entry .args .rows .now) (entry .args .left - 1) any (c .any-byte .ensures))
+    let given = c .before .before .before .before .before .before .before .before .args in
+    node-goes (given .room) (given .words .now) (given .text .now) (given .table .now) (given .node) (given .at) (given .lo) (given .hi) (given .depth) (given .count .now) (given .rows .now) (given .left) (c .before .before .before .before .if1 .left) (word-is (getD (given .words .now) (given .node) 0) (c .before .before .node-of .ensures) {k = 1} (omega arith)) (terminal-goes (given .room) (given .words .now) (given .text .now) (given .table .now) (given .node) (given .at) (given .lo) (given .hi) (given .depth) (given .count .now) (given .rows .now) (given .left - 1) any (c .any-byte .ensures))
 
 walk-node-returns-4 : (t : ℕ) → walk-node-lts.Need-returns-4 (walk-node-claims t) (walk-node-at t) walk-node.Post
 unfolding nodeOfKind
 walk-node-returns-4 t c =
-    let entry = c .before .before .before .before .before .before .before .before in
-    node-goes (entry .args .room) (entry .args .words .now) (entry .args .text .now) (entry .args .table .now) (entry .args .node) (entry .args .at) (entry .args .lo) (entry .args .hi) (entry .args .depth) (entry .args .count .now) (entry .args .rows .now) (entry .args .left) (c .before .before .before .before .if1 .left) (word-is (getD (entry .args .words .now) (entry .args .node) 0) (c .before .before .node-of .ensures) {k = 2} (omega arith)) (terminal-goes (entry .args .room) (entry .args .words .now) (entry .args .text .now) (entry .args .table .now) (entry .args .node) (entry .args .at) (entry .args .lo) (entry .args .hi) (entry .args .depth) (entry .args .count .now) (entry .args .rows .now) (entry .args .left - 1) (range (c .before .before .node-of .result .a) (c .before .before .node-of .result .b)) (c .byte-between .ensures))
+    let given = c .before .before .before .before .before .before .before .before .args in
+    node-goes (given .room) (given .words .now) (given .text .now) (given .table .now) (given .node) (given .at) (given .lo) (given .hi) (given .depth) (given .count .now) (given .rows .now) (given .left) (c .before .before .before .before .if1 .left) (word-is (getD (given .words .now) (given .node) 0) (c .before .before .node-of .ensures) {k = 2} (omega arith)) (terminal-goes (given .room) (given .words .now) (given .text .now) (given .table .now) (given .node) (given .at) (given .lo) (given .hi) (given .depth) (given .count .now) (given .rows .now) (given .left - 1) (range (c .before .before .node-of .result .a) (c .before .before .node-of .result .b)) (c .byte-between .ensures))
 
 walk-node-same-length : (t : ℕ) → walk-node-lts.Need-same-length (walk-node-claims t) (walk-node-at t) walk-node.Post
 walk-node-same-length t c = search needs
@@ -279,8 +285,8 @@ walk-node-same-length t c = search needs
 walk-node-returns-5 : (t : ℕ) → walk-node-lts.Need-returns-5 (walk-node-claims t) (walk-node-at t) walk-node.Post
 unfolding nodeOfKind kindV
 walk-node-returns-5 t c =
-    let entry = c .before .before .before .before .before .before .before .before .before .before .before .before in
-    node-goes (entry .args .room) (entry .args .words .now) (entry .args .text .now) (entry .args .table .now) (entry .args .node) (entry .args .at) (entry .args .lo) (entry .args .hi) (entry .args .depth) (entry .args .count .now) (entry .args .rows .now) (entry .args .left) (c .before .before .before .before .before .before .before .before .if1 .left) (word-is (getD (entry .args .words .now) (entry .args .node) 0) (c .before .before .before .before .before .before .node-of .ensures) {k = 3} (omega arith)) (c .before .before .walk-sequence .ensures)
+    let given = c .before .before .before .before .before .before .before .before .before .before .before .before .args in
+    node-goes (given .room) (given .words .now) (given .text .now) (given .table .now) (given .node) (given .at) (given .lo) (given .hi) (given .depth) (given .count .now) (given .rows .now) (given .left) (c .before .before .before .before .before .before .before .before .if1 .left) (word-is (getD (given .words .now) (given .node) 0) (c .before .before .before .before .before .before .node-of .ensures) {k = 3} (omega arith)) (c .before .before .walk-sequence .ensures)
 
 walk-node-same-length-2 : (t : ℕ) → walk-node-lts.Need-same-length-2 (walk-node-claims t) (walk-node-at t) walk-node.Post
 walk-node-same-length-2 t c = search needs
@@ -288,8 +294,8 @@ walk-node-same-length-2 t c = search needs
 walk-node-returns-6 : (t : ℕ) → walk-node-lts.Need-returns-6 (walk-node-claims t) (walk-node-at t) walk-node.Post
 unfolding nodeOfKind kindV
 walk-node-returns-6 t c =
-    let entry = c .before .before .before .before .before .before .before .before .before .before .before .before in
-    node-goes (entry .args .room) (entry .args .words .now) (entry .args .text .now) (entry .args .table .now) (entry .args .node) (entry .args .at) (entry .args .lo) (entry .args .hi) (entry .args .depth) (entry .args .count .now) (entry .args .rows .now) (entry .args .left) (c .before .before .before .before .before .before .before .before .if1 .left) (word-is (getD (entry .args .words .now) (entry .args .node) 0) (c .before .before .before .before .before .before .node-of .ensures) {k = 4} (omega arith)) (c .before .before .walk-choice .ensures)
+    let given = c .before .before .before .before .before .before .before .before .before .before .before .before .args in
+    node-goes (given .room) (given .words .now) (given .text .now) (given .table .now) (given .node) (given .at) (given .lo) (given .hi) (given .depth) (given .count .now) (given .rows .now) (given .left) (c .before .before .before .before .before .before .before .before .if1 .left) (word-is (getD (given .words .now) (given .node) 0) (c .before .before .before .before .before .before .node-of .ensures) {k = 4} (omega arith)) (c .before .before .walk-choice .ensures)
 
 walk-node-same-length-3 : (t : ℕ) → walk-node-lts.Need-same-length-3 (walk-node-claims t) (walk-node-at t) walk-node.Post
 walk-node-same-length-3 t c = search needs
@@ -297,8 +303,8 @@ walk-node-same-length-3 t c = search needs
 walk-node-returns-7 : (t : ℕ) → walk-node-lts.Need-returns-7 (walk-node-claims t) (walk-node-at t) walk-node.Post
 unfolding nodeOfKind kindV
 walk-node-returns-7 t c =
-    let entry = c .before .before .before .before .before .before .before .before .before .before .before .before in
-    node-goes (entry .args .room) (entry .args .words .now) (entry .args .text .now) (entry .args .table .now) (entry .args .node) (entry .args .at) (entry .args .lo) (entry .args .hi) (entry .args .depth) (entry .args .count .now) (entry .args .rows .now) (entry .args .left) (c .before .before .before .before .before .before .before .before .if1 .left) (word-is (getD (entry .args .words .now) (entry .args .node) 0) (c .before .before .before .before .before .before .node-of .ensures) {k = 5} (omega arith)) (c .before .before .walk-star .ensures)
+    let given = c .before .before .before .before .before .before .before .before .before .before .before .before .args in
+    node-goes (given .room) (given .words .now) (given .text .now) (given .table .now) (given .node) (given .at) (given .lo) (given .hi) (given .depth) (given .count .now) (given .rows .now) (given .left) (c .before .before .before .before .before .before .before .before .if1 .left) (word-is (getD (given .words .now) (given .node) 0) (c .before .before .before .before .before .before .node-of .ensures) {k = 5} (omega arith)) (c .before .before .walk-star .ensures)
 
 walk-node-same-length-4 : (t : ℕ) → walk-node-lts.Need-same-length-4 (walk-node-claims t) (walk-node-at t) walk-node.Post
 walk-node-same-length-4 t c = search needs
@@ -306,8 +312,8 @@ walk-node-same-length-4 t c = search needs
 walk-node-returns-8 : (t : ℕ) → walk-node-lts.Need-returns-8 (walk-node-claims t) (walk-node-at t) walk-node.Post
 unfolding nodeOfKind kindV
 walk-node-returns-8 t c =
-    let entry = c .before .before .before .before .before .before .before .before .before .before .before .before in
-    node-goes (entry .args .room) (entry .args .words .now) (entry .args .text .now) (entry .args .table .now) (entry .args .node) (entry .args .at) (entry .args .lo) (entry .args .hi) (entry .args .depth) (entry .args .count .now) (entry .args .rows .now) (entry .args .left) (c .before .before .before .before .before .before .before .before .if1 .left) (word-is (getD (entry .args .words .now) (entry .args .node) 0) (c .before .before .before .before .before .before .node-of .ensures) {k = 6} (omega arith)) (c .before .before .walk-not .ensures)
+    let given = c .before .before .before .before .before .before .before .before .before .before .before .before .args in
+    node-goes (given .room) (given .words .now) (given .text .now) (given .table .now) (given .node) (given .at) (given .lo) (given .hi) (given .depth) (given .count .now) (given .rows .now) (given .left) (c .before .before .before .before .before .before .before .before .if1 .left) (word-is (getD (given .words .now) (given .node) 0) (c .before .before .before .before .before .before .node-of .ensures) {k = 6} (omega arith)) (c .before .before .walk-not .ensures)
 
 walk-node-same-length-5 : (t : ℕ) → walk-node-lts.Need-same-length-5 (walk-node-claims t) (walk-node-at t) walk-node.Post
 walk-node-same-length-5 t c = search needs
@@ -315,20 +321,20 @@ walk-node-same-length-5 t c = search needs
 walk-node-returns-9 : (t : ℕ) → walk-node-lts.Need-returns-9 (walk-node-claims t) (walk-node-at t) walk-node.Post
 unfolding nodeOfKind kindV
 walk-node-returns-9 t c =
-    let entry = c .before .before .before .before .before .before .before .before .before .before .before .before in
-    node-goes (entry .args .room) (entry .args .words .now) (entry .args .text .now) (entry .args .table .now) (entry .args .node) (entry .args .at) (entry .args .lo) (entry .args .hi) (entry .args .depth) (entry .args .count .now) (entry .args .rows .now) (entry .args .left) (c .before .before .before .before .before .before .before .before .if1 .left) (word-is (getD (entry .args .words .now) (entry .args .node) 0) (c .before .before .before .before .before .before .node-of .ensures) {k = 7} (omega arith)) (rw (c .before .before .before .before .before .before .node-of .ensures .its-b) at (c .before .before .walk-rule .ensures))
+    let given = c .before .before .before .before .before .before .before .before .before .before .before .before .args in
+    node-goes (given .room) (given .words .now) (given .text .now) (given .table .now) (given .node) (given .at) (given .lo) (given .hi) (given .depth) (given .count .now) (given .rows .now) (given .left) (c .before .before .before .before .before .before .before .before .if1 .left) (word-is (getD (given .words .now) (given .node) 0) (c .before .before .before .before .before .before .node-of .ensures) {k = 7} (omega arith)) (rw (c .before .before .before .before .before .before .node-of .ensures .its-b) at (c .before .before .walk-rule .ensures))
 
 walk-node-returns-10 : (t : ℕ) → walk-node-lts.Need-returns-10 (walk-node-claims t) (walk-node-at t) walk-node.Post
 walk-node-returns-10 t c =
-    let entry = c .before .before .before .before .before .before .before .before in
+    let given = c .before .before .before .before .before .before .before .before .args in
     let k = past-7 (c .before .before .node-of .result .kind) (c .before .match .rest .0 .0 .0 .0 .0 .0 .0 .1) (c .before .match .rest .0 .0 .0 .0 .0 .0 .1) (c .before .match .rest .0 .0 .0 .0 .0 .1) (c .before .match .rest .0 .0 .0 .0 .1) (c .before .match .rest .0 .0 .0 .1) (c .before .match .rest .0 .0 .1) (c .before .match .rest .0 .1) (c .before .match .rest .1) in
-    node-goes (entry .args .room) (entry .args .words .now) (entry .args .text .now) (entry .args .table .now) (entry .args .node) (entry .args .at) (entry .args .lo) (entry .args .hi) (entry .args .depth) (entry .args .count .now) (entry .args .rows .now) (entry .args .left) (c .before .before .before .before .if1 .left) (word-unlawful (getD (entry .args .words .now) (entry .args .node) 0) (c .before .before .node-of .ensures) k) (unlawful-goes (entry .args .room) (entry .args .words .now) (entry .args .text .now) (entry .args .table .now) (entry .args .node) (entry .args .at) (entry .args .lo) (entry .args .hi) (entry .args .depth) (entry .args .count .now) (entry .args .rows .now) (entry .args .left - 1))
+    node-goes (given .room) (given .words .now) (given .text .now) (given .table .now) (given .node) (given .at) (given .lo) (given .hi) (given .depth) (given .count .now) (given .rows .now) (given .left) (c .before .before .before .before .if1 .left) (word-unlawful (getD (given .words .now) (given .node) 0) (c .before .before .node-of .ensures) k) (unlawful-goes (given .room) (given .words .now) (given .text .now) (given .table .now) (given .node) (given .at) (given .lo) (given .hi) (given .depth) (given .count .now) (given .rows .now) (given .left - 1))
 
 walk-node-returns-11 : (t : ℕ) → walk-node-lts.Need-returns-11 (walk-node-claims t) (walk-node-at t) walk-node.Post
 walk-node-returns-11 t c =
-    let entry = c .before .before .before .before .before .before .before .before in
+    let given = c .before .before .before .before .before .before .before .before .args in
     let k = past-7 (c .before .before .node-of .result .kind) (c .before .match .rest .0 .0 .0 .0 .0 .0 .0 .1) (c .before .match .rest .0 .0 .0 .0 .0 .0 .1) (c .before .match .rest .0 .0 .0 .0 .0 .1) (c .before .match .rest .0 .0 .0 .0 .1) (c .before .match .rest .0 .0 .0 .1) (c .before .match .rest .0 .0 .1) (c .before .match .rest .0 .1) (c .before .match .rest .1) in
-    node-goes (entry .args .room) (entry .args .words .now) (entry .args .text .now) (entry .args .table .now) (entry .args .node) (entry .args .at) (entry .args .lo) (entry .args .hi) (entry .args .depth) (entry .args .count .now) (entry .args .rows .now) (entry .args .left) (c .before .before .before .before .if1 .left) (word-unlawful (getD (entry .args .words .now) (entry .args .node) 0) (c .before .before .node-of .ensures) k) (unlawful-goes (entry .args .room) (entry .args .words .now) (entry .args .text .now) (entry .args .table .now) (entry .args .node) (entry .args .at) (entry .args .lo) (entry .args .hi) (entry .args .depth) (entry .args .count .now) (entry .args .rows .now) (entry .args .left - 1))
+    node-goes (given .room) (given .words .now) (given .text .now) (given .table .now) (given .node) (given .at) (given .lo) (given .hi) (given .depth) (given .count .now) (given .rows .now) (given .left) (c .before .before .before .before .if1 .left) (word-unlawful (getD (given .words .now) (given .node) 0) (c .before .before .node-of .ensures) k) (unlawful-goes (given .room) (given .words .now) (given .text .now) (given .table .now) (given .node) (given .at) (given .lo) (given .hi) (given .depth) (given .count .now) (given .rows .now) (given .left - 1))
 
 walk-not-add-walk-node : (t : ℕ) → walk-not-lts.Need-add-walk-node (walk-not-claims t) (walk-not-at t) walk-not.Post
 walk-not-add-walk-node t c =
@@ -347,7 +353,9 @@ walk-not-same-length t c = search needs
 walk-not-returns : (t : ℕ) → walk-not-lts.Need-returns (walk-not-claims t) (walk-not-at t) walk-not.Post
 walk-not-returns t c =
     let entry = c .before .before .before .before .before .before .before .before .before in
-    not-stops (entry .args .text .now) (entry .args .room) (nodeV (entry .args .room) (entry .args .words .now) (entry .args .text .now) (entry .args .table .now) (entry .args .left)) (entry .pre .1 .0 .short) (node-bounded (entry .args .room) (entry .args .words .now) (entry .args .text .now) (entry .args .table .now) (entry .args .left)) (pairV (rulesIn (entry .args .words .now)) 0 (entry .args .room) (entry .args .text .now) (entry .args .table .now) (nodeV (entry .args .room) (entry .args .words .now) (entry .args .text .now) (entry .args .table .now) (entry .args .left))) (entry .args .a) (entry .args .at) 0 0 (entry .args .depth) (entry .pre .1 .0 .here) (entry .pre .1 .0 .few) (c .before .before .before .walk-node .ensures) (c .if1 .taken)
+    let given = entry .args in
+    let inner = nodeV (given .room) (given .words .now) (given .text .now) (given .table .now) (given .left) in
+    not-stops (given .text .now) (given .room) inner (entry .pre .1 .0 .short) (node-bounded (given .room) (given .words .now) (given .text .now) (given .table .now) (given .left)) (pairV (rulesIn (given .words .now)) 0 (given .room) (given .text .now) (given .table .now) inner) (given .a) (given .at) 0 0 (given .depth) (entry .pre .1 .0 .here) (entry .pre .1 .0 .few) (c .before .before .before .walk-node .ensures) (c .if1 .taken)
 
 walk-not-same-length-2 : (t : ℕ) → walk-not-lts.Need-same-length-2 (walk-not-claims t) (walk-not-at t) walk-not.Post
 walk-not-same-length-2 t c = search needs
@@ -355,7 +363,9 @@ walk-not-same-length-2 t c = search needs
 walk-not-returns-2 : (t : ℕ) → walk-not-lts.Need-returns-2 (walk-not-claims t) (walk-not-at t) walk-not.Post
 walk-not-returns-2 t c =
     let entry = c .before .before .before .before .before .before .before .before .before .before in
-    not-fails (entry .args .text .now) (entry .args .room) (nodeV (entry .args .room) (entry .args .words .now) (entry .args .text .now) (entry .args .table .now) (entry .args .left)) (entry .pre .1 .0 .short) (node-bounded (entry .args .room) (entry .args .words .now) (entry .args .text .now) (entry .args .table .now) (entry .args .left)) (pairV (rulesIn (entry .args .words .now)) 0 (entry .args .room) (entry .args .text .now) (entry .args .table .now) (nodeV (entry .args .room) (entry .args .words .now) (entry .args .text .now) (entry .args .table .now) (entry .args .left))) (entry .args .a) (entry .args .at) 0 0 (entry .args .depth) (entry .pre .1 .0 .here) (entry .pre .1 .0 .few) (c .before .before .before .before .walk-node .ensures) (c .if2 .taken)
+    let given = entry .args in
+    let inner = nodeV (given .room) (given .words .now) (given .text .now) (given .table .now) (given .left) in
+    not-fails (given .text .now) (given .room) inner (entry .pre .1 .0 .short) (node-bounded (given .room) (given .words .now) (given .text .now) (given .table .now) (given .left)) (pairV (rulesIn (given .words .now)) 0 (given .room) (given .text .now) (given .table .now) inner) (given .a) (given .at) 0 0 (given .depth) (entry .pre .1 .0 .here) (entry .pre .1 .0 .few) (c .before .before .before .before .walk-node .ensures) (c .if2 .taken)
 
 walk-not-same-length-3 : (t : ℕ) → walk-not-lts.Need-same-length-3 (walk-not-claims t) (walk-not-at t) walk-not.Post
 walk-not-same-length-3 t c = search needs
@@ -363,7 +373,9 @@ walk-not-same-length-3 t c = search needs
 walk-not-returns-3 : (t : ℕ) → walk-not-lts.Need-returns-3 (walk-not-claims t) (walk-not-at t) walk-not.Post
 walk-not-returns-3 t c =
     let entry = c .before .before .before .before .before .before .before .before .before .before in
-    not-matches (entry .args .text .now) (entry .args .room) (nodeV (entry .args .room) (entry .args .words .now) (entry .args .text .now) (entry .args .table .now) (entry .args .left)) (entry .pre .1 .0 .short) (node-bounded (entry .args .room) (entry .args .words .now) (entry .args .text .now) (entry .args .table .now) (entry .args .left)) (pairV (rulesIn (entry .args .words .now)) 0 (entry .args .room) (entry .args .text .now) (entry .args .table .now) (nodeV (entry .args .room) (entry .args .words .now) (entry .args .text .now) (entry .args .table .now) (entry .args .left))) (entry .args .a) (entry .args .at) 0 0 (entry .args .depth) (entry .pre .1 .0 .here) (entry .pre .1 .0 .few) (c .before .before .before .before .walk-node .ensures) (let a = c .before .if1 .left in let b = c .if2 .left in omega arith)
+    let given = entry .args in
+    let inner = nodeV (given .room) (given .words .now) (given .text .now) (given .table .now) (given .left) in
+    not-matches (given .text .now) (given .room) inner (entry .pre .1 .0 .short) (node-bounded (given .room) (given .words .now) (given .text .now) (given .table .now) (given .left)) (pairV (rulesIn (given .words .now)) 0 (given .room) (given .text .now) (given .table .now) inner) (given .a) (given .at) 0 0 (given .depth) (entry .pre .1 .0 .here) (entry .pre .1 .0 .few) (c .before .before .before .before .walk-node .ensures) (let a = c .before .if1 .left in let b = c .if2 .left in omega arith)
 
 walk-part-add-walk-node : (t : ℕ) → walk-part-lts.Need-add-walk-node (walk-part-claims t) (walk-part-at t) walk-part.Post
 walk-part-add-walk-node t c =
@@ -380,12 +392,16 @@ walk-part-same-length t c = search needs
 walk-part-returns : (t : ℕ) → walk-part-lts.Need-returns (walk-part-claims t) (walk-part-at t) walk-part.Post
 walk-part-returns t c =
     let entry = c .before .before .before .before .before .before .before .before .before in
-    part-ends (entry .args .text .now) (entry .args .room) (nodeV (entry .args .room) (entry .args .words .now) (entry .args .text .now) (entry .args .table .now) (entry .args .left)) (entry .pre .1 .0 .short) (node-bounded (entry .args .room) (entry .args .words .now) (entry .args .text .now) (entry .args .table .now) (entry .args .left)) (pairV (rulesIn (entry .args .words .now)) 0 (entry .args .room) (entry .args .text .now) (entry .args .table .now) (nodeV (entry .args .room) (entry .args .words .now) (entry .args .text .now) (entry .args .table .now) (entry .args .left))) (entry .args .a) (entry .args .at) (entry .args .lo) (entry .args .hi) (entry .args .depth) (entry .pre .1 .0 .here) (entry .pre .1 .0 .few) (c .before .before .before .walk-node .ensures) (c .if1 .taken)
+    let given = entry .args in
+    let inner = nodeV (given .room) (given .words .now) (given .text .now) (given .table .now) (given .left) in
+    part-ends (given .text .now) (given .room) inner (entry .pre .1 .0 .short) (node-bounded (given .room) (given .words .now) (given .text .now) (given .table .now) (given .left)) (pairV (rulesIn (given .words .now)) 0 (given .room) (given .text .now) (given .table .now) inner) (given .a) (given .at) (given .lo) (given .hi) (given .depth) (entry .pre .1 .0 .here) (entry .pre .1 .0 .few) (c .before .before .before .walk-node .ensures) (c .if1 .taken)
 
 walk-part-touched-requires : (t : ℕ) → walk-part-lts.Need-touched-requires (walk-part-claims t) (walk-part-at t) walk-part.Post
 walk-part-touched-requires t c κs =
     let entry = c .before .before .before .before .before .before .before .before .before in
-    omega (arith, (part-found (entry .args .text .now) (entry .args .room) (nodeV (entry .args .room) (entry .args .words .now) (entry .args .text .now) (entry .args .table .now) (entry .args .left)) (entry .pre .1 .0 .short) (node-bounded (entry .args .room) (entry .args .words .now) (entry .args .text .now) (entry .args .table .now) (entry .args .left)) (pairV (rulesIn (entry .args .words .now)) 0 (entry .args .room) (entry .args .text .now) (entry .args .table .now) (nodeV (entry .args .room) (entry .args .words .now) (entry .args .text .now) (entry .args .table .now) (entry .args .left))) (entry .args .a) (entry .args .at) (entry .args .lo) (entry .args .hi) (entry .args .depth) (entry .pre .1 .0 .here) (entry .pre .1 .0 .few) (c .before .before .before .walk-node .ensures) (c .if1 .left)) .in-text, (entry .pre .1 .0 .short))
+    let given = entry .args in
+    let inner = nodeV (given .room) (given .words .now) (given .text .now) (given .table .now) (given .left) in
+    omega (arith, (part-found (given .text .now) (given .room) inner (entry .pre .1 .0 .short) (node-bounded (given .room) (given .words .now) (given .text .now) (given .table .now) (given .left)) (pairV (rulesIn (given .words .now)) 0 (given .room) (given .text .now) (given .table .now) inner) (given .a) (given .at) (given .lo) (given .hi) (given .depth) (entry .pre .1 .0 .here) (entry .pre .1 .0 .few) (c .before .before .before .walk-node .ensures) (c .if1 .left)) .in-text, (entry .pre .1 .0 .short))
 
 walk-part-same-length-2 : (t : ℕ) → walk-part-lts.Need-same-length-2 (walk-part-claims t) (walk-part-at t) walk-part.Post
 walk-part-same-length-2 t c = search needs
@@ -393,12 +409,16 @@ walk-part-same-length-2 t c = search needs
 walk-part-returns-2 : (t : ℕ) → walk-part-lts.Need-returns-2 (walk-part-claims t) (walk-part-at t) walk-part.Post
 walk-part-returns-2 t c =
     let entry = c .before .before .before .before .before .before .before .before .before .before .before in
-    part-missed (entry .args .text .now) (entry .args .room) (nodeV (entry .args .room) (entry .args .words .now) (entry .args .text .now) (entry .args .table .now) (entry .args .left)) (entry .pre .1 .0 .short) (node-bounded (entry .args .room) (entry .args .words .now) (entry .args .text .now) (entry .args .table .now) (entry .args .left)) (pairV (rulesIn (entry .args .words .now)) 0 (entry .args .room) (entry .args .text .now) (entry .args .table .now) (nodeV (entry .args .room) (entry .args .words .now) (entry .args .text .now) (entry .args .table .now) (entry .args .left))) (entry .args .a) (entry .args .at) (entry .args .lo) (entry .args .hi) (entry .args .depth) (entry .pre .1 .0 .here) (entry .pre .1 .0 .few) (c .before .before .before .before .before .walk-node .ensures) (c .before .before .if1 .left) (sym (c .before .touched .ensures) ∙ not-true (c .before .touched .result) (c .if2 .taken))
+    let given = entry .args in
+    let inner = nodeV (given .room) (given .words .now) (given .text .now) (given .table .now) (given .left) in
+    part-missed (given .text .now) (given .room) inner (entry .pre .1 .0 .short) (node-bounded (given .room) (given .words .now) (given .text .now) (given .table .now) (given .left)) (pairV (rulesIn (given .words .now)) 0 (given .room) (given .text .now) (given .table .now) inner) (given .a) (given .at) (given .lo) (given .hi) (given .depth) (entry .pre .1 .0 .here) (entry .pre .1 .0 .few) (c .before .before .before .before .before .walk-node .ensures) (c .before .before .if1 .left) (sym (c .before .touched .ensures) ∙ not-true (c .before .touched .result) (c .if2 .taken))
 
 walk-part-walk-node-requires-2 : (t : ℕ) → walk-part-lts.Need-walk-node-requires-2 (walk-part-claims t) (walk-part-at t) walk-part.Post
 walk-part-walk-node-requires-2 t c κs =
     let entry = c .before .before .before .before .before .before .before .before .before .before .before .before .before in
-    (omega (arith, entry .pre .0), (record { short = (entry .pre .1 .0 .short); here = (entry .pre .1 .0 .here); few = (part-found (entry .args .text .now) (entry .args .room) (nodeV (entry .args .room) (entry .args .words .now) (entry .args .text .now) (entry .args .table .now) (entry .args .left)) (entry .pre .1 .0 .short) (node-bounded (entry .args .room) (entry .args .words .now) (entry .args .text .now) (entry .args .table .now) (entry .args .left)) (pairV (rulesIn (entry .args .words .now)) 0 (entry .args .room) (entry .args .text .now) (entry .args .table .now) (nodeV (entry .args .room) (entry .args .words .now) (entry .args .text .now) (entry .args .table .now) (entry .args .left))) (entry .args .a) (entry .args .at) (entry .args .lo) (entry .args .hi) (entry .args .depth) (entry .pre .1 .0 .here) (entry .pre .1 .0 .few) (c .before .before .before .before .before .before .before .walk-node .ensures) (c .before .before .before .before .if1 .left)) .few; shallow = omega (arith, entry .pre .1 .0 .shallow) }, entry .pre .1 .1))
+    let given = entry .args in
+    let inner = nodeV (given .room) (given .words .now) (given .text .now) (given .table .now) (given .left) in
+    (omega (arith, entry .pre .0), (record { short = (entry .pre .1 .0 .short); here = (entry .pre .1 .0 .here); few = (part-found (given .text .now) (given .room) inner (entry .pre .1 .0 .short) (node-bounded (given .room) (given .words .now) (given .text .now) (given .table .now) (given .left)) (pairV (rulesIn (given .words .now)) 0 (given .room) (given .text .now) (given .table .now) inner) (given .a) (given .at) (given .lo) (given .hi) (given .depth) (entry .pre .1 .0 .here) (entry .pre .1 .0 .few) (c .before .before .before .before .before .before .before .walk-node .ensures) (c .before .before .before .before .if1 .left)) .few; shallow = omega (arith, entry .pre .1 .0 .shallow) }, entry .pre .1 .1))
 
 walk-part-same-length-3 : (t : ℕ) → walk-part-lts.Need-same-length-3 (walk-part-claims t) (walk-part-at t) walk-part.Post
 walk-part-same-length-3 t c = search needs
@@ -406,7 +426,9 @@ walk-part-same-length-3 t c = search needs
 walk-part-returns-3 : (t : ℕ) → walk-part-lts.Need-returns-3 (walk-part-claims t) (walk-part-at t) walk-part.Post
 walk-part-returns-3 t c =
     let entry = c .before .before .before .before .before .before .before .before .before .before .before .before .before .before .before .before in
-    part-goes (entry .args .text .now) (entry .args .room) (nodeV (entry .args .room) (entry .args .words .now) (entry .args .text .now) (entry .args .table .now) (entry .args .left)) (entry .pre .1 .0 .short) (node-bounded (entry .args .room) (entry .args .words .now) (entry .args .text .now) (entry .args .table .now) (entry .args .left)) (pairV (rulesIn (entry .args .words .now)) 0 (entry .args .room) (entry .args .text .now) (entry .args .table .now) (nodeV (entry .args .room) (entry .args .words .now) (entry .args .text .now) (entry .args .table .now) (entry .args .left))) (entry .args .a) (entry .args .at) (entry .args .lo) (entry .args .hi) (entry .args .depth) (entry .pre .1 .0 .here) (entry .pre .1 .0 .few) (c .before .before .before .before .before .before .before .before .before .before .walk-node .ensures) (c .before .before .before .before .before .before .before .if1 .left) (sym (c .before .before .before .before .before .before .touched .ensures) ∙ not-false (c .before .before .before .before .before .before .touched .result) (c .before .before .before .before .before .if2 .left)) (c .before .before .walk-node2 .ensures)
+    let given = entry .args in
+    let inner = nodeV (given .room) (given .words .now) (given .text .now) (given .table .now) (given .left) in
+    part-goes (given .text .now) (given .room) inner (entry .pre .1 .0 .short) (node-bounded (given .room) (given .words .now) (given .text .now) (given .table .now) (given .left)) (pairV (rulesIn (given .words .now)) 0 (given .room) (given .text .now) (given .table .now) inner) (given .a) (given .at) (given .lo) (given .hi) (given .depth) (entry .pre .1 .0 .here) (entry .pre .1 .0 .few) (c .before .before .before .before .before .before .before .before .before .before .walk-node .ensures) (c .before .before .before .before .before .before .before .if1 .left) (sym (c .before .before .before .before .before .before .touched .ensures) ∙ not-false (c .before .before .before .before .before .before .touched .result) (c .before .before .before .before .before .if2 .left)) (c .before .before .walk-node2 .ensures)
 
 walk-rule-element-copy-out-wide : (t : ℕ) → walk-rule-lts.Need-element-copy-out-wide (walk-rule-claims t) (walk-rule-at t) walk-rule.Post
 walk-rule-element-copy-out-wide t c = search needs
@@ -435,8 +457,8 @@ walk-rule-add-result t c = search needs
 
 walk-rule-returns : (t : ℕ) → walk-rule-lts.Need-returns (walk-rule-claims t) (walk-rule-at t) walk-rule.Post
 walk-rule-returns t c =
-    let entry = c .before .before .before .before .before .before .before .before in
-    rule-empty (rulesIn (entry .args .words .now)) (entry .args .root) (entry .args .room) (entry .args .text .now) (entry .args .table .now) (nodeV (entry .args .room) (entry .args .words .now) (entry .args .text .now) (entry .args .table .now) (entry .args .left)) (entry .args .rule) (entry .args .at) (entry .args .lo) (entry .args .hi) (entry .args .depth) (c .before .before .look .ensures ∙ ap (λ (n : ℕ). getD (entry .args .table .now) ((entry .args .at) * n + (entry .args .rule)) 0) (c .before .before .before .wide .ensures .0)) (entry .args .count .now) (entry .args .rows .now) (sym (c .before .is-held .ensures) ∙ not-true (c .before .is-held .result) (c .if1 .taken))
+    let given = c .before .before .before .before .before .before .before .before .args in
+    rule-empty (rulesIn (given .words .now)) (given .root) (given .room) (given .text .now) (given .table .now) (nodeV (given .room) (given .words .now) (given .text .now) (given .table .now) (given .left)) (given .rule) (given .at) (given .lo) (given .hi) (given .depth) (c .before .before .look .ensures ∙ ap (λ (n : ℕ). getD (given .table .now) ((given .at) * n + (given .rule)) 0) (c .before .before .before .wide .ensures .0)) (given .count .now) (given .rows .now) (sym (c .before .is-held .ensures) ∙ not-true (c .before .is-held .result) (c .if1 .taken))
 
 walk-rule-from-word-requires : (t : ℕ) → walk-rule-lts.Need-from-word-requires (walk-rule-claims t) (walk-rule-at t) walk-rule.Post
 walk-rule-from-word-requires t c κs = search needs
@@ -452,51 +474,53 @@ walk-rule-add-result-2 t c = search needs
 
 walk-rule-returns-2 : (t : ℕ) → walk-rule-lts.Need-returns-2 (walk-rule-claims t) (walk-rule-at t) walk-rule.Post
 walk-rule-returns-2 t c =
-    let entry = c .before .before .before .before .before .before .before .before .before .before .before in
-    rule-impossible (rulesIn (entry .args .words .now)) (entry .args .root) (entry .args .room) (entry .args .text .now) (entry .args .table .now) (nodeV (entry .args .room) (entry .args .words .now) (entry .args .text .now) (entry .args .table .now) (entry .args .left)) (entry .args .rule) (entry .args .at) (entry .args .lo) (entry .args .hi) (entry .args .depth) (c .before .before .before .before .before .look .ensures ∙ ap (λ (n : ℕ). getD (entry .args .table .now) ((entry .args .at) * n + (entry .args .rule)) 0) (c .before .before .before .before .before .before .wide .ensures .0)) (entry .args .count .now) (entry .args .rows .now) (was-impossible (recordOf (c .before .before .before .before .before .look .result)) (possible (c .before .before .before .before .before .look .result) (entry .args .at) (length (entry .args .text .now))) (sym (c .enum-told .given .1) ∙ c .before .before .from-word .ensures))
+    let given = c .before .before .before .before .before .before .before .before .before .before .before .args in
+    rule-impossible (rulesIn (given .words .now)) (given .root) (given .room) (given .text .now) (given .table .now) (nodeV (given .room) (given .words .now) (given .text .now) (given .table .now) (given .left)) (given .rule) (given .at) (given .lo) (given .hi) (given .depth) (c .before .before .before .before .before .look .ensures ∙ ap (λ (n : ℕ). getD (given .table .now) ((given .at) * n + (given .rule)) 0) (c .before .before .before .before .before .before .wide .ensures .0)) (given .count .now) (given .rows .now) (was-impossible (recordOf (c .before .before .before .before .before .look .result)) (possible (c .before .before .before .before .before .look .result) (given .at) (length (given .text .now))) (sym (c .enum-told .given .1) ∙ c .before .before .from-word .ensures))
 
 walk-rule-returns-3 : (t : ℕ) → walk-rule-lts.Need-returns-3 (walk-rule-claims t) (walk-rule-at t) walk-rule.Post
 walk-rule-returns-3 t c =
-    let entry = c .before .before .before .before .before .before .before .before .before .before .before .before .before .before in
-    let w = was-possible (c .before .before .before .held .given .0 .0) (recordOf (c .before .before .before .before .before .before .before .before .look .result)) (possible (c .before .before .before .before .before .before .before .before .look .result) (entry .args .at) (length (entry .args .text .now))) (sym (c .before .before .before .held .given .1) ∙ c .before .before .before .before .before .from-word .ensures) in
+    let given = c .before .before .before .before .before .before .before .before .before .before .before .before .before .before .args in
+    let w = was-possible (c .before .before .before .held .given .0 .0) (recordOf (c .before .before .before .before .before .before .before .before .look .result)) (possible (c .before .before .before .before .before .before .before .before .look .result) (given .at) (length (given .text .now))) (sym (c .before .before .before .held .given .1) ∙ c .before .before .before .before .before .from-word .ensures) in
     let m = ap (λ (r : Record). r .matched) (w .1) in
     let n = ap (λ (r : Record). r .length) (w .1) in
-    rule-failed (rulesIn (entry .args .words .now)) (entry .args .root) (entry .args .room) (entry .args .text .now) (entry .args .table .now) (nodeV (entry .args .room) (entry .args .words .now) (entry .args .text .now) (entry .args .table .now) (entry .args .left)) (entry .args .rule) (entry .args .at) (entry .args .lo) (entry .args .hi) (entry .args .depth) (c .before .before .before .before .before .before .before .before .look .ensures ∙ ap (λ (n : ℕ). getD (entry .args .table .now) ((entry .args .at) * n + (entry .args .rule)) 0) (c .before .before .before .before .before .before .before .before .before .wide .ensures .0)) (entry .args .count .now) (entry .args .rows .now) (sym (c .before .before .before .before .before .before .before .is-held .ensures) ∙ not-false (c .before .before .before .before .before .before .before .is-held .result) (c .before .before .before .before .before .before .if1 .left)) (w .0) (sym m ∙ not-true (c .before .before .before .held .given .0 .0 .matched) (c .if2 .taken))
+    rule-failed (rulesIn (given .words .now)) (given .root) (given .room) (given .text .now) (given .table .now) (nodeV (given .room) (given .words .now) (given .text .now) (given .table .now) (given .left)) (given .rule) (given .at) (given .lo) (given .hi) (given .depth) (c .before .before .before .before .before .before .before .before .look .ensures ∙ ap (λ (n : ℕ). getD (given .table .now) ((given .at) * n + (given .rule)) 0) (c .before .before .before .before .before .before .before .before .before .wide .ensures .0)) (given .count .now) (given .rows .now) (sym (c .before .before .before .before .before .before .before .is-held .ensures) ∙ not-false (c .before .before .before .before .before .before .before .is-held .result) (c .before .before .before .before .before .before .if1 .left)) (w .0) (sym m ∙ not-true (c .before .before .before .held .given .0 .0 .matched) (c .if2 .taken))
 
 walk-rule-touched-requires : (t : ℕ) → walk-rule-lts.Need-touched-requires (walk-rule-claims t) (walk-rule-at t) walk-rule.Post
 walk-rule-touched-requires t c κs =
     let entry = c .before .before .before .before .before .before .before .before .before .before .before .before .before .before in
-    let w = was-possible (c .before .before .before .held .given .0 .0) (recordOf (c .before .before .before .before .before .before .before .before .look .result)) (possible (c .before .before .before .before .before .before .before .before .look .result) (entry .args .at) (length (entry .args .text .now))) (sym (c .before .before .before .held .given .1) ∙ c .before .before .before .before .before .from-word .ensures) in
+    let given = entry .args in
+    let w = was-possible (c .before .before .before .held .given .0 .0) (recordOf (c .before .before .before .before .before .before .before .before .look .result)) (possible (c .before .before .before .before .before .before .before .before .look .result) (given .at) (length (given .text .now))) (sym (c .before .before .before .held .given .1) ∙ c .before .before .before .before .before .from-word .ensures) in
     let m = ap (λ (r : Record). r .matched) (w .1) in
     let n = ap (λ (r : Record). r .length) (w .1) in
-    omega (arith, n, rule-in-text (rulesIn (entry .args .words .now)) (entry .args .root) (entry .args .room) (entry .args .text .now) (entry .args .table .now) (nodeV (entry .args .room) (entry .args .words .now) (entry .args .text .now) (entry .args .table .now) (entry .args .left)) (entry .args .rule) (entry .args .at) (entry .args .lo) (entry .args .hi) (entry .args .depth) (c .before .before .before .before .before .before .before .before .look .ensures ∙ ap (λ (n : ℕ). getD (entry .args .table .now) ((entry .args .at) * n + (entry .args .rule)) 0) (c .before .before .before .before .before .before .before .before .before .wide .ensures .0)) (entry .args .count .now) (entry .args .rows .now) (sym (c .before .before .before .before .before .before .before .is-held .ensures) ∙ not-false (c .before .before .before .before .before .before .before .is-held .result) (c .before .before .before .before .before .before .if1 .left)) (w .0), (entry .pre .1 .0 .short))
+    omega (arith, n, rule-in-text (rulesIn (given .words .now)) (given .root) (given .room) (given .text .now) (given .table .now) (nodeV (given .room) (given .words .now) (given .text .now) (given .table .now) (given .left)) (given .rule) (given .at) (given .lo) (given .hi) (given .depth) (c .before .before .before .before .before .before .before .before .look .ensures ∙ ap (λ (n : ℕ). getD (given .table .now) ((given .at) * n + (given .rule)) 0) (c .before .before .before .before .before .before .before .before .before .wide .ensures .0)) (given .count .now) (given .rows .now) (sym (c .before .before .before .before .before .before .before .is-held .ensures) ∙ not-false (c .before .before .before .before .before .before .before .is-held .result) (c .before .before .before .before .before .before .if1 .left)) (w .0), (entry .pre .1 .0 .short))
 
 walk-rule-returns-4 : (t : ℕ) → walk-rule-lts.Need-returns-4 (walk-rule-claims t) (walk-rule-at t) walk-rule.Post
 walk-rule-returns-4 t c =
-    let entry = c .before .before .before .before .before .before .before .before .before .before .before .before .before .before .before .before in
-    let w = was-possible (c .before .before .before .before .before .held .given .0 .0) (recordOf (c .before .before .before .before .before .before .before .before .before .before .look .result)) (possible (c .before .before .before .before .before .before .before .before .before .before .look .result) (entry .args .at) (length (entry .args .text .now))) (sym (c .before .before .before .before .before .held .given .1) ∙ c .before .before .before .before .before .before .before .from-word .ensures) in
+    let given = c .before .before .before .before .before .before .before .before .before .before .before .before .before .before .before .before .args in
+    let w = was-possible (c .before .before .before .before .before .held .given .0 .0) (recordOf (c .before .before .before .before .before .before .before .before .before .before .look .result)) (possible (c .before .before .before .before .before .before .before .before .before .before .look .result) (given .at) (length (given .text .now))) (sym (c .before .before .before .before .before .held .given .1) ∙ c .before .before .before .before .before .before .before .from-word .ensures) in
     let m = ap (λ (r : Record). r .matched) (w .1) in
     let n = ap (λ (r : Record). r .length) (w .1) in
-    rule-missed (rulesIn (entry .args .words .now)) (entry .args .root) (entry .args .room) (entry .args .text .now) (entry .args .table .now) (nodeV (entry .args .room) (entry .args .words .now) (entry .args .text .now) (entry .args .table .now) (entry .args .left)) (entry .args .rule) (entry .args .at) (entry .args .lo) (entry .args .hi) (entry .args .depth) (c .before .before .before .before .before .before .before .before .before .before .look .ensures ∙ ap (λ (n : ℕ). getD (entry .args .table .now) ((entry .args .at) * n + (entry .args .rule)) 0) (c .before .before .before .before .before .before .before .before .before .before .before .wide .ensures .0)) (entry .args .count .now) (entry .args .rows .now) (sym (c .before .before .before .before .before .before .before .before .before .is-held .ensures) ∙ not-false (c .before .before .before .before .before .before .before .before .before .is-held .result) (c .before .before .before .before .before .before .before .before .if1 .left)) (w .0) (sym m ∙ not-false (c .before .before .before .before .before .held .given .0 .0 .matched) (c .before .before .if2 .left)) n (sym (c .before .touched .ensures) ∙ not-true (c .before .touched .result) (c .if3 .taken))
+    rule-missed (rulesIn (given .words .now)) (given .root) (given .room) (given .text .now) (given .table .now) (nodeV (given .room) (given .words .now) (given .text .now) (given .table .now) (given .left)) (given .rule) (given .at) (given .lo) (given .hi) (given .depth) (c .before .before .before .before .before .before .before .before .before .before .look .ensures ∙ ap (λ (n : ℕ). getD (given .table .now) ((given .at) * n + (given .rule)) 0) (c .before .before .before .before .before .before .before .before .before .before .before .wide .ensures .0)) (given .count .now) (given .rows .now) (sym (c .before .before .before .before .before .before .before .before .before .is-held .ensures) ∙ not-false (c .before .before .before .before .before .before .before .before .before .is-held .result) (c .before .before .before .before .before .before .before .before .if1 .left)) (w .0) (sym m ∙ not-false (c .before .before .before .before .before .held .given .0 .0 .matched) (c .before .before .if2 .left)) n (sym (c .before .touched .ensures) ∙ not-true (c .before .touched .result) (c .if3 .taken))
 
 walk-rule-add-result-3 : (t : ℕ) → walk-rule-lts.Need-add-result-3 (walk-rule-claims t) (walk-rule-at t) walk-rule.Post
 walk-rule-add-result-3 t c = search needs
 
 walk-rule-returns-5 : (t : ℕ) → walk-rule-lts.Need-returns-5 (walk-rule-claims t) (walk-rule-at t) walk-rule.Post
 walk-rule-returns-5 t c =
-    let entry = c .before .before .before .before .before .before .before .before .before .before .before .before .before .before .before .before .before .before in
-    let w = was-possible (c .before .before .before .before .before .before .before .held .given .0 .0) (recordOf (c .before .before .before .before .before .before .before .before .before .before .before .before .look .result)) (possible (c .before .before .before .before .before .before .before .before .before .before .before .before .look .result) (entry .args .at) (length (entry .args .text .now))) (sym (c .before .before .before .before .before .before .before .held .given .1) ∙ c .before .before .before .before .before .before .before .before .before .from-word .ensures) in
+    let given = c .before .before .before .before .before .before .before .before .before .before .before .before .before .before .before .before .before .before .args in
+    let w = was-possible (c .before .before .before .before .before .before .before .held .given .0 .0) (recordOf (c .before .before .before .before .before .before .before .before .before .before .before .before .look .result)) (possible (c .before .before .before .before .before .before .before .before .before .before .before .before .look .result) (given .at) (length (given .text .now))) (sym (c .before .before .before .before .before .before .before .held .given .1) ∙ c .before .before .before .before .before .before .before .before .before .from-word .ensures) in
     let m = ap (λ (r : Record). r .matched) (w .1) in
     let n = ap (λ (r : Record). r .length) (w .1) in
-    rule-full (rulesIn (entry .args .words .now)) (entry .args .root) (entry .args .room) (entry .args .text .now) (entry .args .table .now) (nodeV (entry .args .room) (entry .args .words .now) (entry .args .text .now) (entry .args .table .now) (entry .args .left)) (entry .args .rule) (entry .args .at) (entry .args .lo) (entry .args .hi) (entry .args .depth) (c .before .before .before .before .before .before .before .before .before .before .before .before .look .ensures ∙ ap (λ (n : ℕ). getD (entry .args .table .now) ((entry .args .at) * n + (entry .args .rule)) 0) (c .before .before .before .before .before .before .before .before .before .before .before .before .before .wide .ensures .0)) (entry .args .count .now) (entry .args .rows .now) (sym (c .before .before .before .before .before .before .before .before .before .before .before .is-held .ensures) ∙ not-false (c .before .before .before .before .before .before .before .before .before .before .before .is-held .result) (c .before .before .before .before .before .before .before .before .before .before .if1 .left)) (w .0) (sym m ∙ not-false (c .before .before .before .before .before .before .before .held .given .0 .0 .matched) (c .before .before .before .before .if2 .left)) n (sym (c .before .before .before .touched .ensures) ∙ not-false (c .before .before .before .touched .result) (c .before .before .if3 .left)) (c .if4 .taken)
+    rule-full (rulesIn (given .words .now)) (given .root) (given .room) (given .text .now) (given .table .now) (nodeV (given .room) (given .words .now) (given .text .now) (given .table .now) (given .left)) (given .rule) (given .at) (given .lo) (given .hi) (given .depth) (c .before .before .before .before .before .before .before .before .before .before .before .before .look .ensures ∙ ap (λ (n : ℕ). getD (given .table .now) ((given .at) * n + (given .rule)) 0) (c .before .before .before .before .before .before .before .before .before .before .before .before .before .wide .ensures .0)) (given .count .now) (given .rows .now) (sym (c .before .before .before .before .before .before .before .before .before .before .before .is-held .ensures) ∙ not-false (c .before .before .before .before .before .before .before .before .before .before .before .is-held .result) (c .before .before .before .before .before .before .before .before .before .before .if1 .left)) (w .0) (sym m ∙ not-false (c .before .before .before .before .before .before .before .held .given .0 .0 .matched) (c .before .before .before .before .if2 .left)) n (sym (c .before .before .before .touched .ensures) ∙ not-false (c .before .before .before .touched .result) (c .before .before .if3 .left)) (c .if4 .taken)
 
 walk-rule-row-word-requires : (t : ℕ) → walk-rule-lts.Need-row-word-requires (walk-rule-claims t) (walk-rule-at t) walk-rule.Post
 walk-rule-row-word-requires t c κs =
     let entry = c .before .before .before .before .before .before .before .before .before .before .before .before .before .before .before .before .before .before .before in
-    let w = was-possible (c .before .before .before .before .before .before .before .before .held .given .0 .0) (recordOf (c .before .before .before .before .before .before .before .before .before .before .before .before .before .look .result)) (possible (c .before .before .before .before .before .before .before .before .before .before .before .before .before .look .result) (entry .args .at) (length (entry .args .text .now))) (sym (c .before .before .before .before .before .before .before .before .held .given .1) ∙ c .before .before .before .before .before .before .before .before .before .before .from-word .ensures) in
+    let given = entry .args in
+    let w = was-possible (c .before .before .before .before .before .before .before .before .held .given .0 .0) (recordOf (c .before .before .before .before .before .before .before .before .before .before .before .before .before .look .result)) (possible (c .before .before .before .before .before .before .before .before .before .before .before .before .before .look .result) (given .at) (length (given .text .now))) (sym (c .before .before .before .before .before .before .before .before .held .given .1) ∙ c .before .before .before .before .before .before .before .before .before .before .from-word .ensures) in
     let m = ap (λ (r : Record). r .matched) (w .1) in
     let n = ap (λ (r : Record). r .length) (w .1) in
-    (omega (arith, entry .pre .1 .0 .shallow), omega (arith, (entry .pre .1 .0 .here), (entry .pre .1 .0 .short)), omega (arith, n, rule-in-text (rulesIn (entry .args .words .now)) (entry .args .root) (entry .args .room) (entry .args .text .now) (entry .args .table .now) (nodeV (entry .args .room) (entry .args .words .now) (entry .args .text .now) (entry .args .table .now) (entry .args .left)) (entry .args .rule) (entry .args .at) (entry .args .lo) (entry .args .hi) (entry .args .depth) (c .before .before .before .before .before .before .before .before .before .before .before .before .before .look .ensures ∙ ap (λ (n : ℕ). getD (entry .args .table .now) ((entry .args .at) * n + (entry .args .rule)) 0) (c .before .before .before .before .before .before .before .before .before .before .before .before .before .before .wide .ensures .0)) (entry .args .count .now) (entry .args .rows .now) (sym (c .before .before .before .before .before .before .before .before .before .before .before .before .is-held .ensures) ∙ not-false (c .before .before .before .before .before .before .before .before .before .before .before .before .is-held .result) (c .before .before .before .before .before .before .before .before .before .before .before .if1 .left)) (w .0), (entry .pre .1 .0 .short)))
+    (omega (arith, entry .pre .1 .0 .shallow), omega (arith, (entry .pre .1 .0 .here), (entry .pre .1 .0 .short)), omega (arith, n, rule-in-text (rulesIn (given .words .now)) (given .root) (given .room) (given .text .now) (given .table .now) (nodeV (given .room) (given .words .now) (given .text .now) (given .table .now) (given .left)) (given .rule) (given .at) (given .lo) (given .hi) (given .depth) (c .before .before .before .before .before .before .before .before .before .before .before .before .before .look .ensures ∙ ap (λ (n : ℕ). getD (given .table .now) ((given .at) * n + (given .rule)) 0) (c .before .before .before .before .before .before .before .before .before .before .before .before .before .before .wide .ensures .0)) (given .count .now) (given .rows .now) (sym (c .before .before .before .before .before .before .before .before .before .before .before .before .is-held .ensures) ∙ not-false (c .before .before .before .before .before .before .before .before .before .before .before .before .is-held .result) (c .before .before .before .before .before .before .before .before .before .before .before .if1 .left)) (w .0), (entry .pre .1 .0 .short)))
 
 walk-rule-put-requires : (t : ℕ) → walk-rule-lts.Need-put-requires (walk-rule-claims t) (walk-rule-at t) walk-rule.Post
 walk-rule-put-requires t c κs = search needs
@@ -520,10 +544,11 @@ walk-rule-same-length t c = search needs
 walk-rule-returns-6 : (t : ℕ) → walk-rule-lts.Need-returns-6 (walk-rule-claims t) (walk-rule-at t) walk-rule.Post
 walk-rule-returns-6 t c =
     let entry = c .before .before .before .before .before .before .before .before .before .before .before .before .before .before .before .before .before .before .before .before .before .before .before .before .before .before .before .before .before in
-    let w = was-possible (c .before .before .before .before .before .before .before .before .before .before .before .before .before .before .before .before .before .before .held .given .0 .0) (recordOf (c .before .before .before .before .before .before .before .before .before .before .before .before .before .before .before .before .before .before .before .before .before .before .before .look .result)) (possible (c .before .before .before .before .before .before .before .before .before .before .before .before .before .before .before .before .before .before .before .before .before .before .before .look .result) (entry .args .at) (length (entry .args .text .now))) (sym (c .before .before .before .before .before .before .before .before .before .before .before .before .before .before .before .before .before .before .held .given .1) ∙ c .before .before .before .before .before .before .before .before .before .before .before .before .before .before .before .before .before .before .before .before .from-word .ensures) in
+    let given = entry .args in
+    let w = was-possible (c .before .before .before .before .before .before .before .before .before .before .before .before .before .before .before .before .before .before .held .given .0 .0) (recordOf (c .before .before .before .before .before .before .before .before .before .before .before .before .before .before .before .before .before .before .before .before .before .before .before .look .result)) (possible (c .before .before .before .before .before .before .before .before .before .before .before .before .before .before .before .before .before .before .before .before .before .before .before .look .result) (given .at) (length (given .text .now))) (sym (c .before .before .before .before .before .before .before .before .before .before .before .before .before .before .before .before .before .before .held .given .1) ∙ c .before .before .before .before .before .before .before .before .before .before .before .before .before .before .before .before .before .before .before .before .from-word .ensures) in
     let m = ap (λ (r : Record). r .matched) (w .1) in
     let n = ap (λ (r : Record). r .length) (w .1) in
-    rule-stops (rulesIn (entry .args .words .now)) (entry .args .root) (entry .args .room) (entry .args .text .now) (entry .args .table .now) (nodeV (entry .args .room) (entry .args .words .now) (entry .args .text .now) (entry .args .table .now) (entry .args .left)) (entry .args .rule) (entry .args .at) (entry .args .lo) (entry .args .hi) (entry .args .depth) (c .before .before .before .before .before .before .before .before .before .before .before .before .before .before .before .before .before .before .before .before .before .before .before .look .ensures ∙ ap (λ (n : ℕ). getD (entry .args .table .now) ((entry .args .at) * n + (entry .args .rule)) 0) (c .before .before .before .before .before .before .before .before .before .before .before .before .before .before .before .before .before .before .before .before .before .before .before .before .wide .ensures .0)) (entry .args .count .now) (entry .args .rows .now) (sym (c .before .before .before .before .before .before .before .before .before .before .before .before .before .before .before .before .before .before .before .before .before .before .is-held .ensures) ∙ not-false (c .before .before .before .before .before .before .before .before .before .before .before .before .before .before .before .before .before .before .before .before .before .before .is-held .result) (c .before .before .before .before .before .before .before .before .before .before .before .before .before .before .before .before .before .before .before .before .before .if1 .left)) (w .0) (sym m ∙ not-false (c .before .before .before .before .before .before .before .before .before .before .before .before .before .before .before .before .before .before .held .given .0 .0 .matched) (c .before .before .before .before .before .before .before .before .before .before .before .before .before .before .before .if2 .left)) n (sym (c .before .before .before .before .before .before .before .before .before .before .before .before .before .before .touched .ensures) ∙ not-false (c .before .before .before .before .before .before .before .before .before .before .before .before .before .before .touched .result) (c .before .before .before .before .before .before .before .before .before .before .before .before .before .if3 .left)) (c .before .before .before .before .before .before .before .before .before .before .before .if4 .left) (c .before .before .before .before .before .before .before .before .before .row-word .ensures) (entry .pre .1 .0 .short) (entry .pre .1 .0 .here) (node-bounded (entry .args .room) (entry .args .words .now) (entry .args .text .now) (entry .args .table .now) (entry .args .left)) _ _ _ (rw (c .before .before .before .before .before .before .before .before .put .ensures) at (c .before .before .before .walk-node .ensures)) (c .if5 .taken)
+    rule-stops (rulesIn (given .words .now)) (given .root) (given .room) (given .text .now) (given .table .now) (nodeV (given .room) (given .words .now) (given .text .now) (given .table .now) (given .left)) (given .rule) (given .at) (given .lo) (given .hi) (given .depth) (c .before .before .before .before .before .before .before .before .before .before .before .before .before .before .before .before .before .before .before .before .before .before .before .look .ensures ∙ ap (λ (n : ℕ). getD (given .table .now) ((given .at) * n + (given .rule)) 0) (c .before .before .before .before .before .before .before .before .before .before .before .before .before .before .before .before .before .before .before .before .before .before .before .before .wide .ensures .0)) (given .count .now) (given .rows .now) (sym (c .before .before .before .before .before .before .before .before .before .before .before .before .before .before .before .before .before .before .before .before .before .before .is-held .ensures) ∙ not-false (c .before .before .before .before .before .before .before .before .before .before .before .before .before .before .before .before .before .before .before .before .before .before .is-held .result) (c .before .before .before .before .before .before .before .before .before .before .before .before .before .before .before .before .before .before .before .before .before .if1 .left)) (w .0) (sym m ∙ not-false (c .before .before .before .before .before .before .before .before .before .before .before .before .before .before .before .before .before .before .held .given .0 .0 .matched) (c .before .before .before .before .before .before .before .before .before .before .before .before .before .before .before .if2 .left)) n (sym (c .before .before .before .before .before .before .before .before .before .before .before .before .before .before .touched .ensures) ∙ not-false (c .before .before .before .before .before .before .before .before .before .before .before .before .before .before .touched .result) (c .before .before .before .before .before .before .before .before .before .before .before .before .before .if3 .left)) (c .before .before .before .before .before .before .before .before .before .before .before .if4 .left) (c .before .before .before .before .before .before .before .before .before .row-word .ensures) (entry .pre .1 .0 .short) (entry .pre .1 .0 .here) (node-bounded (given .room) (given .words .now) (given .text .now) (given .table .now) (given .left)) _ _ _ (rw (c .before .before .before .before .before .before .before .before .put .ensures) at (c .before .before .before .walk-node .ensures)) (c .if5 .taken)
 
 walk-rule-same-length-2 : (t : ℕ) → walk-rule-lts.Need-same-length-2 (walk-rule-claims t) (walk-rule-at t) walk-rule.Post
 walk-rule-same-length-2 t c = search needs
@@ -531,10 +556,11 @@ walk-rule-same-length-2 t c = search needs
 walk-rule-returns-7 : (t : ℕ) → walk-rule-lts.Need-returns-7 (walk-rule-claims t) (walk-rule-at t) walk-rule.Post
 walk-rule-returns-7 t c =
     let entry = c .before .before .before .before .before .before .before .before .before .before .before .before .before .before .before .before .before .before .before .before .before .before .before .before .before .before .before .before .before in
-    let w = was-possible (c .before .before .before .before .before .before .before .before .before .before .before .before .before .before .before .before .before .before .held .given .0 .0) (recordOf (c .before .before .before .before .before .before .before .before .before .before .before .before .before .before .before .before .before .before .before .before .before .before .before .look .result)) (possible (c .before .before .before .before .before .before .before .before .before .before .before .before .before .before .before .before .before .before .before .before .before .before .before .look .result) (entry .args .at) (length (entry .args .text .now))) (sym (c .before .before .before .before .before .before .before .before .before .before .before .before .before .before .before .before .before .before .held .given .1) ∙ c .before .before .before .before .before .before .before .before .before .before .before .before .before .before .before .before .before .before .before .before .from-word .ensures) in
+    let given = entry .args in
+    let w = was-possible (c .before .before .before .before .before .before .before .before .before .before .before .before .before .before .before .before .before .before .held .given .0 .0) (recordOf (c .before .before .before .before .before .before .before .before .before .before .before .before .before .before .before .before .before .before .before .before .before .before .before .look .result)) (possible (c .before .before .before .before .before .before .before .before .before .before .before .before .before .before .before .before .before .before .before .before .before .before .before .look .result) (given .at) (length (given .text .now))) (sym (c .before .before .before .before .before .before .before .before .before .before .before .before .before .before .before .before .before .before .held .given .1) ∙ c .before .before .before .before .before .before .before .before .before .before .before .before .before .before .before .before .before .before .before .before .from-word .ensures) in
     let m = ap (λ (r : Record). r .matched) (w .1) in
     let n = ap (λ (r : Record). r .length) (w .1) in
-    rule-goes (rulesIn (entry .args .words .now)) (entry .args .root) (entry .args .room) (entry .args .text .now) (entry .args .table .now) (nodeV (entry .args .room) (entry .args .words .now) (entry .args .text .now) (entry .args .table .now) (entry .args .left)) (entry .args .rule) (entry .args .at) (entry .args .lo) (entry .args .hi) (entry .args .depth) (c .before .before .before .before .before .before .before .before .before .before .before .before .before .before .before .before .before .before .before .before .before .before .before .look .ensures ∙ ap (λ (n : ℕ). getD (entry .args .table .now) ((entry .args .at) * n + (entry .args .rule)) 0) (c .before .before .before .before .before .before .before .before .before .before .before .before .before .before .before .before .before .before .before .before .before .before .before .before .wide .ensures .0)) (entry .args .count .now) (entry .args .rows .now) (sym (c .before .before .before .before .before .before .before .before .before .before .before .before .before .before .before .before .before .before .before .before .before .before .is-held .ensures) ∙ not-false (c .before .before .before .before .before .before .before .before .before .before .before .before .before .before .before .before .before .before .before .before .before .before .is-held .result) (c .before .before .before .before .before .before .before .before .before .before .before .before .before .before .before .before .before .before .before .before .before .if1 .left)) (w .0) (sym m ∙ not-false (c .before .before .before .before .before .before .before .before .before .before .before .before .before .before .before .before .before .before .held .given .0 .0 .matched) (c .before .before .before .before .before .before .before .before .before .before .before .before .before .before .before .if2 .left)) n (sym (c .before .before .before .before .before .before .before .before .before .before .before .before .before .before .touched .ensures) ∙ not-false (c .before .before .before .before .before .before .before .before .before .before .before .before .before .before .touched .result) (c .before .before .before .before .before .before .before .before .before .before .before .before .before .if3 .left)) (c .before .before .before .before .before .before .before .before .before .before .before .if4 .left) (c .before .before .before .before .before .before .before .before .before .row-word .ensures) (entry .pre .1 .0 .short) (entry .pre .1 .0 .here) (node-bounded (entry .args .room) (entry .args .words .now) (entry .args .text .now) (entry .args .table .now) (entry .args .left)) _ _ _ (rw (c .before .before .before .before .before .before .before .before .put .ensures) at (c .before .before .before .walk-node .ensures)) (c .if5 .left)
+    rule-goes (rulesIn (given .words .now)) (given .root) (given .room) (given .text .now) (given .table .now) (nodeV (given .room) (given .words .now) (given .text .now) (given .table .now) (given .left)) (given .rule) (given .at) (given .lo) (given .hi) (given .depth) (c .before .before .before .before .before .before .before .before .before .before .before .before .before .before .before .before .before .before .before .before .before .before .before .look .ensures ∙ ap (λ (n : ℕ). getD (given .table .now) ((given .at) * n + (given .rule)) 0) (c .before .before .before .before .before .before .before .before .before .before .before .before .before .before .before .before .before .before .before .before .before .before .before .before .wide .ensures .0)) (given .count .now) (given .rows .now) (sym (c .before .before .before .before .before .before .before .before .before .before .before .before .before .before .before .before .before .before .before .before .before .before .is-held .ensures) ∙ not-false (c .before .before .before .before .before .before .before .before .before .before .before .before .before .before .before .before .before .before .before .before .before .before .is-held .result) (c .before .before .before .before .before .before .before .before .before .before .before .before .before .before .before .before .before .before .before .before .before .if1 .left)) (w .0) (sym m ∙ not-false (c .before .before .before .before .before .before .before .before .before .before .before .before .before .before .before .before .before .before .held .given .0 .0 .matched) (c .before .before .before .before .before .before .before .before .before .before .before .before .before .before .before .if2 .left)) n (sym (c .before .before .before .before .before .before .before .before .before .before .before .before .before .before .touched .ensures) ∙ not-false (c .before .before .before .before .before .before .before .before .before .before .before .before .before .before .touched .result) (c .before .before .before .before .before .before .before .before .before .before .before .before .before .if3 .left)) (c .before .before .before .before .before .before .before .before .before .before .before .if4 .left) (c .before .before .before .before .before .before .before .before .before .row-word .ensures) (entry .pre .1 .0 .short) (entry .pre .1 .0 .here) (node-bounded (given .room) (given .words .now) (given .text .now) (given .table .now) (given .left)) _ _ _ (rw (c .before .before .before .before .before .before .before .before .put .ensures) at (c .before .before .before .walk-node .ensures)) (c .if5 .left)
 
 walk-sequence-walk-node-requires : (t : ℕ) → walk-sequence-lts.Need-walk-node-requires (walk-sequence-claims t) (walk-sequence-at t) walk-sequence.Post
 walk-sequence-walk-node-requires t c κs =
@@ -547,17 +573,23 @@ walk-sequence-same-length t c = search needs
 walk-sequence-returns : (t : ℕ) → walk-sequence-lts.Need-returns (walk-sequence-claims t) (walk-sequence-at t) walk-sequence.Post
 walk-sequence-returns t c =
     let entry = c .before .before .before .before .before .before .before .before .before in
-    sequence-ends (entry .args .text .now) (entry .args .room) (nodeV (entry .args .room) (entry .args .words .now) (entry .args .text .now) (entry .args .table .now) (entry .args .left)) (entry .pre .1 .0 .short) (node-bounded (entry .args .room) (entry .args .words .now) (entry .args .text .now) (entry .args .table .now) (entry .args .left)) (pairV (rulesIn (entry .args .words .now)) (entry .args .b) (entry .args .room) (entry .args .text .now) (entry .args .table .now) (nodeV (entry .args .room) (entry .args .words .now) (entry .args .text .now) (entry .args .table .now) (entry .args .left))) (entry .args .a) (entry .args .b) (entry .args .at) (entry .args .lo) (entry .args .hi) (entry .args .depth) (entry .pre .1 .0 .here) (entry .pre .1 .0 .few) (c .before .before .before .walk-node .ensures) (c .if1 .taken)
+    let given = entry .args in
+    let inner = nodeV (given .room) (given .words .now) (given .text .now) (given .table .now) (given .left) in
+    sequence-ends (given .text .now) (given .room) inner (entry .pre .1 .0 .short) (node-bounded (given .room) (given .words .now) (given .text .now) (given .table .now) (given .left)) (pairV (rulesIn (given .words .now)) (given .b) (given .room) (given .text .now) (given .table .now) inner) (given .a) (given .b) (given .at) (given .lo) (given .hi) (given .depth) (entry .pre .1 .0 .here) (entry .pre .1 .0 .few) (c .before .before .before .walk-node .ensures) (c .if1 .taken)
 
 walk-sequence-add-walk-node : (t : ℕ) → walk-sequence-lts.Need-add-walk-node (walk-sequence-claims t) (walk-sequence-at t) walk-sequence.Post
 walk-sequence-add-walk-node t c =
     let entry = c .before .before .before .before .before .before .before .before .before .before .before in
-    omega (arith, (sequence-first (entry .args .text .now) (entry .args .room) (nodeV (entry .args .room) (entry .args .words .now) (entry .args .text .now) (entry .args .table .now) (entry .args .left)) (entry .pre .1 .0 .short) (node-bounded (entry .args .room) (entry .args .words .now) (entry .args .text .now) (entry .args .table .now) (entry .args .left)) (pairV (rulesIn (entry .args .words .now)) (entry .args .b) (entry .args .room) (entry .args .text .now) (entry .args .table .now) (nodeV (entry .args .room) (entry .args .words .now) (entry .args .text .now) (entry .args .table .now) (entry .args .left))) (entry .args .a) (entry .args .b) (entry .args .at) (entry .args .lo) (entry .args .hi) (entry .args .depth) (entry .pre .1 .0 .here) (entry .pre .1 .0 .few) (c .before .before .before .before .before .walk-node .ensures) (c .before .before .if1 .left)) .in-text, (entry .pre .1 .0 .short))
+    let given = entry .args in
+    let inner = nodeV (given .room) (given .words .now) (given .text .now) (given .table .now) (given .left) in
+    omega (arith, (sequence-first (given .text .now) (given .room) inner (entry .pre .1 .0 .short) (node-bounded (given .room) (given .words .now) (given .text .now) (given .table .now) (given .left)) (pairV (rulesIn (given .words .now)) (given .b) (given .room) (given .text .now) (given .table .now) inner) (given .a) (given .b) (given .at) (given .lo) (given .hi) (given .depth) (entry .pre .1 .0 .here) (entry .pre .1 .0 .few) (c .before .before .before .before .before .walk-node .ensures) (c .before .before .if1 .left)) .in-text, (entry .pre .1 .0 .short))
 
 walk-sequence-walk-node-requires-2 : (t : ℕ) → walk-sequence-lts.Need-walk-node-requires-2 (walk-sequence-claims t) (walk-sequence-at t) walk-sequence.Post
 walk-sequence-walk-node-requires-2 t c κs =
     let entry = c .before .before .before .before .before .before .before .before .before .before .before in
-    (omega (arith, entry .pre .0), (record { short = (entry .pre .1 .0 .short); here = (sequence-first (entry .args .text .now) (entry .args .room) (nodeV (entry .args .room) (entry .args .words .now) (entry .args .text .now) (entry .args .table .now) (entry .args .left)) (entry .pre .1 .0 .short) (node-bounded (entry .args .room) (entry .args .words .now) (entry .args .text .now) (entry .args .table .now) (entry .args .left)) (pairV (rulesIn (entry .args .words .now)) (entry .args .b) (entry .args .room) (entry .args .text .now) (entry .args .table .now) (nodeV (entry .args .room) (entry .args .words .now) (entry .args .text .now) (entry .args .table .now) (entry .args .left))) (entry .args .a) (entry .args .b) (entry .args .at) (entry .args .lo) (entry .args .hi) (entry .args .depth) (entry .pre .1 .0 .here) (entry .pre .1 .0 .few) (c .before .before .before .before .before .walk-node .ensures) (c .before .before .if1 .left)) .in-text; few = (sequence-first (entry .args .text .now) (entry .args .room) (nodeV (entry .args .room) (entry .args .words .now) (entry .args .text .now) (entry .args .table .now) (entry .args .left)) (entry .pre .1 .0 .short) (node-bounded (entry .args .room) (entry .args .words .now) (entry .args .text .now) (entry .args .table .now) (entry .args .left)) (pairV (rulesIn (entry .args .words .now)) (entry .args .b) (entry .args .room) (entry .args .text .now) (entry .args .table .now) (nodeV (entry .args .room) (entry .args .words .now) (entry .args .text .now) (entry .args .table .now) (entry .args .left))) (entry .args .a) (entry .args .b) (entry .args .at) (entry .args .lo) (entry .args .hi) (entry .args .depth) (entry .pre .1 .0 .here) (entry .pre .1 .0 .few) (c .before .before .before .before .before .walk-node .ensures) (c .before .before .if1 .left)) .few; shallow = omega (arith, entry .pre .1 .0 .shallow) }, entry .pre .1 .2))
+    let given = entry .args in
+    let inner = nodeV (given .room) (given .words .now) (given .text .now) (given .table .now) (given .left) in
+    (omega (arith, entry .pre .0), (record { short = (entry .pre .1 .0 .short); here = (sequence-first (given .text .now) (given .room) inner (entry .pre .1 .0 .short) (node-bounded (given .room) (given .words .now) (given .text .now) (given .table .now) (given .left)) (pairV (rulesIn (given .words .now)) (given .b) (given .room) (given .text .now) (given .table .now) inner) (given .a) (given .b) (given .at) (given .lo) (given .hi) (given .depth) (entry .pre .1 .0 .here) (entry .pre .1 .0 .few) (c .before .before .before .before .before .walk-node .ensures) (c .before .before .if1 .left)) .in-text; few = (sequence-first (given .text .now) (given .room) inner (entry .pre .1 .0 .short) (node-bounded (given .room) (given .words .now) (given .text .now) (given .table .now) (given .left)) (pairV (rulesIn (given .words .now)) (given .b) (given .room) (given .text .now) (given .table .now) inner) (given .a) (given .b) (given .at) (given .lo) (given .hi) (given .depth) (entry .pre .1 .0 .here) (entry .pre .1 .0 .few) (c .before .before .before .before .before .walk-node .ensures) (c .before .before .if1 .left)) .few; shallow = omega (arith, entry .pre .1 .0 .shallow) }, entry .pre .1 .2))
 
 walk-sequence-same-length-2 : (t : ℕ) → walk-sequence-lts.Need-same-length-2 (walk-sequence-claims t) (walk-sequence-at t) walk-sequence.Post
 walk-sequence-same-length-2 t c = search needs
@@ -565,12 +597,16 @@ walk-sequence-same-length-2 t c = search needs
 walk-sequence-returns-2 : (t : ℕ) → walk-sequence-lts.Need-returns-2 (walk-sequence-claims t) (walk-sequence-at t) walk-sequence.Post
 walk-sequence-returns-2 t c =
     let entry = c .before .before .before .before .before .before .before .before .before .before .before .before .before .before .before in
-    sequence-second-ends (entry .args .text .now) (entry .args .room) (nodeV (entry .args .room) (entry .args .words .now) (entry .args .text .now) (entry .args .table .now) (entry .args .left)) (entry .pre .1 .0 .short) (node-bounded (entry .args .room) (entry .args .words .now) (entry .args .text .now) (entry .args .table .now) (entry .args .left)) (pairV (rulesIn (entry .args .words .now)) (entry .args .b) (entry .args .room) (entry .args .text .now) (entry .args .table .now) (nodeV (entry .args .room) (entry .args .words .now) (entry .args .text .now) (entry .args .table .now) (entry .args .left))) (entry .args .a) (entry .args .b) (entry .args .at) (entry .args .lo) (entry .args .hi) (entry .args .depth) (entry .pre .1 .0 .here) (entry .pre .1 .0 .few) (c .before .before .before .before .before .before .before .before .before .walk-node .ensures) (c .before .before .before .before .before .before .if1 .left) (c .before .before .before .walk-node2 .ensures) (c .if2 .taken)
+    let given = entry .args in
+    let inner = nodeV (given .room) (given .words .now) (given .text .now) (given .table .now) (given .left) in
+    sequence-second-ends (given .text .now) (given .room) inner (entry .pre .1 .0 .short) (node-bounded (given .room) (given .words .now) (given .text .now) (given .table .now) (given .left)) (pairV (rulesIn (given .words .now)) (given .b) (given .room) (given .text .now) (given .table .now) inner) (given .a) (given .b) (given .at) (given .lo) (given .hi) (given .depth) (entry .pre .1 .0 .here) (entry .pre .1 .0 .few) (c .before .before .before .before .before .before .before .before .before .walk-node .ensures) (c .before .before .before .before .before .before .if1 .left) (c .before .before .before .walk-node2 .ensures) (c .if2 .taken)
 
 walk-sequence-add-result : (t : ℕ) → walk-sequence-lts.Need-add-result (walk-sequence-claims t) (walk-sequence-at t) walk-sequence.Post
 walk-sequence-add-result t c =
     let entry = c .before .before .before .before .before .before .before .before .before .before .before .before .before .before .before in
-    omega (arith, (sequence-second (entry .args .text .now) (entry .args .room) (nodeV (entry .args .room) (entry .args .words .now) (entry .args .text .now) (entry .args .table .now) (entry .args .left)) (entry .pre .1 .0 .short) (node-bounded (entry .args .room) (entry .args .words .now) (entry .args .text .now) (entry .args .table .now) (entry .args .left)) (pairV (rulesIn (entry .args .words .now)) (entry .args .b) (entry .args .room) (entry .args .text .now) (entry .args .table .now) (nodeV (entry .args .room) (entry .args .words .now) (entry .args .text .now) (entry .args .table .now) (entry .args .left))) (entry .args .a) (entry .args .b) (entry .args .at) (entry .args .lo) (entry .args .hi) (entry .args .depth) (entry .pre .1 .0 .here) (entry .pre .1 .0 .few) (c .before .before .before .before .before .before .before .before .before .walk-node .ensures) (c .before .before .before .before .before .before .if1 .left) (c .before .before .before .walk-node2 .ensures) (c .if2 .left)) .in-text, (entry .pre .1 .0 .short))
+    let given = entry .args in
+    let inner = nodeV (given .room) (given .words .now) (given .text .now) (given .table .now) (given .left) in
+    omega (arith, (sequence-second (given .text .now) (given .room) inner (entry .pre .1 .0 .short) (node-bounded (given .room) (given .words .now) (given .text .now) (given .table .now) (given .left)) (pairV (rulesIn (given .words .now)) (given .b) (given .room) (given .text .now) (given .table .now) inner) (given .a) (given .b) (given .at) (given .lo) (given .hi) (given .depth) (entry .pre .1 .0 .here) (entry .pre .1 .0 .few) (c .before .before .before .before .before .before .before .before .before .walk-node .ensures) (c .before .before .before .before .before .before .if1 .left) (c .before .before .before .walk-node2 .ensures) (c .if2 .left)) .in-text, (entry .pre .1 .0 .short))
 
 walk-sequence-same-length-3 : (t : ℕ) → walk-sequence-lts.Need-same-length-3 (walk-sequence-claims t) (walk-sequence-at t) walk-sequence.Post
 walk-sequence-same-length-3 t c = search needs
@@ -578,7 +614,9 @@ walk-sequence-same-length-3 t c = search needs
 walk-sequence-returns-3 : (t : ℕ) → walk-sequence-lts.Need-returns-3 (walk-sequence-claims t) (walk-sequence-at t) walk-sequence.Post
 walk-sequence-returns-3 t c =
     let entry = c .before .before .before .before .before .before .before .before .before .before .before .before .before .before .before in
-    sequence-both (entry .args .text .now) (entry .args .room) (nodeV (entry .args .room) (entry .args .words .now) (entry .args .text .now) (entry .args .table .now) (entry .args .left)) (entry .pre .1 .0 .short) (node-bounded (entry .args .room) (entry .args .words .now) (entry .args .text .now) (entry .args .table .now) (entry .args .left)) (pairV (rulesIn (entry .args .words .now)) (entry .args .b) (entry .args .room) (entry .args .text .now) (entry .args .table .now) (nodeV (entry .args .room) (entry .args .words .now) (entry .args .text .now) (entry .args .table .now) (entry .args .left))) (entry .args .a) (entry .args .b) (entry .args .at) (entry .args .lo) (entry .args .hi) (entry .args .depth) (entry .pre .1 .0 .here) (entry .pre .1 .0 .few) (c .before .before .before .before .before .before .before .before .before .walk-node .ensures) (c .before .before .before .before .before .before .if1 .left) (c .before .before .before .walk-node2 .ensures) (c .if2 .left)
+    let given = entry .args in
+    let inner = nodeV (given .room) (given .words .now) (given .text .now) (given .table .now) (given .left) in
+    sequence-both (given .text .now) (given .room) inner (entry .pre .1 .0 .short) (node-bounded (given .room) (given .words .now) (given .text .now) (given .table .now) (given .left)) (pairV (rulesIn (given .words .now)) (given .b) (given .room) (given .text .now) (given .table .now) inner) (given .a) (given .b) (given .at) (given .lo) (given .hi) (given .depth) (entry .pre .1 .0 .here) (entry .pre .1 .0 .few) (c .before .before .before .before .before .before .before .before .before .walk-node .ensures) (c .before .before .before .before .before .before .if1 .left) (c .before .before .before .walk-node2 .ensures) (c .if2 .left)
 
 abbrev walk-star-Inv-loop : walk-star-lts.InvT-loop
 walk-star-Inv-loop words text table rows₀ count₀ room a at lo hi depth left before₀ rows count before =
@@ -595,7 +633,9 @@ walk-star-loop-holds : (t : ℕ) → walk-star-lts.Need-loop-holds (walk-star-cl
     walk-star-μ-loop
 walk-star-loop-holds t c =
     let entry = c .before .before .before in
-    (refl, λ short. star-start (entry .args .text .now) (entry .args .room) (nodeV (entry .args .room) (entry .args .words .now) (entry .args .text .now) (entry .args .table .now) (entry .args .left)) short (node-bounded (entry .args .room) (entry .args .words .now) (entry .args .text .now) (entry .args .table .now) (entry .args .left)) (entry .args .a) (entry .args .at) (entry .args .lo) (entry .args .hi) (entry .args .depth) (pairV (rulesIn (entry .args .words .now)) 0 (entry .args .room) (entry .args .text .now) (entry .args .table .now) (nodeV (entry .args .room) (entry .args .words .now) (entry .args .text .now) (entry .args .table .now) (entry .args .left))) (entry .pre .1 .0 .here) (entry .pre .1 .0 .few))
+    let given = entry .args in
+    let inner = nodeV (given .room) (given .words .now) (given .text .now) (given .table .now) (given .left) in
+    (refl, λ short. star-start (given .text .now) (given .room) inner short (node-bounded (given .room) (given .words .now) (given .text .now) (given .table .now) (given .left)) (given .a) (given .at) (given .lo) (given .hi) (given .depth) (pairV (rulesIn (given .words .now)) 0 (given .room) (given .text .now) (given .table .now) inner) (entry .pre .1 .0 .here) (entry .pre .1 .0 .few))
 
 walk-star-add-walk-part : (t : ℕ) → walk-star-lts.Need-add-walk-part (walk-star-claims t) (walk-star-at t) walk-star.Post walk-star-Inv-loop walk-star-μ-loop
 walk-star-add-walk-part t c =
@@ -617,7 +657,8 @@ walk-star-returns : (t : ℕ) → walk-star-lts.Need-returns (walk-star-claims t
     walk-star-μ-loop
 walk-star-returns t c =
     let entry = c .before .before .before .before .before .before .before .before .before .before in
-    star-stops (entry .args .text .now) (entry .args .room) (nodeV (entry .args .room) (entry .args .words .now) (entry .args .text .now) (entry .args .table .now) (entry .args .left)) (entry .pre .1 .0 .short) (node-bounded (entry .args .room) (entry .args .words .now) (entry .args .text .now) (entry .args .table .now) (entry .args .left)) (entry .args .a) (entry .args .at) (entry .args .lo) (entry .args .hi) (entry .args .depth) (c .before .before .before .before .before .before .loop .inv .1 (entry .pre .1 .0 .short)) (c .before .before .before .walk-part .ensures) (c .if1 .taken)
+    let given = entry .args in
+    star-stops (given .text .now) (given .room) (nodeV (given .room) (given .words .now) (given .text .now) (given .table .now) (given .left)) (entry .pre .1 .0 .short) (node-bounded (given .room) (given .words .now) (given .text .now) (given .table .now) (given .left)) (given .a) (given .at) (given .lo) (given .hi) (given .depth) (c .before .before .before .before .before .before .loop .inv .1 (entry .pre .1 .0 .short)) (c .before .before .before .walk-part .ensures) (c .if1 .taken)
 
 walk-star-same-length-2 : (t : ℕ) → walk-star-lts.Need-same-length-2 (walk-star-claims t) (walk-star-at t) walk-star.Post walk-star-Inv-loop walk-star-μ-loop
 walk-star-same-length-2 t c = search needs
@@ -629,7 +670,8 @@ walk-star-returns-2 : (t : ℕ) → walk-star-lts.Need-returns-2 (walk-star-clai
     walk-star-μ-loop
 walk-star-returns-2 t c =
     let entry = c .before .before .before .before .before .before .before .before .before .before .before in
-    star-last (entry .args .text .now) (entry .args .room) (nodeV (entry .args .room) (entry .args .words .now) (entry .args .text .now) (entry .args .table .now) (entry .args .left)) (entry .pre .1 .0 .short) (node-bounded (entry .args .room) (entry .args .words .now) (entry .args .text .now) (entry .args .table .now) (entry .args .left)) (entry .args .a) (entry .args .at) (entry .args .lo) (entry .args .hi) (entry .args .depth) (c .before .before .before .before .before .before .before .loop .inv .1 (entry .pre .1 .0 .short)) (c .before .before .before .before .walk-part .ensures) (c .if2 .taken)
+    let given = entry .args in
+    star-last (given .text .now) (given .room) (nodeV (given .room) (given .words .now) (given .text .now) (given .table .now) (given .left)) (entry .pre .1 .0 .short) (node-bounded (given .room) (given .words .now) (given .text .now) (given .table .now) (given .left)) (given .a) (given .at) (given .lo) (given .hi) (given .depth) (c .before .before .before .before .before .before .before .loop .inv .1 (entry .pre .1 .0 .short)) (c .before .before .before .before .walk-part .ensures) (c .if2 .taken)
 
 walk-star-add-result : (t : ℕ) → walk-star-lts.Need-add-result (walk-star-claims t)
     (walk-star-at t)
@@ -648,7 +690,8 @@ walk-star-returns-3 : (t : ℕ) → walk-star-lts.Need-returns-3 (walk-star-clai
     walk-star-μ-loop
 walk-star-returns-3 t c =
     let entry = c .before .before .before .before .before .before .before .before .before .before .before .before in
-    star-still (entry .args .text .now) (entry .args .room) (nodeV (entry .args .room) (entry .args .words .now) (entry .args .text .now) (entry .args .table .now) (entry .args .left)) (entry .pre .1 .0 .short) (node-bounded (entry .args .room) (entry .args .words .now) (entry .args .text .now) (entry .args .table .now) (entry .args .left)) (entry .args .a) (entry .args .at) (entry .args .lo) (entry .args .hi) (entry .args .depth) (c .before .before .before .before .before .before .before .before .loop .inv .1 (entry .pre .1 .0 .short)) (c .before .before .before .before .before .walk-part .ensures) (c .if3 .taken)
+    let given = entry .args in
+    star-still (given .text .now) (given .room) (nodeV (given .room) (given .words .now) (given .text .now) (given .table .now) (given .left)) (entry .pre .1 .0 .short) (node-bounded (given .room) (given .words .now) (given .text .now) (given .table .now) (given .left)) (given .a) (given .at) (given .lo) (given .hi) (given .depth) (c .before .before .before .before .before .before .before .before .loop .inv .1 (entry .pre .1 .0 .short)) (c .before .before .before .before .before .walk-part .ensures) (c .if3 .taken)
 
 walk-star-add-before : (t : ℕ) → walk-star-lts.Need-add-before (walk-star-claims t)
     (walk-star-at t)
@@ -657,7 +700,8 @@ walk-star-add-before : (t : ℕ) → walk-star-lts.Need-add-before (walk-star-cl
     walk-star-μ-loop
 walk-star-add-before t c =
     let entry = c .before .before .before .before .before .before .before .before .before .before .before .before in
-    omega (arith, (star-found (entry .args .text .now) (entry .args .room) (nodeV (entry .args .room) (entry .args .words .now) (entry .args .text .now) (entry .args .table .now) (entry .args .left)) (entry .pre .1 .0 .short) (node-bounded (entry .args .room) (entry .args .words .now) (entry .args .text .now) (entry .args .table .now) (entry .args .left)) (entry .args .a) (entry .args .at) (entry .args .lo) (entry .args .hi) (entry .args .depth) (c .before .before .before .before .before .before .before .before .loop .inv .1 (entry .pre .1 .0 .short)) (c .before .before .before .before .before .walk-part .ensures) (let a = c .before .before .if1 .left in let b = c .before .if2 .left in omega (arith, b))) .in-text, (entry .pre .1 .0 .short))
+    let given = entry .args in
+    omega (arith, (star-found (given .text .now) (given .room) (nodeV (given .room) (given .words .now) (given .text .now) (given .table .now) (given .left)) (entry .pre .1 .0 .short) (node-bounded (given .room) (given .words .now) (given .text .now) (given .table .now) (given .left)) (given .a) (given .at) (given .lo) (given .hi) (given .depth) (c .before .before .before .before .before .before .before .before .loop .inv .1 (entry .pre .1 .0 .short)) (c .before .before .before .before .before .walk-part .ensures) (let a = c .before .before .if1 .left in let b = c .before .if2 .left in omega (arith, b))) .in-text, (entry .pre .1 .0 .short))
 
 walk-star-loop-less : (t : ℕ) → walk-star-lts.Need-loop-less (walk-star-claims t)
     (walk-star-at t)
@@ -666,7 +710,8 @@ walk-star-loop-less : (t : ℕ) → walk-star-lts.Need-loop-less (walk-star-clai
     walk-star-μ-loop
 walk-star-loop-less t c =
     let entry = c .before .before .before .before .before .before .before .before .before .before .before .before in
-    let ne = c .if3 .left in omega (arith, ne, (star-found (entry .args .text .now) (entry .args .room) (nodeV (entry .args .room) (entry .args .words .now) (entry .args .text .now) (entry .args .table .now) (entry .args .left)) (entry .pre .1 .0 .short) (node-bounded (entry .args .room) (entry .args .words .now) (entry .args .text .now) (entry .args .table .now) (entry .args .left)) (entry .args .a) (entry .args .at) (entry .args .lo) (entry .args .hi) (entry .args .depth) (c .before .before .before .before .before .before .before .before .loop .inv .1 (entry .pre .1 .0 .short)) (c .before .before .before .before .before .walk-part .ensures) (let a = c .before .before .if1 .left in let b = c .before .if2 .left in omega (arith, b))) .in-text)
+    let given = entry .args in
+    let ne = c .if3 .left in omega (arith, ne, (star-found (given .text .now) (given .room) (nodeV (given .room) (given .words .now) (given .text .now) (given .table .now) (given .left)) (entry .pre .1 .0 .short) (node-bounded (given .room) (given .words .now) (given .text .now) (given .table .now) (given .left)) (given .a) (given .at) (given .lo) (given .hi) (given .depth) (c .before .before .before .before .before .before .before .before .loop .inv .1 (entry .pre .1 .0 .short)) (c .before .before .before .before .before .walk-part .ensures) (let a = c .before .before .if1 .left in let b = c .before .if2 .left in omega (arith, b))) .in-text)
 
 walk-star-loop-again : (t : ℕ) → walk-star-lts.Need-loop-again (walk-star-claims t)
     (walk-star-at t)
@@ -674,8 +719,8 @@ walk-star-loop-again : (t : ℕ) → walk-star-lts.Need-loop-again (walk-star-cl
     walk-star-Inv-loop
     walk-star-μ-loop
 walk-star-loop-again t c =
-    let entry = c .before .before .before .before .before .before .before .before .before .before .before .before in
-    (c .before .before .before .before .before .walk-part .kept .1 .1 .1 .0 ∙ c .before .before .before .before .before .before .before .before .loop .inv .0, λ short. star-more (entry .args .text .now) (entry .args .room) (nodeV (entry .args .room) (entry .args .words .now) (entry .args .text .now) (entry .args .table .now) (entry .args .left)) short (node-bounded (entry .args .room) (entry .args .words .now) (entry .args .text .now) (entry .args .table .now) (entry .args .left)) (entry .args .a) (entry .args .at) (entry .args .lo) (entry .args .hi) (entry .args .depth) (c .before .before .before .before .before .before .before .before .loop .inv .1 short) (c .before .before .before .before .before .walk-part .ensures) (let a = c .before .before .if1 .left in let b = c .before .if2 .left in omega (arith, b)) (c .if3 .left))
+    let given = c .before .before .before .before .before .before .before .before .before .before .before .before .args in
+    (c .before .before .before .before .before .walk-part .kept .1 .1 .1 .0 ∙ c .before .before .before .before .before .before .before .before .loop .inv .0, λ short. star-more (given .text .now) (given .room) (nodeV (given .room) (given .words .now) (given .text .now) (given .table .now) (given .left)) short (node-bounded (given .room) (given .words .now) (given .text .now) (given .table .now) (given .left)) (given .a) (given .at) (given .lo) (given .hi) (given .depth) (c .before .before .before .before .before .before .before .before .loop .inv .1 short) (c .before .before .before .before .before .walk-part .ensures) (let a = c .before .before .if1 .left in let b = c .before .if2 .left in omega (arith, b)) (c .if3 .left))
 
 pub +walk-choice+walk-node+walk-not+walk-part+walk-rule+walk-sequence+walk-star-spec :
     {M : Type 1} → statement M

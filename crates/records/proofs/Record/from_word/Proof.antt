@@ -24,35 +24,52 @@ length-of-requires : tie.Need-length-of-requires
 length-of-requires c κs = search needs
 
 returns : tie.Need-returns
-returns c = none-found (c .before .before .before .before .before .before .args .word) (c .before .before .before .before .before .before .args .at) (c .before .before .before .before .before .before .args .n) (λ h. omega (arith, h .some-nesting))
+returns c =
+    let entry = c .before .before .before .before .before .before in
+    none-found (entry .args .word) (entry .args .at) (entry .args .n) (λ h. omega (arith, h .some-nesting))
 
 returns-2 : tie.Need-returns-2
-returns-2 c = none-found (c .before .before .before .before .before .before .before .args .word) (c .before .before .before .before .before .before .before .args .at) (c .before .before .before .before .before .before .before .args .n) (λ h. omega (arith, h .most-nesting))
+returns-2 c =
+    let entry = c .before .before .before .before .before .before .before in
+    none-found (entry .args .word) (entry .args .at) (entry .args .n) (λ h. omega (arith, h .most-nesting))
 
 returns-3 : tie.Need-returns-3
-returns-3 c = none-found (c .before .before .before .before .before .before .before .before .args .word) (c .before .before .before .before .before .before .before .before .args .at) (c .before .before .before .before .before .before .before .before .args .n) (λ h. omega (arith, h .in-examined))
+returns-3 c =
+    let entry = c .before .before .before .before .before .before .before .before in
+    none-found (entry .args .word) (entry .args .at) (entry .args .n) (λ h. omega (arith, h .in-examined))
 
 returns-4 : tie.Need-returns-4
-returns-4 c = none-found (c .before .before .before .before .before .before .before .before .before .args .word) (c .before .before .before .before .before .before .before .before .before .args .at) (c .before .before .before .before .before .before .before .before .before .args .n) (λ h. omega (arith, h .in-text))
+returns-4 c =
+    let entry = c .before .before .before .before .before .before .before .before .before in
+    none-found (entry .args .word) (entry .args .at) (entry .args .n) (λ h. omega (arith, h .in-text))
 
 returns-5 : tie.Need-returns-5
-returns-5 c = none-found (c .before .before .before .before .before .before .before .before .before .before .args .word) (c .before .before .before .before .before .before .before .before .before .before .args .at) (c .before .before .before .before .before .before .before .before .before .before .args .n) (λ h. omega (arith, h .in-text))
+returns-5 c =
+    let entry = c .before .before .before .before .before .before .before .before .before .before in
+    none-found (entry .args .word) (entry .args .at) (entry .args .n) (λ h. omega (arith, h .in-text))
 
 returns-6 : tie.Need-returns-6
-returns-6 c = none-found (c .before .before .before .before .before .before .before .before .before .before .before .args .word) (c .before .before .before .before .before .before .before .before .before .before .before .args .at) (c .before .before .before .before .before .before .before .before .before .before .before .args .n) (λ h. c .if6 .taken (omega (arith, h .zero-bits)))
+returns-6 c =
+    let entry = c .before .before .before .before .before .before .before .before .before .before .before in
+    none-found (entry .args .word) (entry .args .at) (entry .args .n) (λ h. c .if6 .taken (omega (arith, h .zero-bits)))
 
 sub-if8 : tie.Need-sub-if8
 sub-if8 c = search needs
 
 returns-7 : tie.Need-returns-7
-returns-7 c = none-found (c .before .before .before .before .before .before .before .before .before .before .before .before .before .args .word) (c .before .before .before .before .before .before .before .before .before .before .before .before .before .args .at) (c .before .before .before .before .before .before .before .before .before .before .before .before .before .args .n) (λ h. omega (arith, h .up-to-end))
+returns-7 c =
+    let entry = c .before .before .before .before .before .before .before .before .before .before .before .before .before in
+    none-found (entry .args .word) (entry .args .at) (entry .args .n) (λ h. omega (arith, h .up-to-end))
 
 returns-8 : tie.Need-returns-8
-returns-8 c = none-found (c .before .before .before .before .before .before .before .before .before .before .before .before .before .before .args .word) (c .before .before .before .before .before .before .before .before .before .before .before .before .before .before .args .at) (c .before .before .before .before .before .before .before .before .before .before .before .before .before .before .args .n) (λ h. c .if10 .taken (omega (arith, h .failure (sym (c .before .before .before .before .before .before .before .before .before .before .before .before .before .matched-of .ensures) ∙ not-true (c .before .before .before .before .before .before .before .before .before .before .before .before .before .matched-of .result) (c .before .if9 .taken)))))
+returns-8 c =
+    let entry = c .before .before .before .before .before .before .before .before .before .before .before .before .before .before in
+    none-found (entry .args .word) (entry .args .at) (entry .args .n) (λ h. c .if10 .taken (omega (arith, h .failure (sym (c .before .before .before .before .before .before .before .before .before .before .before .before .before .matched-of .ensures) ∙ not-true (c .before .before .before .before .before .before .before .before .before .before .before .before .before .matched-of .result) (c .before .if9 .taken)))))
 
 returns-9 : tie.Need-returns-9
 returns-9 c =
-    found (c .before .before .before .before .before .before .before .before .before .before .before .before .before .before .args .word) (c .before .before .before .before .before .before .before .before .before .before .before .before .before .before .args .at) (c .before .before .before .before .before .before .before .before .before .before .before .before .before .before .args .n) _
+    let entry = c .before .before .before .before .before .before .before .before .before .before .before .before .before .before in
+    found (entry .args .word) (entry .args .at) (entry .args .n) _
     (λ i. record {
       matched = c .before .before .before .before .before .before .before .before .before .before .before .before .before .matched-of .ensures i;
       spare = c .before .before .before .before .before .before .before .before .before .before .before .before .spare-of .ensures .0 i;
@@ -72,7 +89,8 @@ returns-9 c =
 
 returns-10 : tie.Need-returns-10
 returns-10 c =
-    found (c .before .before .before .before .before .before .before .before .before .before .before .before .before .args .word) (c .before .before .before .before .before .before .before .before .before .before .before .before .before .args .at) (c .before .before .before .before .before .before .before .before .before .before .before .before .before .args .n) _
+    let entry = c .before .before .before .before .before .before .before .before .before .before .before .before .before in
+    found (entry .args .word) (entry .args .at) (entry .args .n) _
     (λ i. record {
       matched = c .before .before .before .before .before .before .before .before .before .before .before .before .matched-of .ensures i;
       spare = c .before .before .before .before .before .before .before .before .before .before .before .spare-of .ensures .0 i;
