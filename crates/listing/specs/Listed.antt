@@ -6,8 +6,8 @@ use mathlib.Core.Bool.{Bool}
 use mathlib.Core.List.{List, _++_}
 use lib.ListN.{length, drop}
 use Rattle.grammar.specs.Image.{start, root}
-use Rattle.reading.specs.Loaded.{rulesIn, Loaded}
-use Rattle.rows.specs.Walk.{walked, stopped, Trail, trail, pairV, nodeV}
+use Rattle.reading.specs.Loaded.{Loaded}
+use Rattle.rows.specs.Walk.{walked, stopped, Trail, trail, ruleV}
 use Rattle.rows.specs.Bounds.{Number}
 use Rattle.listing.specs.declared.list.Listed.{Listed}
 use Rattle.listing.specs.declared.list.Listed.the-variants.{Rows, Refused}
@@ -34,9 +34,7 @@ ListedAs o slots (Refused k) left = NotWritten o slots k left
 -- The window (0, n) of the whole text.
 abbrev pub ListedIn : (ws text table : List ℕ) (start root : ℕ) (slots : List ℕ) → Listed → List ℕ → Type 0
 ListedIn ws text table start root slots r left =
-    ListedAs
-    (pairV (rulesIn ws) root (length slots) text table (nodeV (length slots) ws text table 4096) start 0 0 (length text) 0 0)
-    slots r left
+    ListedAs (ruleV (length slots) ws text table 4096 root start 0 0 (length text) 0 0) slots r left
 
 -- The start pair of an image, by a grammar that was loaded from it.
 pub record ListedOver (img text table slots : List ℕ) (r : Listed) (left : List ℕ) : Type 0 where

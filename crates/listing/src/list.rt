@@ -4,8 +4,7 @@ use crate::walk;
 use records::Record;
 ghost use Prim.Native.Nat.{_≤_, _<_};
 ghost use lib.ListN.{length};
-ghost use Rattle.reading.specs.Loaded.{rulesIn};
-ghost use Rattle.rows.specs.Walk.{pairV, nodeV};
+ghost use Rattle.rows.specs.Walk.{ruleV};
 ghost use Rattle.listing.specs.Gives.{Gives};
 ghost use Rattle.listing.specs.Listed.{ListedIn};
 
@@ -28,7 +27,7 @@ fn walk_all(
     root: usize,
 ) -> usize
     requires { ⌜ (length (now text) ≤ 65535) × (now count ≤ room) × (start < 4096) × (root < 4096) ⌝ }
-    ensures { λ r. ⌜ Gives (now (count .entry)) (now (rows .entry)) r (now (rows .exit)) (now (count .exit)) (pairV (rulesIn (now (words .entry))) root room (now (text .entry)) (now (table .entry)) (nodeV room (now (words .entry)) (now (text .entry)) (now (table .entry)) 4096) start 0 0 (length (now (text .entry))) 0 (now (count .entry))) ⌝ }
+    ensures { λ r. ⌜ Gives (now (count .entry)) (now (rows .entry)) r (now (rows .exit)) (now (count .exit)) (ruleV room (now (words .entry)) (now (text .entry)) (now (table .entry)) 4096 root start 0 0 (length (now (text .entry))) 0 (now (count .entry))) ⌝ }
 {
     let n = text.len();
     let left = Record::MAX_NESTING;

@@ -10,8 +10,7 @@ ghost use Prim.Native.Nat.{_+_, _<_, _^_};
 ghost use mathlib.Core.Path.{_≡_};
 ghost use lib.ListN.{length, getD};
 ghost use Rattle.grammar.specs.Image.{sequence, choice, star, not-predicate};
-ghost use Rattle.reading.specs.Loaded.{rulesIn};
-ghost use Rattle.rows.specs.Walk.{partV, pairV, kindV, nodeV};
+ghost use Rattle.rows.specs.Walk.{partV, nodeV, ruleV, insideV};
 ghost use Rattle.listing.specs.Gives.{Gives, Steady};
 
 // A node at a position.
@@ -137,7 +136,7 @@ fn walk_sequence(
     left: usize,
 ) -> usize
     requires { ⌜ Steady (now text) room (now count) at depth (left + 1) × (a < 4096) × (b < 4096) ⌝ }
-    ensures { λ r. ⌜ Gives (now (count .entry)) (now (rows .entry)) r (now (rows .exit)) (now (count .exit)) (kindV (now (text .entry)) (nodeV room (now (words .entry)) (now (text .entry)) (now (table .entry)) left) (pairV (rulesIn (now (words .entry))) b room (now (text .entry)) (now (table .entry)) (nodeV room (now (words .entry)) (now (text .entry)) (now (table .entry)) left)) (sequence a b) at lo hi depth (now (count .entry))) ⌝ }
+    ensures { λ r. ⌜ Gives (now (count .entry)) (now (rows .entry)) r (now (rows .exit)) (now (count .exit)) (insideV room (now (words .entry)) (now (text .entry)) (now (table .entry)) left b (sequence a b) at lo hi depth (now (count .entry))) ⌝ }
 {
     let x = walk_node(
         words,
@@ -193,7 +192,7 @@ fn walk_choice(
     left: usize,
 ) -> usize
     requires { ⌜ Steady (now text) room (now count) at depth (left + 1) × (a < 4096) × (b < 4096) ⌝ }
-    ensures { λ r. ⌜ Gives (now (count .entry)) (now (rows .entry)) r (now (rows .exit)) (now (count .exit)) (kindV (now (text .entry)) (nodeV room (now (words .entry)) (now (text .entry)) (now (table .entry)) left) (pairV (rulesIn (now (words .entry))) b room (now (text .entry)) (now (table .entry)) (nodeV room (now (words .entry)) (now (text .entry)) (now (table .entry)) left)) (choice a b) at lo hi depth (now (count .entry))) ⌝ }
+    ensures { λ r. ⌜ Gives (now (count .entry)) (now (rows .entry)) r (now (rows .exit)) (now (count .exit)) (insideV room (now (words .entry)) (now (text .entry)) (now (table .entry)) left b (choice a b) at lo hi depth (now (count .entry))) ⌝ }
 {
     let x = walk_part(
         words,
@@ -242,7 +241,7 @@ fn walk_not(
     left: usize,
 ) -> usize
     requires { ⌜ Steady (now text) room (now count) at depth (left + 1) × (a < 4096) ⌝ }
-    ensures { λ r. ⌜ Gives (now (count .entry)) (now (rows .entry)) r (now (rows .exit)) (now (count .exit)) (kindV (now (text .entry)) (nodeV room (now (words .entry)) (now (text .entry)) (now (table .entry)) left) (pairV (rulesIn (now (words .entry))) 0 room (now (text .entry)) (now (table .entry)) (nodeV room (now (words .entry)) (now (text .entry)) (now (table .entry)) left)) (not-predicate a) at 0 0 depth (now (count .entry))) ⌝ }
+    ensures { λ r. ⌜ Gives (now (count .entry)) (now (rows .entry)) r (now (rows .exit)) (now (count .exit)) (insideV room (now (words .entry)) (now (text .entry)) (now (table .entry)) left 0 (not-predicate a) at 0 0 depth (now (count .entry))) ⌝ }
 {
     let x = walk_node(
         words,
@@ -283,7 +282,7 @@ fn walk_star(
     left: usize,
 ) -> usize
     requires { ⌜ Steady (now text) room (now count) at depth (left + 1) × (a < 4096) ⌝ }
-    ensures { λ r. ⌜ Gives (now (count .entry)) (now (rows .entry)) r (now (rows .exit)) (now (count .exit)) (kindV (now (text .entry)) (nodeV room (now (words .entry)) (now (text .entry)) (now (table .entry)) left) (pairV (rulesIn (now (words .entry))) 0 room (now (text .entry)) (now (table .entry)) (nodeV room (now (words .entry)) (now (text .entry)) (now (table .entry)) left)) (star a) at lo hi depth (now (count .entry))) ⌝ }
+    ensures { λ r. ⌜ Gives (now (count .entry)) (now (rows .entry)) r (now (rows .exit)) (now (count .exit)) (insideV room (now (words .entry)) (now (text .entry)) (now (table .entry)) left 0 (star a) at lo hi depth (now (count .entry))) ⌝ }
 {
     let mut before = 0usize;
     loop {
@@ -398,7 +397,7 @@ pub fn walk_rule(
     left: usize,
 ) -> usize
     requires { ⌜ Steady (now text) room (now count) at depth (left + 1) × (rule < 4096) × (root < 4096) ⌝ }
-    ensures { λ r. ⌜ Gives (now (count .entry)) (now (rows .entry)) r (now (rows .exit)) (now (count .exit)) (pairV (rulesIn (now (words .entry))) root room (now (text .entry)) (now (table .entry)) (nodeV room (now (words .entry)) (now (text .entry)) (now (table .entry)) left) rule at lo hi depth (now (count .entry))) ⌝ }
+    ensures { λ r. ⌜ Gives (now (count .entry)) (now (rows .entry)) r (now (rows .exit)) (now (count .exit)) (ruleV room (now (words .entry)) (now (text .entry)) (now (table .entry)) left root rule at lo hi depth (now (count .entry))) ⌝ }
 {
     let rules = wide(words[4096]);
     let word = look(table, at * rules + rule);

@@ -79,6 +79,14 @@ recordOf word =
       length = lengthOf word;
     }
 
+-- The same, field by field.
+pub record SaidBy (word : ℕ) (r : Record) : Type 0 where
+  pub matched-is : r .matched ≡ matchedOf word
+  pub spare-is : r .spare ≡ spareOf word
+  pub nesting-is : r .nesting ≡ nestingOf word
+  pub examined-is : r .examined ≡ examinedOf word
+  pub length-is : r .length ≡ lengthOf word
+
 -- What the decoder answers.
 abbrev pub pick : Bool → Record → Decoded
 pick true r = Possible r

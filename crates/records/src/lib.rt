@@ -2,7 +2,7 @@
 // "A record is a 64-bit word: held 1, matched 1, zero 16, nesting 13, examined 17, length 16."
 ghost use Prim.Native.Nat.{_<_};
 ghost use mathlib.Core.Path.{_≡_};
-ghost use Rattle.records.specs.Words.{isHeld, matchedOf, spareOf, nestingOf, examinedOf, lengthOf, recordWord, decoded};
+ghost use Rattle.records.specs.Words.{isHeld, matchedOf, spareOf, nestingOf, examinedOf, lengthOf, recordWord, SaidBy, decoded};
 
 pub struct Record {
     pub matched: bool,
@@ -69,50 +69,53 @@ impl Record {
     // "nesting 1 to 4,096"
     pub const MAX_NESTING: usize = 4096;
 
+    // What a word says, held or not.
+    fn said_by(word: u64) -> Record
+        ensures { λ r. ⌜ SaidBy word r ⌝ }
+    {
+        Record {
+            matched: matched_of(word),
+            spare: spare_of(word),
+            nesting: nesting_of(word),
+            examined: examined_of(word),
+            length: length_of(word),
+        }
+    }
+
     // The record of a held word that position `at` of a text of n bytes can have.
     pub fn from_word(word: u64, at: usize, n: usize) -> Decoded
         ensures { λ r. ⌜ r ≡ decoded word at n ⌝ }
     {
-        let matched = matched_of(word);
-        let spare = spare_of(word);
-        let nesting = nesting_of(word);
-        let examined = examined_of(word);
-        let length = length_of(word);
-        if nesting < 1 {
+        let said = Record::said_by(word);
+        if said.nesting < 1 {
             return Decoded::Impossible;
         }
-        if Record::MAX_NESTING < nesting {
+        if Record::MAX_NESTING < said.nesting {
             return Decoded::Impossible;
         }
-        if examined < length {
+        if said.examined < said.length {
             return Decoded::Impossible;
         }
         if n < at {
             return Decoded::Impossible;
         }
-        if n - at < length {
+        if n - at < said.length {
             return Decoded::Impossible;
         }
-        if spare != 0 {
+        if said.spare != 0 {
             return Decoded::Impossible;
         }
-        if n - at < examined {
-            if n - at < examined - 1 {
+        if n - at < said.examined {
+            if n - at < said.examined - 1 {
                 return Decoded::Impossible;
             }
         }
-        if !matched {
-            if length != 0 {
+        if !said.matched {
+            if said.length != 0 {
                 return Decoded::Impossible;
             }
         }
-        Decoded::Possible(Record {
-            matched,
-            spare,
-            nesting,
-            examined,
-            length,
-        })
+        Decoded::Possible(said)
     }
 
     // The record's word. A field that is too wide loses its upper bits.

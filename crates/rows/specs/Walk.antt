@@ -115,7 +115,13 @@ nodeV room ws text table (suc left) i at lo hi k c =
     (pairV (rulesIn ws) (wordB (getD ws i 0)) room text table (nodeV room ws text table left))
     (wordNode (getD ws i 0)) at lo hi k c
 
+-- A pair whose rule has that root, and a node by what it is: what is walked inside has the allowance `left`.
+abbrev pub ruleV : (room : ℕ) → (ws text table : List ℕ) → (left root : ℕ) → Walker
+ruleV room ws text table left root = pairV (rulesIn ws) root room text table (nodeV room ws text table left)
+
+abbrev pub insideV : (room : ℕ) → (ws text table : List ℕ) → (left root : ℕ) → Node → (at lo hi around count : ℕ) → Trail
+insideV room ws text table left root = kindV text (nodeV room ws text table left) (ruleV room ws text table left root)
+
 -- The start pair, with the whole allowance.
 unfoldable pub startV : (room : ℕ) → (img ws text table : List ℕ) → (lo hi : ℕ) → Trail
-startV room img ws text table lo hi =
-    pairV (rulesIn ws) (root img (start img)) room text table (nodeV room ws text table 4096) (start img) 0 lo hi 0 0
+startV room img ws text table lo hi = ruleV room ws text table 4096 (root img (start img)) (start img) 0 lo hi 0 0
