@@ -6,12 +6,10 @@ use Rattle.reading.specs.declared.plain.Outcome.{Outcome}
 use Rattle.reading.specs.declared.plain.Outcome.the-variants.{Whole, Part, Nothing}
 use Rattle.ledger.specs.declared.OpenAnswer.{OpenAnswer}
 use Rattle.ledger.specs.declared.EditAnswer.{EditAnswer}
-use Rattle.ledger.specs.declared.EditedSheet.{EditedSheet}
 use Rattle.ledger.specs.declared.ReadAnswer.{ReadAnswer}
 use Rattle.ledger.specs.declared.SheetReading.{SheetReading}
 use Rattle.ledger.specs.declared.LookUpAnswer.{LookUpAnswer}
 use Rattle.ledger.specs.declared.ListAnswer.{ListAnswer}
-use Rattle.ledger.specs.declared.SheetListing.{SheetListing}
 use Rattle.bridge.specs.declared.fields.Fields.{Fields}
 use Rattle.bridge.specs.Fields.{openFields, editFields, readingFields, readFields, lookUpFields, listFields, outcomeNumber}
 

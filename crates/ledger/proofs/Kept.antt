@@ -18,10 +18,6 @@ use Rattle.ledger.specs.Promises.{OpenPromise, EditPromise, LookUpPromis
 use Rattle.ledger.proofs.Asked.{edit-0, look-up-0}
 
 module _ (img text B W : List ℕ) where
-  pub open-refused :
-      (k : ℕ) → 1 ≤ k → First (ofSheet img (length B) (length text) (length W)) k → OpenPromise img text B W (OpenAnswer.Refused k) B W
-  open-refused k h f = record { first = f; values = record { numbered = h; same-bytes = refl; same-words = refl } }
-
   pub open-done :
       {B′ W′ : List ℕ}
       → First (ofSheet img (length B) (length text) (length W)) 0

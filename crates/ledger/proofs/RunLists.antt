@@ -25,7 +25,7 @@ use Rattle.ledger.specs.Questions.{Question8, ofSheet}
 use Rattle.ledger.specs.Listing.{SheetListed}
 use Rattle.ledger.specs.Run.{stoppedWords}
 use Rattle.ledger.specs.Ledger.{Reply, listing, lists}
-use Rattle.ledger.specs.Demand.{Loan, loan, Link, list-link, rowsGiven}
+use Rattle.ledger.specs.Demand.{loan, Link, list-link, rowsGiven}
 use Rattle.ledger.proofs.Asked.{sheet-passed}
 use Rattle.ledger.proofs.LoadedImage.{loadedWords, image-loaded}
 use Rattle.ledger.proofs.SheetLists.{refused-listed, written-listed, stopped-listed, lists-done}

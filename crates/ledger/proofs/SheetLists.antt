@@ -4,7 +4,7 @@
 --     refused-listed                    where it is refused
 --     impossible-listed                 where the start word is held and impossible
 --     lists-unasked, lists-done         the whole promise: where one of questions 1 to 8 fails, and where none does
-use Prim.Native.Nat.{ℕ, _≤_, _<_}
+use Prim.Native.Nat.{ℕ, _≤_}
 use native.Mathlib.Omega.{arith}
 use mathlib.Core.Path.{_≡_, refl, sym, ap, _∙_, subst}
 use mathlib.Core.Bool.{Bool, true, false}
@@ -12,7 +12,6 @@ use mathlib.Core.List.{List, _++_}
 use mathlib.Core.Logic.{inl, inr}
 use lib.ListN.{length, take, drop}
 use lib.Dec.{leb, eqb}
-use lib.Seq.{length-take-le}
 use borrow.Author.Tests.{leb-true, leb-false}
 use Rattle.grammar.specs.declared.Evaluation.{Evaluation}
 use Rattle.grammar.specs.Image.{rules, start}
@@ -25,7 +24,7 @@ use Rattle.reading.specs.Over.{wordAt}
 use Rattle.reading.specs.Session.{startRun}
 use Rattle.reading.proofs.TrueReads.{start-reads, start-deep}
 use Rattle.rows.specs.Rows.{rowsOf, rowWords}
-use Rattle.rows.specs.Walk.{Walked, walked, stopped, Trail, trail, startV}
+use Rattle.rows.specs.Walk.{walked, stopped, Trail, trail, startV}
 use Rattle.rows.specs.Bounds.{Number, impossible, too-deep, no-slot}
 use Rattle.rows.specs.Fits.{Fits, rows-fit, too-many}
 use Rattle.rows.proofs.Listed.{reading-lists}
@@ -34,12 +33,11 @@ use Rattle.ledger.specs.declared.ReadAnswer.{ReadAnswer}
 use Rattle.ledger.specs.declared.ListAnswer.{ListAnswer}
 use Rattle.ledger.specs.declared.SheetReading.{SheetReading}
 use Rattle.ledger.specs.Answers.{readNumber, sheetReading}
-use Rattle.ledger.specs.Questions.{Question8, ofSheet}
+use Rattle.ledger.specs.Questions.{ofSheet}
 use Rattle.ledger.specs.Reading.{NotForeign, SheetRead}
-use Rattle.ledger.specs.Listing.{GivesRows, EndsAs, listed, no-slots, zeroed, RefusedAlso, ThenListed, ListedAfter, SheetListed, ListPromise}
+use Rattle.ledger.specs.Listing.{GivesRows, listed, no-slots, zeroed, RefusedAlso, ThenListed, SheetListed, ListPromise}
 use Rattle.ledger.specs.Run.{answerOf, wordsOf, stoppedWords}
 use Rattle.ledger.proofs.Tables.{size-up}
-use Rattle.ledger.proofs.Asked.{sheet-first}
 use Rattle.ledger.proofs.SheetReads.{sheet-read}
 
 -- The words of a walk, and the number of one that stopped.

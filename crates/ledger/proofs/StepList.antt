@@ -1,19 +1,17 @@
 -- A listing of demand 3: from the invariant and the listing's promise, the reply is the ledger's, rows included, and the invariant holds
 -- again, as after a reading. Assumes nothing.
 --     list-step
-use Prim.Native.Nat.{ℕ, _≤_, _<_}
+use Prim.Native.Nat.{ℕ}
 use native.Mathlib.Omega.{arith}
 use mathlib.Core.Path.{_≡_, refl, sym, ap, _∙_, subst}
 use mathlib.Core.Bool.{Bool, true, false}
-use mathlib.Core.List.{List, [], _++_}
+use mathlib.Core.List.{List, _++_}
 use lib.ListN.{length, take, drop}
-use lib.Dec.{leb}
 use lib.Seq.{take-at}
 use borrow.Author.Tests.{leb-true, leb-false}
-use Rattle.grammar.specs.declared.Evaluation.{Evaluation}
 use Rattle.grammar.specs.Image.{start}
 use Rattle.grammar.specs.Evaluates.{Fresh, a-pair}
-use Rattle.rows.specs.Rows.{Row, rowsOf, rowWords}
+use Rattle.rows.specs.Rows.{rowsOf, rowWords}
 use Rattle.ledger.specs.declared.ReadAnswer.{ReadAnswer}
 use Rattle.ledger.specs.declared.ListAnswer.{ListAnswer}
 use Rattle.ledger.specs.declared.SheetReading.{SheetReading}

@@ -1,5 +1,5 @@
 -- Questions 8 to 11, and the questions of each call in order. "Every call checks the image (1 to 7) and the loan (8), then its own."
-use Prim.Native.Nat.{ℕ, _+_, _≤_, _<_}
+use Prim.Native.Nat.{ℕ, _≤_, _<_}
 use mathlib.Core.List.{List, [], _∷_, _++_}
 use Rattle.grammar.specs.Image.{rules}
 use Rattle.grammar.specs.Questions.{Question, ofImage}

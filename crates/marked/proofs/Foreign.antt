@@ -18,7 +18,7 @@ use Rattle.reading.specs.declared.plain.Outcome.{Outcome}
 use Rattle.ledger.specs.declared.ReadAnswer.{ReadAnswer}
 use Rattle.ledger.specs.declared.ListAnswer.{ListAnswer}
 use Rattle.ledger.specs.Answers.{readNumber}
-use Rattle.ledger.specs.Questions.{Question8, ofSheet}
+use Rattle.ledger.specs.Questions.{ofSheet}
 use Rattle.ledger.specs.Reading.{SheetRead, ReadPromise}
 use Rattle.ledger.specs.Listing.{ListPromise}
 use Rattle.ledger.proofs.Asked.{sheet-one, sheet-first}

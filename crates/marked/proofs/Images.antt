@@ -1,12 +1,11 @@
 -- The number of each image of the table. Questions 1 to 5 are tests that compute; the well-formed set is gone through node by node.
 -- Assumes nothing.
-use Prim.Native.Nat.{ℕ, zero, suc, _≤_, _<_}
+use Prim.Native.Nat.{ℕ, zero, suc, _<_}
 use native.Mathlib.Omega.{arith}
 use mathlib.Core.Path.{_≡_, refl, sym, ap, _∙_}
 use mathlib.Core.Bool.{Bool, true, false, true≢false}
 use mathlib.Core.List.{List, []}
 use mathlib.Core.Logic.{inl, inr}
-use lib.ListN.{length}
 use lib.Dec.{eqb, lit<, lit≤}
 use borrow.Author.Tests.{eqb-true}
 use Rattle.grammar.specs.Image.{edition, rules, nodes, start, ruleZero, root, ruleWord, kind, nodeZero, nodeWord, fieldA, fieldB}

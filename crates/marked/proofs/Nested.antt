@@ -7,15 +7,15 @@ use mathlib.Core.List.{List, [], _∷_}
 use mathlib.Core.Logic.{inl, inr}
 use lib.ListN.{length, length-replicate, getD-replicate}
 use lib.Dec.{ltb}
-use borrow.Author.Tests.{lt-ltb, le-ltb, eq-eqb}
+use borrow.Author.Tests.{lt-ltb, le-ltb}
 use Rattle.grammar.specs.declared.Evaluation.{Evaluation}
 use Rattle.grammar.specs.Image.{edition, rules, nodes, start, ruleZero, root, ruleWord, kind, nodeZero, nodeWord, fieldA, fieldB}
 use Rattle.grammar.specs.Image.{node, nodeOfKind, body, Terminal, range, terminal, byteAt}
 use Rattle.grammar.specs.Outcomes.{Has, matches-empty}
 use Rattle.grammar.specs.WellFormed.{WellFormed, wf-empty, wf-terminal, wf-call, wf-then, wf-else}
-use Rattle.grammar.specs.Questions.{Question7, Lawful, Checked, First, ofImage, roots, childrenBelow, occurrences}
+use Rattle.grammar.specs.Questions.{Question7, Checked, ofImage, roots, childrenBelow, occurrences}
 use Rattle.grammar.specs.Terminal.{terminalAt, accepts, tested}
-use Rattle.grammar.specs.Evaluates.{Fresh, bodiesOnly, a-node, a-pair}
+use Rattle.grammar.specs.Evaluates.{Fresh, bodiesOnly, a-pair}
 use Rattle.grammar.specs.Evaluates.{ev-empty, ev-terminal, ev-then-first-fails, ev-then, ev-else-first, ev-else-second, ev-call, ev-body}
 use Rattle.grammar.proofs.Tests.{every, headerTest, ruleTest, nodeTest, wordsTest, onceTest, lawful-image}
 use Rattle.grammar.proofs.First.{then-asked}
@@ -23,7 +23,7 @@ use Rattle.grammar.proofs.Acceptance.{checked, accepted}
 use Rattle.grammar.proofs.Determinism.{one}
 use Rattle.reading.specs.declared.plain.Outcome.{Outcome}
 use Rattle.reading.specs.declared.plain.PlainAnswer.{PlainAnswer}
-use Rattle.reading.specs.Plain.{ShortText, DepthAllowed, ofPlain, PlainRead}
+use Rattle.reading.specs.Plain.{ShortText, DepthAllowed, PlainRead}
 use Rattle.ledger.specs.Sessions.{SessionSays}
 use Rattle.ledger.proofs.Asked.{image-numbers}
 use Rattle.ledger.proofs.Sessions.{session-deep}

@@ -3,12 +3,9 @@ use Prim.Native.Nat.{ℕ}
 use mathlib.Core.List.{List, [], _∷_}
 use Rattle.reading.specs.declared.plain.Outcome.{Outcome}
 use Rattle.ledger.specs.declared.EditAnswer.{EditAnswer}
-use Rattle.ledger.specs.declared.EditedSheet.{EditedSheet}
 use Rattle.ledger.specs.declared.LookUpAnswer.{LookUpAnswer}
 use Rattle.ledger.specs.declared.ReadAnswer.{ReadAnswer}
 use Rattle.ledger.specs.declared.ListAnswer.{ListAnswer}
-use Rattle.ledger.specs.declared.SheetReading.{SheetReading}
-use Rattle.ledger.specs.declared.SheetListing.{SheetListing}
 use Rattle.ledger.specs.Ledger.{Call, edit, reading, look-up, listing, Reply, edits, reads, finds, lists}
 
 -- A reading's reply, an edit's, and a look-up's.

@@ -1,9 +1,9 @@
 -- The code of a plain reading's answer is injective: among answers that a plain reading of one text can give, the number tells which
 -- it was. Assumes nothing.
-use Prim.Native.Nat.{ℕ, _+_, _*_, _%_, _≤_, _<_, _^_}
+use Prim.Native.Nat.{ℕ, _≤_, _<_, _^_}
 use native.Mathlib.Omega.{arith}
 use mathlib.Core.Path.{_≡_, refl, sym, ap, _∙_}
-use mathlib.Core.Bool.{Bool, true, false, true≢false}
+use mathlib.Core.Bool.{true≢false}
 use mathlib.Core.List.{List}
 use mathlib.Core.Logic.{inl, inr}
 use lib.ListN.{length}

@@ -4,15 +4,15 @@
 --     pair-impossible   a held word that is not possible is refused with 12, and nothing changes
 use Prim.Native.Nat.{ℕ, zero, suc, _+_, _*_, _%_, _≤_, _<_, _^_}
 use native.Mathlib.Omega.{arith}
-use mathlib.Core.Path.{_≡_, refl, sym, ap, _∙_, subst}
+use mathlib.Core.Path.{_≡_, refl, ap, _∙_}
 use mathlib.Core.Bool.{Bool, true, false}
 use mathlib.Core.List.{List}
-use mathlib.Core.Logic.{_⊎_, inl, inr}
+use mathlib.Core.Logic.{inl, inr}
 use lib.ListN.{length, getD, set, length-set}
 use lib.Seq.{getD-set-other}
 use lib.Dec.{eqb, leb}
 use Rattle.grammar.specs.declared.Evaluation.{Evaluation}
-use Rattle.grammar.specs.Image.{rules, nodes, root, kind, fieldA, fieldB, node, any, range}
+use Rattle.grammar.specs.Image.{rules, nodes, root, kind, node}
 use Rattle.grammar.specs.Image.{Node, empty, terminal, sequence, choice, star, not-predicate, call, unlawful}
 use Rattle.grammar.specs.Questions.{Question4}
 use Rattle.grammar.specs.Evaluates.{inSequence, takenOver, secondChoice, roundThen, negated}
@@ -22,7 +22,7 @@ use Rattle.grammar.proofs.Terminals.{shape}
 use Rattle.evaluation.specs.Within.{Within}
 use Rattle.evaluation.proofs.Shape.{empty-within, failed-within, taken-within, negated-within, last-within, second-within}
 use Rattle.evaluation.proofs.Shape.{round-within, then-within}
-use Rattle.records.specs.Words.{isHeld, possible, nestingOf, valueOf, wordOf}
+use Rattle.records.specs.Words.{isHeld, possible, nestingOf, wordOf}
 use Rattle.records.proofs.Test.{says-possible}
 use Rattle.reading.specs.Model.{Answer, answered, refused, Out, out, Evaluator, bind, made, afterFirst, afterChoice, afterRound}
 use Rattle.reading.specs.Model.{roundsM, met, looked, pairM, ruleM, kindM, nodeM}

@@ -1,8 +1,8 @@
 -- Using what a function of the evaluator promises: an answer that is held is an evaluation, one that is not is a refusal.
 -- Assumes nothing.
-use Prim.Native.Nat.{ℕ, _+_, _≤_, _<_, _^_}
+use Prim.Native.Nat.{ℕ, _≤_, _<_}
 use native.Mathlib.Omega.{arith}
-use mathlib.Core.Path.{_≡_, refl, sym, ap, _∙_, subst}
+use mathlib.Core.Path.{_≡_, refl, sym, ap, _∙_}
 use mathlib.Core.List.{List}
 use Rattle.grammar.specs.declared.Evaluation.{Evaluation}
 use Rattle.evaluation.specs.Within.{Within}

@@ -1,14 +1,14 @@
 -- The words of a loaded grammar: a node's own word, a call's with its root, and 0 past the last node. Assumes nothing.
 use Prim.Native.Nat.{ℕ, _+_, _*_, _≤_, _<_}
 use native.Mathlib.Omega.{arith}
-use mathlib.Core.Path.{_≡_, refl, sym, ap, _∙_, subst}
+use mathlib.Core.Path.{_≡_, refl, sym, ap, _∙_}
 use mathlib.Core.Bool.{Bool, true, false}
 use mathlib.Core.List.{List}
 use lib.ListN.{length, getD, set, replicate}
 use lib.Seq.{getD-set-same, getD-set-other}
 use lib.Dec.{eqb, ltb}
 use borrow.Author.Tests.{eqb-true, eqb-false, ltb-true, ltb-false}
-use Rattle.grammar.specs.Image.{Node, empty, call, field, nodeOfKind, nodeWord, kind, fieldA, fieldB, node, rules, nodes, root}
+use Rattle.grammar.specs.Image.{empty, field, nodeOfKind, nodeWord, kind, fieldA, fieldB, node, rules, nodes, root}
 use Rattle.grammar.specs.Questions.{Question2, Question3}
 use Rattle.grammar.proofs.Nodes.{is-empty, is-call, kind-of-call, rule-of-call}
 use Rattle.lawful.proofs.Writes.{all-the-same}

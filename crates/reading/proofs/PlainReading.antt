@@ -1,8 +1,8 @@
 -- The plain reading: from the start pair's word to what is promised. Totality gives the evaluation, its nesting says which case it is.
 -- Assumes nothing.
-use Prim.Native.Nat.{ℕ, _≤_, _<_, _^_}
+use Prim.Native.Nat.{ℕ, _≤_, _<_}
 use native.Mathlib.Omega.{arith}
-use borrow.Author.Tests.{eq-eqb, ne-eqb, eqb-true, eqb-false}
+use borrow.Author.Tests.{eqb-true, eqb-false}
 use mathlib.Core.Path.{_≡_, refl, sym, ap, _∙_, subst}
 use mathlib.Core.Bool.{Bool, true, false}
 use mathlib.Core.List.{List, [], _∷_}
@@ -10,23 +10,19 @@ use mathlib.Core.Logic.{inl, inr}
 use lib.ListN.{length}
 use lib.Dec.{eqb}
 use Rattle.grammar.specs.declared.Evaluation.{Evaluation}
-use Rattle.grammar.specs.Image.{start, rules}
-use Rattle.grammar.specs.Evaluates.{Fresh, a-pair, bodiesOnly}
-use Rattle.grammar.specs.Questions.{Question, First, ofImage, Checked, Accepted}
+use Rattle.grammar.specs.Image.{start}
+use Rattle.grammar.specs.Evaluates.{a-pair, bodiesOnly}
+use Rattle.grammar.specs.Questions.{Question, First, ofImage, Checked}
 use Rattle.grammar.proofs.First.{then-asked, refused-before}
 use Rattle.grammar.proofs.Acceptance.{accepted}
 use Rattle.grammar.proofs.Determinism.{one}
-use Rattle.evaluation.specs.Within.{Within}
 use Rattle.evaluation.proofs.Totality.{Exists, total-pair}
 use Rattle.evaluation.proofs.Plain.{fresh-within}
 use Rattle.records.specs.Words.{valueOf}
-use Rattle.reading.specs.declared.plain.Outcome.{Outcome}
 use Rattle.reading.specs.declared.plain.Reading.{Reading}
-use Rattle.reading.specs.declared.plain.PlainAnswer.{PlainAnswer}
 use Rattle.reading.specs.declared.plain.PlainAnswer.the-variants.{Read, Refused}
-use Rattle.reading.specs.Model.{Answer, answered, refused, Out, out, nodeM, ruleM}
-use Rattle.reading.specs.Gives.{Gives}
-use Rattle.reading.specs.Plain.{Says, Reports, ShortText, DepthAllowed, TooDeep, ofPlain, PlainRead, outcomeOf, readingOf, StartWord, Reported}
+use Rattle.reading.specs.Model.{nodeM, ruleM}
+use Rattle.reading.specs.Plain.{Says, Reports, ShortText, DepthAllowed, PlainRead, outcomeOf, readingOf, StartWord}
 use Rattle.reading.proofs.Gives.{found, was-refused, says}
 use Rattle.evaluation.specs.Calls.{bodiesOf}
 use Rattle.reading.specs.Over.{over, Over}

@@ -4,21 +4,19 @@ use Prim.Native.Nat.{ℕ, zero, suc, _+_, _-_, _*_, _%_, _≤_, _<_, _^_}
 use native.Mathlib.Omega.{arith}
 use native.Mathlib.Nat.{mul-le-mul}
 use mathlib.Core.Path.{_≡_, refl, sym, ap, _∙_, subst}
-use mathlib.Core.Bool.{Bool, true, false, true≢false}
+use mathlib.Core.Bool.{Bool, true, false}
 use mathlib.Core.List.{List}
 use lib.ListN.{length, getD, set}
 use lib.Dec.{leb}
 use borrow.Author.Tests.{le-leb, lt-leb}
-use Rattle.grammar.specs.declared.Evaluation.{Evaluation}
 use Rattle.grammar.specs.Image.{Node}
 use Rattle.evaluation.specs.Within.{Within}
 use Rattle.records.specs.declared.Record.{Record}
-use Rattle.records.specs.declared.Decoded.{Decoded}
 use Rattle.records.specs.declared.Decoded.the-variants.{Possible, Impossible}
 use Rattle.records.specs.Words.{isHeld, possible, IsPossible, nestingOf, valueOf, wordOf, recordOf, recordWord, pick}
 use Rattle.records.proofs.Codec.{word-again}
 use Rattle.records.proofs.Test.{says-possible}
-use Rattle.reading.specs.Model.{Answer, answered, refused, Out, out, Evaluator, bind, met, looked, pairM, kindM}
+use Rattle.reading.specs.Model.{answered, Out, out, Evaluator, bind, met, looked, pairM}
 use Rattle.reading.specs.Loaded.{wordNode, wordB, wordM, nodeW, kindW}
 use Rattle.reading.specs.Gives.{Gives}
 use Rattle.reading.proofs.Gives.{found, was-refused, gives-value, gives-refusal}

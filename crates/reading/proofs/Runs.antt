@@ -1,20 +1,19 @@
 -- The ways through the evaluator: from what the steps gave to what the whole gives. One lemma for each way to a return.
 -- Assumes nothing.
-use Prim.Native.Nat.{ℕ, zero, suc, _+_, _-_, _*_, _%_, _≤_, _<_, _^_}
+use Prim.Native.Nat.{ℕ, _+_, _≤_, _<_}
 use native.Mathlib.Omega.{arith}
-use mathlib.Core.Path.{_≡_, refl, sym, ap, _∙_, subst}
+use mathlib.Core.Path.{_≡_, sym, ap, _∙_, subst}
 use mathlib.Core.Bool.{Bool, true, false}
 use mathlib.Core.List.{List}
-use lib.ListN.{length}
 use Rattle.grammar.specs.declared.Evaluation.{Evaluation}
-use Rattle.grammar.specs.Image.{Node, sequence, choice, star, not-predicate, call, node}
+use Rattle.grammar.specs.Image.{sequence, choice, not-predicate, call}
 use Rattle.grammar.specs.Evaluates.{firstFailed, inSequence, takenOver, secondChoice, negated}
 use Rattle.evaluation.specs.Within.{Within}
 use Rattle.evaluation.proofs.Shape.{failed-within, taken-within, negated-within, second-within, then-within}
 use Rattle.records.specs.Words.{wordOf, valueOf, matchedOf, lengthOf, nestingOf}
-use Rattle.reading.specs.Model.{Answer, answered, refused, Out, out, Evaluator, bind, made, afterFirst, afterChoice, kindM, nodeM, ruleM}
+use Rattle.reading.specs.Model.{answered, Out, out, Evaluator, bind, made, afterFirst, afterChoice, kindM}
 use Rattle.reading.specs.Gives.{Gives, Joinable}
-use Rattle.reading.proofs.Gives.{Found, Refused, found, was-refused, says, says-matched, says-length, says-examined, says-nesting, gives-value, gives-refusal}
+use Rattle.reading.proofs.Gives.{found, was-refused, says, says-matched, says-length, says-examined, says-nesting, gives-value, gives-refusal}
 
 module _ {n at left : ℕ} (text : List ℕ) (nodes called : Evaluator) (t : List ℕ) (c : ℕ) (short : n ≤ 65535) (most : left + 1 ≤ 4096) where
   -- A then B.

@@ -1,8 +1,8 @@
 -- The loop of a star: the rounds so far, joined with the rounds that follow, are all the rounds. Assumes nothing.
-use Prim.Native.Nat.{ℕ, zero, suc, _+_, _≤_, _<_, _^_, max}
+use Prim.Native.Nat.{ℕ, zero, suc, _+_, _≤_, _<_, max}
 use native.Mathlib.Omega.{arith}
-use native.Mathlib.Nat.{add-zero, add-assoc}
-use mathlib.Core.Path.{_≡_, refl, sym, ap, _∙_, subst}
+use native.Mathlib.Nat.{add-zero}
+use mathlib.Core.Path.{_≡_, refl, sym, ap, _∙_}
 use mathlib.Core.Bool.{Bool, true, false, true≢false}
 use mathlib.Core.List.{List}
 use lib.ListN.{length}
@@ -11,11 +11,10 @@ use borrow.Author.Tests.{eq-eqb, ne-eqb}
 use Rattle.grammar.specs.declared.Evaluation.{Evaluation}
 use Rattle.grammar.specs.Image.{star}
 use Rattle.grammar.specs.Evaluates.{takenOver, lastRound, roundThen}
-use Rattle.evaluation.specs.Within.{Within}
 use Rattle.records.specs.Words.{wordOf, matchedOf, lengthOf, examinedOf, nestingOf}
-use Rattle.reading.specs.Model.{Answer, answered, refused, Out, out, Evaluator, bind, made, afterRound, roundsM, kindM}
+use Rattle.reading.specs.Model.{answered, refused, Out, out, Evaluator, bind, made, afterRound, roundsM, kindM}
 use Rattle.reading.specs.Gives.{Gives}
-use Rattle.reading.proofs.Gives.{found, was-refused, says-matched, says-length, says-examined, says-nesting, gives-value, gives-refusal}
+use Rattle.reading.proofs.Gives.{found, was-refused, says-matched, says-length, says-examined, says-nesting, gives-value}
 
 -- Rounds that consumed, examined and nested so far, with the rounds y after them.
 abbrev pub joined : (consumed examined deepest : ℕ) → Evaluation → Evaluation

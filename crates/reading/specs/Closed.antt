@@ -1,6 +1,6 @@
 -- Tables that are true and closed under calls, which are those without foreign records: "words that aren't true, whose nesting is above
 -- 4,096 or whose called pairs are missing". And what a reading leaves over one.
-use Prim.Native.Nat.{ℕ, _+_, _*_, _≤_, _<_, _^_}
+use Prim.Native.Nat.{ℕ, _+_, _≤_, _<_, _^_}
 use mathlib.Core.Path.{_≡_}
 use mathlib.Core.Bool.{true, false, not, _&&_, _||_}
 use mathlib.Core.List.{List}

@@ -1,6 +1,6 @@
 -- What holds of a run whatever the table holds and whatever it answers: it "changes only the table", "has a length of at most n", and
 -- is refused with 12 or 14 if at all.
-use Prim.Native.Nat.{ℕ, _+_, _*_, _≤_, _<_}
+use Prim.Native.Nat.{ℕ, _≤_, _<_}
 use mathlib.Core.Path.{_≡_}
 use mathlib.Core.List.{List}
 use mathlib.Core.Logic.{_⊎_}

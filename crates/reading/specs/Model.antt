@@ -1,6 +1,6 @@
 -- The evaluator as a function: what it answers and stores for an allowance of nesting, over any table of records.
 -- It is not the definition of an evaluation, which is `Evaluates` of the crate grammar; proofs/ show how the two agree.
-use Prim.Native.Nat.{ℕ, zero, suc, _+_, _*_, _%_, _^_}
+use Prim.Native.Nat.{ℕ, zero, suc, _+_, _%_, _^_}
 use mathlib.Core.Bool.{Bool, true, false}
 use mathlib.Core.List.{List}
 use lib.ListN.{length, getD, set}

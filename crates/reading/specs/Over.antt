@@ -1,6 +1,6 @@
 -- Evaluation over a table of records: "Ford's rules, each held pair that is called, and the start pair too, taking what its word says,
 -- true or not". A held word that is not possible answers nothing.
-use Prim.Native.Nat.{ℕ, _+_, _*_}
+use Prim.Native.Nat.{ℕ}
 use mathlib.Core.Bool.{Bool, true, false}
 use mathlib.Core.List.{List}
 use lib.ListN.{length, getD}

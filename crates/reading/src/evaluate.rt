@@ -7,7 +7,7 @@ use crate::memo;
 use crate::terminals;
 use records::Decoded;
 use records::Record;
-ghost use Prim.Native.Nat.{_+_, _-_, _<_, _≤_};
+ghost use Prim.Native.Nat.{_+_, _-_, _<_};
 ghost use lib.ListN.{length};
 ghost use Rattle.grammar.specs.Image.{sequence, choice, star, not-predicate, call};
 ghost use Rattle.reading.specs.Model.{pairM};

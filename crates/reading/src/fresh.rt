@@ -2,7 +2,7 @@
 // `left` and the answers are as in `evaluate`, and so is what each function does.
 use crate::answers;
 use crate::terminals;
-ghost use Prim.Native.Nat.{_+_, _-_, _<_, _≤_};
+ghost use Prim.Native.Nat.{_+_, _-_, _<_};
 ghost use mathlib.Core.List.{[]};
 ghost use lib.ListN.{length};
 ghost use Rattle.grammar.specs.Image.{sequence, choice, star, not-predicate};

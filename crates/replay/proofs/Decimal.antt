@@ -2,13 +2,13 @@
 -- Assumes nothing.
 use Prim.Native.Nat.{ℕ, zero, suc, _+_, _*_, _-_, _≤_, _<_, _^_}
 use native.Mathlib.Omega.{arith}
-use mathlib.Core.Path.{_≡_, refl, sym, ap, subst}
-use mathlib.Core.Logic.{_⊎_, inl, inr, ⊎-elim}
+use mathlib.Core.Path.{_≡_, refl, ap, subst}
+use mathlib.Core.Logic.{⊎-elim}
 use mathlib.Core.List.{List}
 use lib.ListN.{length, getD}
 use Rattle.buffers.proofs.Fill.{cut}
 use Rattle.replay.specs.Fields.{Digit, DigitsTo, valueTo, IsNumber, DecimalOf}
-use Rattle.replay.specs.declared.fields.Number.the-variants.{Is, None}
+use Rattle.replay.specs.declared.fields.Number.the-variants.{Is}
 
 -- The first i bytes are digits, and are this number.
 pub record Passed (s : List ℕ) (value i : ℕ) : Type 0 where

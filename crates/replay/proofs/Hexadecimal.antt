@@ -1,16 +1,16 @@
 -- The laws of a hexadecimal field that is read pair by pair: how the loop begins, makes a turn and ends, and why a field is refused.
 -- Assumes nothing.
-use Prim.Native.Nat.{ℕ, _+_, _*_, _-_, _≤_, _<_, _/_, _%_}
+use Prim.Native.Nat.{ℕ, _+_, _*_, _≤_, _<_, _%_}
 use native.Mathlib.Omega.{arith}
-use mathlib.Core.Path.{_≡_, refl, ap, subst}
-use mathlib.Core.Logic.{_⊎_, inl, inr, ⊎-elim}
+use mathlib.Core.Path.{_≡_, subst}
+use mathlib.Core.Logic.{⊎-elim}
 use mathlib.Core.List.{List}
 use lib.ListN.{length, getD, set}
 use Rattle.buffers.specs.Filled.{Filled}
 use Rattle.buffers.proofs.Fill.{cut, up}
 use Rattle.buffers.proofs.Fill.{none as none-filled}
 use Rattle.replay.specs.Fields.{hexValue, byteAt, IsHex, HexOf}
-use Rattle.replay.specs.declared.fields.Decoded.the-variants.{Bytes, TooLong, Wrong}
+use Rattle.replay.specs.declared.fields.Decoded.the-variants.{Bytes}
 
 -- Before the pair i all are digits, and their bytes stand at the start of `new`.
 pub record Paired (s old new : List ℕ) (count i : ℕ) : Type 0 where

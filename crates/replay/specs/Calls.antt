@@ -6,10 +6,8 @@ use mathlib.Core.List.{List}
 use lib.ListN.{length}
 use Rattle.ledger.specs.declared.OpenAnswer.{OpenAnswer}
 use Rattle.ledger.specs.declared.EditAnswer.{EditAnswer}
-use Rattle.ledger.specs.declared.EditedSheet.{EditedSheet}
 use Rattle.ledger.specs.declared.ReadAnswer.{ReadAnswer}
 use Rattle.ledger.specs.declared.ListAnswer.{ListAnswer}
-use Rattle.ledger.specs.declared.SheetListing.{SheetListing}
 use Rattle.ledger.specs.Promises.{OpenPromise, EditPromise}
 use Rattle.ledger.specs.Reading.{ReadPromise}
 use Rattle.ledger.specs.Listing.{ListPromise}

@@ -32,7 +32,6 @@ mod listing;
 mod verbs;
 
 use lines::Session;
-ghost use Prim.Native.Nat.{_≤_};
 ghost use lib.ListN.{length};
 
 fn replay(input: &[u8], image: &mut [u8], buffer: &mut [u8], table: &mut [u64], given: &mut [u8]) {

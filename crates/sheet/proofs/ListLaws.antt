@@ -4,18 +4,17 @@
 --     list-stopped    where the walk stopped
 use Prim.Native.Nat.{ℕ, _≤_, _<_}
 use native.Mathlib.Omega.{arith}
-use mathlib.Core.Path.{_≡_, refl, sym, ap, _∙_, subst}
-use mathlib.Core.List.{List, _++_}
-use lib.ListN.{length, take, drop}
+use mathlib.Core.Path.{_≡_, sym, subst}
+use mathlib.Core.List.{List}
+use lib.ListN.{length, take}
 use lib.Dec.{eqb}
 use lib.Seq.{length-take-le}
-use Rattle.grammar.specs.declared.Evaluation.{Evaluation}
 use Rattle.grammar.specs.Image.{rules, start, root}
 use Rattle.grammar.specs.Questions.{First, Accepted}
 use Rattle.records.specs.Words.{valueOf}
 use Rattle.reading.specs.Session.{StartOver, startRun}
 use Rattle.reading.proofs.Gives.{Found, found, was-refused, says}
-use Rattle.rows.specs.Walk.{walked, stopped, trail, startV}
+use Rattle.rows.specs.Walk.{startV}
 use Rattle.rows.specs.Bounds.{Number, impossible, too-deep, no-slot}
 use Rattle.listing.specs.declared.list.Listed.{Listed}
 use Rattle.listing.specs.declared.list.Listed.the-variants.{Rows, Refused}
@@ -24,7 +23,7 @@ use Rattle.editing.specs.Table.{clearedTable}
 use Rattle.ledger.specs.declared.ListAnswer.{ListAnswer}
 use Rattle.ledger.specs.Answers.{sheetReading}
 use Rattle.ledger.specs.Questions.{Question8, ofSheet}
-use Rattle.ledger.specs.Listing.{SheetListed, ListPromise}
+use Rattle.ledger.specs.Listing.{ListPromise}
 use Rattle.ledger.specs.Run.{stoppedWords}
 use Rattle.ledger.proofs.LoadedImage.{image-loaded}
 use Rattle.ledger.proofs.SheetLists.{refused-listed, written-listed, stopped-listed, lists-done}

@@ -5,7 +5,6 @@ use ledger::ListAnswer;
 use ledger::SheetListing;
 use listing::list::Listed;
 ghost use mathlib.Core.Path.{_≡_};
-ghost use lib.ListN.{length};
 ghost use lib.Dec.{eqb};
 ghost use Rattle.rows.specs.Bounds.{Number};
 ghost use Rattle.editing.specs.Table.{TableLent};

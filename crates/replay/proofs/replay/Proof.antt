@@ -1,7 +1,6 @@
 -- `replay` is safe and ends: each turn goes past a line, there are at most as many lines as bytes gone past, and what is lent keeps its
 -- lengths. Assumes nothing.
 use Prim.Native.Nat.{_≤_, _-_}
-use native.Mathlib.Omega.{arith}
 use mathlib.Core.Path.{_≡_}
 use lib.ListN.{length}
 use borrow.Author.Needs.{needs}

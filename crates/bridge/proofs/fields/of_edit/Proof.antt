@@ -1,4 +1,3 @@
-use mathlib.Core.Path.{_≡_}
 use borrow.Author.Needs.{needs}
 use Rattle.bridge.proofs.fields.of_edit.Statement.{statement}
 use Rattle.bridge.proofs.fields.of_edit.Tie as tie

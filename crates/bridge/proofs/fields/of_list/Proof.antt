@@ -1,4 +1,4 @@
-use mathlib.Core.Path.{_≡_, sym, ap, _∙_}
+use mathlib.Core.Path.{sym, ap, _∙_}
 use Rattle.bridge.specs.Fields.{readingFields, listFields}
 use borrow.Author.Needs.{needs}
 use Rattle.bridge.proofs.fields.of_list.Statement.{statement}

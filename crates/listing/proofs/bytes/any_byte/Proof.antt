@@ -1,5 +1,5 @@
 use Prim.Native.Nat.{ℕ}
-use mathlib.Core.Path.{_≡_, ap, _∙_}
+use mathlib.Core.Path.{ap, _∙_}
 use Rattle.grammar.specs.Image.{any}
 use Rattle.records.specs.Words.{valueOf}
 use Rattle.listing.specs.Gives.{toldLength}

@@ -1,4 +1,4 @@
-use mathlib.Core.Path.{_≡_, sym, ap, _∙_}
+use mathlib.Core.Path.{sym, ap, _∙_}
 use mathlib.Core.Bool.{Bool}
 use Rattle.records.specs.Words.{valueOf, lengthOf}
 use Rattle.listing.specs.Gives.{lengthOr}

@@ -1,4 +1,3 @@
-use mathlib.Core.Path.{_≡_}
 use borrow.Author.Needs.{needs}
 use Rattle.reading.proofs.code.code_of.Statement.{statement}
 use Rattle.reading.proofs.code.code_of.Tie as tie

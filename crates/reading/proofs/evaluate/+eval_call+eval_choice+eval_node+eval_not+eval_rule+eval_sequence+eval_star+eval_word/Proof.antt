@@ -6,7 +6,7 @@ use Rattle.reading.proofs.Runs.{choice-refused, choice-first, choice-se
 use Rattle.reading.proofs.Runs.{sequence-refused, sequence-failed, sequence-second-refused, joinable, sequence-both}
 use Rattle.reading.proofs.Gives.{was-refused, gives-value, gives-refusal}
 use Rattle.reading.specs.Model.{pairM, kindM, roundsM}
-use Rattle.reading.specs.Loaded.{rulesIn, nodeW, wordM, wordNode}
+use Rattle.reading.specs.Loaded.{rulesIn, nodeW}
 use Rattle.records.specs.Words.{wordOf, possible, recordOf, recordWord}
 use Rattle.records.specs.declared.Record.{Record}
 use Rattle.evaluation.proofs.Shape.{empty-within}
@@ -18,9 +18,9 @@ use lib.ListN.{length, getD}
 use mathlib.Core.Path.{_≡_, refl, sym, ap, _∙_}
 use borrow.Author.Tests.{not-true, not-false}
 use native.Mathlib.Omega.{arith}
-use Prim.Native.Nat.{suc, _+_, _*_, _-_, _≤_}
+use Prim.Native.Nat.{suc, _+_, _*_, _-_, _<_}
 use borrow.Author.Needs.{needs}
-use Prim.Native.Nat.{ℕ, _<_}
+use Prim.Native.Nat.{ℕ}
 use borrow.Fn.Kinds.{In}
 use borrow.Fn.PlainCycle.{Measures, is, falls, and}
 use Rattle.reading.proofs.evaluate.eval_call.Reads as eval-call

@@ -16,12 +16,12 @@ use Rattle.grammar.specs.Terminal.{terminalAt}
 use Rattle.grammar.specs.Image.{nodeOfKind, any, range}
 use lib.ListN.{length, getD}
 use mathlib.Core.List.{[]}
-use mathlib.Core.Path.{_≡_, refl, sym, ap, _∙_}
+use mathlib.Core.Path.{refl, sym, _∙_}
 use borrow.Author.Tests.{not-true, not-false}
 use native.Mathlib.Omega.{arith}
-use Prim.Native.Nat.{suc, _+_, _*_, _-_, _≤_}
+use Prim.Native.Nat.{suc, _+_, _*_, _-_, _<_}
 use borrow.Author.Needs.{needs}
-use Prim.Native.Nat.{ℕ, _<_}
+use Prim.Native.Nat.{ℕ}
 use borrow.Fn.Kinds.{In}
 use borrow.Fn.PlainCycle.{Measures, is, falls, and}
 use Rattle.reading.proofs.fresh.fresh_choice.Reads as fresh-choice

@@ -1,7 +1,7 @@
-use Prim.Native.Nat.{ℕ, _+_}
+use Prim.Native.Nat.{ℕ}
 use native.Mathlib.Omega.{arith}
 use mathlib.Core.Path.{_≡_, sym, ap, _∙_}
-use Rattle.grammar.specs.Image.{field, kind, fieldA, root}
+use Rattle.grammar.specs.Image.{field, kind, fieldA}
 use Rattle.reading.proofs.LoadedWords.{kept-word, call-word, root-small, call-fits}
 use borrow.Author.Needs.{needs}
 use Rattle.reading.proofs.loaded.loaded_word.Statement.{statement}

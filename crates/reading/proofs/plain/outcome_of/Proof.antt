@@ -1,9 +1,8 @@
-use mathlib.Core.Path.{_≡_, sym, ap, _∙_}
+use mathlib.Core.Path.{sym, ap, _∙_}
 use mathlib.Core.Bool.{Bool, true}
 use lib.Dec.{eqb}
 use borrow.Author.Tests.{not-true, not-false, eq-eqb, ne-eqb}
 use Rattle.reading.specs.Plain.{outcomeOf}
-use borrow.Author.Needs.{needs}
 use Rattle.reading.proofs.plain.outcome_of.Statement.{statement}
 use Rattle.reading.proofs.plain.outcome_of.Tie as tie
 

@@ -2,7 +2,6 @@ use Rattle.reading.proofs.TerminalWords.{match-word, end-word}
 use Rattle.grammar.specs.Terminal.{accepts}
 use Rattle.grammar.specs.Image.{any}
 use mathlib.Core.Path.{refl}
-use borrow.Author.Needs.{needs}
 use Rattle.reading.proofs.terminals.any_byte.Statement.{statement}
 use Rattle.reading.proofs.terminals.any_byte.Tie as tie
 

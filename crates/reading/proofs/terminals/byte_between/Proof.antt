@@ -1,8 +1,6 @@
 use Rattle.reading.proofs.TerminalWords.{match-word, failure-word, end-word, between, below, above}
 use Rattle.grammar.specs.Image.{range}
 use lib.ListN.{getD}
-use mathlib.Core.Bool.{Bool}
-use mathlib.Core.Path.{_≡_, ap, _∙_, sym}
 use native.Mathlib.Omega.{arith}
 use borrow.Author.Needs.{needs}
 use Rattle.reading.proofs.terminals.byte_between.Statement.{statement}

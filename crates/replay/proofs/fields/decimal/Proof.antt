@@ -1,5 +1,5 @@
 -- `fields::decimal` meets its contract: the bytes passed are digits, and the value is their number. Assumes nothing.
-use Prim.Native.Nat.{_≤_, _-_}
+use Prim.Native.Nat.{_-_}
 use native.Mathlib.Omega.{arith}
 use lib.ListN.{length}
 use borrow.Author.Needs.{needs}

@@ -1,4 +1,4 @@
-use mathlib.Core.Path.{_≡_, _∙_}
+use mathlib.Core.Path.{_∙_}
 use lib.Dec.{eqb}
 use Rattle.records.specs.Words.{valueOf}
 use Rattle.reading.specs.Plain.{outcomeOf}

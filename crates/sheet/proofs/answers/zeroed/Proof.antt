@@ -1,4 +1,4 @@
-use mathlib.Core.Path.{_≡_, refl, sym}
+use mathlib.Core.Path.{refl, sym}
 use borrow.Author.Needs.{needs}
 use Rattle.sheet.proofs.answers.zeroed.Statement.{statement}
 use Rattle.sheet.proofs.answers.zeroed.Tie as tie

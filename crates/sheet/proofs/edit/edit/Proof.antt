@@ -1,6 +1,5 @@
-use Prim.Native.Nat.{ℕ}
 use native.Mathlib.Omega.{arith}
-use mathlib.Core.Path.{refl, subst}
+use mathlib.Core.Path.{refl}
 use lib.ListN.{length}
 use Rattle.ledger.proofs.Asked.{front-edit, edit-9, edit-10, edit-0}
 use Rattle.sheet.proofs.Laws.{passed, loan, table-lent}

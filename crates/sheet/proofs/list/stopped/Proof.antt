@@ -1,4 +1,4 @@
-use mathlib.Core.Path.{_≡_, sym, ap, _∙_}
+use mathlib.Core.Path.{sym, ap, _∙_}
 use mathlib.Core.Bool.{Bool}
 use borrow.Author.Tests.{eq-eqb, ne-eqb}
 use Rattle.ledger.specs.Run.{stoppedWords}

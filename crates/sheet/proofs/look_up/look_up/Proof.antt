@@ -1,7 +1,7 @@
 use Prim.Native.Nat.{ℕ}
 use native.Mathlib.Omega.{arith}
 use Prim.Native.Nat.{_+_, _*_}
-use mathlib.Core.Path.{refl, ap, subst}
+use mathlib.Core.Path.{ap}
 use lib.ListN.{length, getD}
 use Rattle.ledger.proofs.Asked.{front-look-up, look-up-11, look-up-0}
 use Rattle.sheet.proofs.Laws.{passed, loan, few-rules, slot-small, slot-in}

@@ -1,6 +1,4 @@
-use Prim.Native.Nat.{ℕ}
-use native.Mathlib.Omega.{arith}
-use mathlib.Core.Path.{refl, subst}
+use mathlib.Core.Path.{refl}
 use lib.ListN.{length}
 use Rattle.sheet.proofs.Laws.{passed, loan, table-lent}
 use borrow.Author.Needs.{needs}
