@@ -4,6 +4,7 @@ use ledger::EditAnswer;
 use ledger::EditedSheet;
 ghost use Rattle.ledger.specs.Promises.{EditPromise};
 
+// Refused with 1 to 10, it leaves buffer and table as they were.
 pub fn edit(
     image: &[u8],
     buffer: &mut [u8],

@@ -23,6 +23,7 @@ fn stopped(image: &[u8], cap: usize, table: &mut [u64], number: usize) -> u8
     answers::zeroed(image, cap, table, number as u64)
 }
 
+// Refused, it leaves the row slots as they were, and the table as a reading does; with 15 the reading's records stay.
 pub fn list_sheet(
     image: &[u8],
     buffer: &[u8],

@@ -3,6 +3,7 @@ use crate::questions;
 use ledger::LookUpAnswer;
 ghost use Rattle.ledger.specs.Promises.{LookUpPromise};
 
+// Refused with 1 to 8 or 11.
 pub fn look_up(
     image: &[u8],
     buffer: &[u8],

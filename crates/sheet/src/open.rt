@@ -3,6 +3,7 @@ use crate::questions;
 use ledger::OpenAnswer;
 ghost use Rattle.ledger.specs.Promises.{OpenPromise};
 
+// Refused with 1 to 8, it leaves buffer and table as they were.
 pub fn open(image: &[u8], text: &[u8], buffer: &mut [u8], table: &mut [u64]) -> OpenAnswer
     ensures { λ a. ⌜ OpenPromise (now (image .entry)) (now (text .entry)) (now (buffer .entry)) (now (table .entry)) a (now (buffer .exit)) (now (table .exit)) ⌝ }
 {

@@ -4,6 +4,7 @@ use crate::questions;
 use ledger::ReadAnswer;
 ghost use Rattle.ledger.specs.Reading.{ReadPromise};
 
+// Refused with 1 to 8, it leaves the table as it was; with 12 or 14 the table becomes 0.
 pub fn read_sheet(image: &[u8], buffer: &[u8], n: usize, table: &mut [u64]) -> ReadAnswer
     ensures { λ a. ⌜ ReadPromise (now (image .entry)) (now (buffer .entry)) n (now (table .entry)) a (now (table .exit)) ⌝ }
 {
