@@ -6,7 +6,7 @@ use crate::bytes::FAILED;
 use crate::slots;
 use records::Decoded;
 use records::Record;
-ghost use Prim.Native.Nat.{_+_, _<_, _^_};
+ghost use Prim.Native.Nat.{_+_, _/_, _%_, _<_, _^_};
 ghost use mathlib.Core.Path.{_≡_};
 ghost use lib.ListN.{length, getD};
 ghost use Rattle.grammar.specs.Image.{sequence, choice, star, not-predicate};
@@ -105,8 +105,7 @@ fn walk_node(
             rows,
             count,
             room,
-            a,
-            b,
+            a * 4096 + b,
             at,
             lo,
             hi,
@@ -380,7 +379,8 @@ fn look(table: &[u64], slot: usize) -> u64
     if slot < table.len() { table[slot] } else { 0 }
 }
 
-// A rule at a position: its record, its row, and the rows of its body, which has that root.
+// A rule at a position: its record, its row, and the rows of its body. Rule and root are one argument, `call`, which has 12 bits for each:
+// with one more a thread of 2 MiB would not hold a listing of nesting 4,096.
 pub fn walk_rule(
     words: &[u32; 4097],
     text: &[u8],
@@ -388,17 +388,18 @@ pub fn walk_rule(
     rows: &mut [u64],
     count: &mut usize,
     room: usize,
-    rule: usize,
-    root: usize,
+    call: usize,
     at: usize,
     lo: usize,
     hi: usize,
     depth: usize,
     left: usize,
 ) -> usize
-    requires { ⌜ Steady (now text) room (now count) at depth (left + 1) × (rule < 4096) × (root < 4096) ⌝ }
-    ensures { λ r. ⌜ Gives (now (count .entry)) (now (rows .entry)) r (now (rows .exit)) (now (count .exit)) (ruleV room (now (words .entry)) (now (text .entry)) (now (table .entry)) left root rule at lo hi depth (now (count .entry))) ⌝ }
+    requires { ⌜ Steady (now text) room (now count) at depth (left + 1) × (call < 2 ^ 24) ⌝ }
+    ensures { λ r. ⌜ Gives (now (count .entry)) (now (rows .entry)) r (now (rows .exit)) (now (count .exit)) (ruleV room (now (words .entry)) (now (text .entry)) (now (table .entry)) left (call % 4096) (call / 4096) at lo hi depth (now (count .entry))) ⌝ }
 {
+    let rule = call / 4096;
+    let root = call % 4096;
     let rules = wide(words[4096]);
     let word = look(table, at * rules + rule);
     if !records::is_held(word) {

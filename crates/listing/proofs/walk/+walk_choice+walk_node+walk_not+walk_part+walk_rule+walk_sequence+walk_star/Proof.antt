@@ -1,7 +1,7 @@
 -- The cycle of the walk: each function answers, writes and counts as the walk of crate rows does. Each answer is a way of proofs/Paths
 -- or proofs/Rules. The measure is three times the allowance, a node below a part, a part below the kinds. Assumes nothing.
 use Rattle.listing.proofs.Paths.{sequence-first, sequence-ends, sequence-second-ends, sequence-second, sequence-both, not-stops, not-fails, not-matches, part-found, part-ends, part-missed, part-goes, choice-first, choice-failed, choice-second, Rounds, star-start, star-stops, star-last, star-found, star-still, star-more}
-use Rattle.listing.proofs.Rules.{rule-empty, rule-impossible, rule-failed, rule-in-text, rule-missed, rule-full, rule-stops, rule-goes, node-too-deep, node-goes, empty-goes, unlawful-goes, terminal-goes}
+use Rattle.listing.proofs.Rules.{packed-root, packed-rule, rule-empty, rule-impossible, rule-failed, rule-in-text, rule-missed, rule-full, rule-stops, rule-goes, node-too-deep, node-goes, empty-goes, unlawful-goes, terminal-goes}
 use Rattle.reading.proofs.Rules.{was-possible, was-impossible, slot-fits, past-7}
 use Rattle.reading.proofs.LoadedRuns.{word-is, word-unlawful}
 use Rattle.reading.specs.Loaded.{rulesIn}
@@ -14,7 +14,7 @@ use lib.ListN.{length, getD}
 use mathlib.Core.Path.{_≡_, refl, sym, ap, _∙_}
 use borrow.Author.Tests.{not-true, not-false}
 use native.Mathlib.Omega.{arith}
-use Prim.Native.Nat.{ℕ, _+_, _*_, _-_, _≤_, _<_}
+use Prim.Native.Nat.{ℕ, _+_, _*_, _-_, _/_, _%_, _≤_, _<_}
 use borrow.Author.Needs.{needs}
 use borrow.Fn.Kinds.{In}
 use borrow.Fn.PlainCycle.{Measures, is, falls, and}
@@ -69,7 +69,7 @@ abbrev μ-walk-part : Measures 5 walk-part-kinds.ps ℕ
 μ-walk-part κs a = 3 * (a .1 .1 .1 .1 .1 .1 .1 .1 .1 .1 .1 .0) + 1
 
 abbrev μ-walk-rule : Measures 5 walk-rule-kinds.ps ℕ
-μ-walk-rule κs a = 3 * (a .1 .1 .1 .1 .1 .1 .1 .1 .1 .1 .1 .1 .0) + 2
+μ-walk-rule κs a = 3 * (a .1 .1 .1 .1 .1 .1 .1 .1 .1 .1 .1 .0) + 2
 
 abbrev μ-walk-sequence : Measures 5 walk-sequence-kinds.ps ℕ
 μ-walk-sequence κs a = 3 * (a .1 .1 .1 .1 .1 .1 .1 .1 .1 .1 .1 .1 .0) + 2
@@ -246,6 +246,12 @@ walk-node-walk-not-requires t c κs =
     let entry = c .before .before .before .before .before .before .before .before .before in
     let ne = c .before .before .before .before .before .if1 .left in (omega (arith, ne, entry .pre .0), (record { short = (entry .pre .1 .0 .short); here = (entry .pre .1 .0 .here); few = (entry .pre .1 .0 .few); shallow = omega (arith, ne, entry .pre .1 .0 .shallow) }, omega (arith, c .before .before .before .node-of .ensures .its-a)))
 
+walk-node-mul-walk-rule : (t : ℕ) → walk-node-lts.Need-mul-walk-rule (walk-node-claims t) (walk-node-at t) walk-node.Post
+walk-node-mul-walk-rule t c = omega (arith, c .before .before .before .node-of .ensures .its-a)
+
+walk-node-add-walk-rule : (t : ℕ) → walk-node-lts.Need-add-walk-rule (walk-node-claims t) (walk-node-at t) walk-node.Post
+walk-node-add-walk-rule t c = omega (arith, c .before .before .before .node-of .ensures .its-a, c .before .before .before .node-of .ensures .its-b)
+
 walk-node-sub-walk-rule : (t : ℕ) → walk-node-lts.Need-sub-walk-rule (walk-node-claims t) (walk-node-at t) walk-node.Post
 walk-node-sub-walk-rule t c =
     let ne = c .before .before .before .before .before .if1 .left in omega (arith, ne)
@@ -253,7 +259,7 @@ walk-node-sub-walk-rule t c =
 walk-node-walk-rule-requires : (t : ℕ) → walk-node-lts.Need-walk-rule-requires (walk-node-claims t) (walk-node-at t) walk-node.Post
 walk-node-walk-rule-requires t c κs =
     let entry = c .before .before .before .before .before .before .before .before .before in
-    let ne = c .before .before .before .before .before .if1 .left in (omega (arith, ne, entry .pre .0), (record { short = (entry .pre .1 .0 .short); here = (entry .pre .1 .0 .here); few = (entry .pre .1 .0 .few); shallow = omega (arith, ne, entry .pre .1 .0 .shallow) }, omega (arith, c .before .before .before .node-of .ensures .its-a), omega (arith, c .before .before .before .node-of .ensures .its-b)))
+    let ne = c .before .before .before .before .before .if1 .left in (omega (arith, ne, entry .pre .0), (record { short = (entry .pre .1 .0 .short); here = (entry .pre .1 .0 .here); few = (entry .pre .1 .0 .few); shallow = omega (arith, ne, entry .pre .1 .0 .shallow) }, omega (arith, c .before .before .before .node-of .ensures .its-a, c .before .before .before .node-of .ensures .its-b)))
 
 walk-node-add-result-2 : (t : ℕ) → walk-node-lts.Need-add-result-2 (walk-node-claims t) (walk-node-at t) walk-node.Post
 walk-node-add-result-2 t c = search needs
@@ -322,7 +328,11 @@ walk-node-returns-9 : (t : ℕ) → walk-node-lts.Need-returns-9 (walk-node-clai
 unfolding nodeOfKind kindV
 walk-node-returns-9 t c =
     let given = c .before .before .before .before .before .before .before .before .before .before .before .before .args in
-    node-goes (given .room) (given .words .now) (given .text .now) (given .table .now) (given .node) (given .at) (given .lo) (given .hi) (given .depth) (given .count .now) (given .rows .now) (given .left) (c .before .before .before .before .before .before .before .before .if1 .left) (word-is (getD (given .words .now) (given .node) 0) (c .before .before .before .before .before .before .node-of .ensures) {k = 7} (omega arith)) (rw (c .before .before .before .before .before .before .node-of .ensures .its-b) at (c .before .before .walk-rule .ensures))
+    let seen = c .before .before .before .before .before .before .node-of in
+    let small : seen .result .b < 4096 = omega (arith, seen .ensures .its-b) in
+    let root-is = packed-root (seen .result .a) (seen .result .b) small in
+    let rule-is = packed-rule (seen .result .a) (seen .result .b) small in
+    node-goes (given .room) (given .words .now) (given .text .now) (given .table .now) (given .node) (given .at) (given .lo) (given .hi) (given .depth) (given .count .now) (given .rows .now) (given .left) (c .before .before .before .before .before .before .before .before .if1 .left) (word-is (getD (given .words .now) (given .node) 0) (c .before .before .before .before .before .before .node-of .ensures) {k = 7} (omega arith)) (rw (root-is, rule-is, seen .ensures .its-b) at (c .before .before .walk-rule .ensures))
 
 walk-node-returns-10 : (t : ℕ) → walk-node-lts.Need-returns-10 (walk-node-claims t) (walk-node-at t) walk-node.Post
 walk-node-returns-10 t c =
@@ -458,7 +468,7 @@ walk-rule-add-result t c = search needs
 walk-rule-returns : (t : ℕ) → walk-rule-lts.Need-returns (walk-rule-claims t) (walk-rule-at t) walk-rule.Post
 walk-rule-returns t c =
     let given = c .before .before .before .before .before .before .before .before .args in
-    rule-empty (rulesIn (given .words .now)) (given .root) (given .room) (given .text .now) (given .table .now) (nodeV (given .room) (given .words .now) (given .text .now) (given .table .now) (given .left)) (given .rule) (given .at) (given .lo) (given .hi) (given .depth) (c .before .before .look .ensures ∙ ap (λ (n : ℕ). getD (given .table .now) ((given .at) * n + (given .rule)) 0) (c .before .before .before .wide .ensures .0)) (given .count .now) (given .rows .now) (sym (c .before .is-held .ensures) ∙ not-true (c .before .is-held .result) (c .if1 .taken))
+    rule-empty (rulesIn (given .words .now)) (given .call % 4096) (given .room) (given .text .now) (given .table .now) (nodeV (given .room) (given .words .now) (given .text .now) (given .table .now) (given .left)) (given .call / 4096) (given .at) (given .lo) (given .hi) (given .depth) (c .before .before .look .ensures ∙ ap (λ (n : ℕ). getD (given .table .now) ((given .at) * n + (given .call / 4096)) 0) (c .before .before .before .wide .ensures .0)) (given .count .now) (given .rows .now) (sym (c .before .is-held .ensures) ∙ not-true (c .before .is-held .result) (c .if1 .taken))
 
 walk-rule-from-word-requires : (t : ℕ) → walk-rule-lts.Need-from-word-requires (walk-rule-claims t) (walk-rule-at t) walk-rule.Post
 walk-rule-from-word-requires t c κs = search needs
@@ -475,7 +485,7 @@ walk-rule-add-result-2 t c = search needs
 walk-rule-returns-2 : (t : ℕ) → walk-rule-lts.Need-returns-2 (walk-rule-claims t) (walk-rule-at t) walk-rule.Post
 walk-rule-returns-2 t c =
     let given = c .before .before .before .before .before .before .before .before .before .before .before .args in
-    rule-impossible (rulesIn (given .words .now)) (given .root) (given .room) (given .text .now) (given .table .now) (nodeV (given .room) (given .words .now) (given .text .now) (given .table .now) (given .left)) (given .rule) (given .at) (given .lo) (given .hi) (given .depth) (c .before .before .before .before .before .look .ensures ∙ ap (λ (n : ℕ). getD (given .table .now) ((given .at) * n + (given .rule)) 0) (c .before .before .before .before .before .before .wide .ensures .0)) (given .count .now) (given .rows .now) (was-impossible (recordOf (c .before .before .before .before .before .look .result)) (possible (c .before .before .before .before .before .look .result) (given .at) (length (given .text .now))) (sym (c .enum-told .given .1) ∙ c .before .before .from-word .ensures))
+    rule-impossible (rulesIn (given .words .now)) (given .call % 4096) (given .room) (given .text .now) (given .table .now) (nodeV (given .room) (given .words .now) (given .text .now) (given .table .now) (given .left)) (given .call / 4096) (given .at) (given .lo) (given .hi) (given .depth) (c .before .before .before .before .before .look .ensures ∙ ap (λ (n : ℕ). getD (given .table .now) ((given .at) * n + (given .call / 4096)) 0) (c .before .before .before .before .before .before .wide .ensures .0)) (given .count .now) (given .rows .now) (was-impossible (recordOf (c .before .before .before .before .before .look .result)) (possible (c .before .before .before .before .before .look .result) (given .at) (length (given .text .now))) (sym (c .enum-told .given .1) ∙ c .before .before .from-word .ensures))
 
 walk-rule-returns-3 : (t : ℕ) → walk-rule-lts.Need-returns-3 (walk-rule-claims t) (walk-rule-at t) walk-rule.Post
 walk-rule-returns-3 t c =
@@ -483,7 +493,7 @@ walk-rule-returns-3 t c =
     let w = was-possible (c .before .before .before .held .given .0 .0) (recordOf (c .before .before .before .before .before .before .before .before .look .result)) (possible (c .before .before .before .before .before .before .before .before .look .result) (given .at) (length (given .text .now))) (sym (c .before .before .before .held .given .1) ∙ c .before .before .before .before .before .from-word .ensures) in
     let m = ap (λ (r : Record). r .matched) (w .1) in
     let n = ap (λ (r : Record). r .length) (w .1) in
-    rule-failed (rulesIn (given .words .now)) (given .root) (given .room) (given .text .now) (given .table .now) (nodeV (given .room) (given .words .now) (given .text .now) (given .table .now) (given .left)) (given .rule) (given .at) (given .lo) (given .hi) (given .depth) (c .before .before .before .before .before .before .before .before .look .ensures ∙ ap (λ (n : ℕ). getD (given .table .now) ((given .at) * n + (given .rule)) 0) (c .before .before .before .before .before .before .before .before .before .wide .ensures .0)) (given .count .now) (given .rows .now) (sym (c .before .before .before .before .before .before .before .is-held .ensures) ∙ not-false (c .before .before .before .before .before .before .before .is-held .result) (c .before .before .before .before .before .before .if1 .left)) (w .0) (sym m ∙ not-true (c .before .before .before .held .given .0 .0 .matched) (c .if2 .taken))
+    rule-failed (rulesIn (given .words .now)) (given .call % 4096) (given .room) (given .text .now) (given .table .now) (nodeV (given .room) (given .words .now) (given .text .now) (given .table .now) (given .left)) (given .call / 4096) (given .at) (given .lo) (given .hi) (given .depth) (c .before .before .before .before .before .before .before .before .look .ensures ∙ ap (λ (n : ℕ). getD (given .table .now) ((given .at) * n + (given .call / 4096)) 0) (c .before .before .before .before .before .before .before .before .before .wide .ensures .0)) (given .count .now) (given .rows .now) (sym (c .before .before .before .before .before .before .before .is-held .ensures) ∙ not-false (c .before .before .before .before .before .before .before .is-held .result) (c .before .before .before .before .before .before .if1 .left)) (w .0) (sym m ∙ not-true (c .before .before .before .held .given .0 .0 .matched) (c .if2 .taken))
 
 walk-rule-touched-requires : (t : ℕ) → walk-rule-lts.Need-touched-requires (walk-rule-claims t) (walk-rule-at t) walk-rule.Post
 walk-rule-touched-requires t c κs =
@@ -492,7 +502,7 @@ walk-rule-touched-requires t c κs =
     let w = was-possible (c .before .before .before .held .given .0 .0) (recordOf (c .before .before .before .before .before .before .before .before .look .result)) (possible (c .before .before .before .before .before .before .before .before .look .result) (given .at) (length (given .text .now))) (sym (c .before .before .before .held .given .1) ∙ c .before .before .before .before .before .from-word .ensures) in
     let m = ap (λ (r : Record). r .matched) (w .1) in
     let n = ap (λ (r : Record). r .length) (w .1) in
-    omega (arith, n, rule-in-text (rulesIn (given .words .now)) (given .root) (given .room) (given .text .now) (given .table .now) (nodeV (given .room) (given .words .now) (given .text .now) (given .table .now) (given .left)) (given .rule) (given .at) (given .lo) (given .hi) (given .depth) (c .before .before .before .before .before .before .before .before .look .ensures ∙ ap (λ (n : ℕ). getD (given .table .now) ((given .at) * n + (given .rule)) 0) (c .before .before .before .before .before .before .before .before .before .wide .ensures .0)) (given .count .now) (given .rows .now) (sym (c .before .before .before .before .before .before .before .is-held .ensures) ∙ not-false (c .before .before .before .before .before .before .before .is-held .result) (c .before .before .before .before .before .before .if1 .left)) (w .0), (entry .pre .1 .0 .short))
+    omega (arith, n, rule-in-text (rulesIn (given .words .now)) (given .call % 4096) (given .room) (given .text .now) (given .table .now) (nodeV (given .room) (given .words .now) (given .text .now) (given .table .now) (given .left)) (given .call / 4096) (given .at) (given .lo) (given .hi) (given .depth) (c .before .before .before .before .before .before .before .before .look .ensures ∙ ap (λ (n : ℕ). getD (given .table .now) ((given .at) * n + (given .call / 4096)) 0) (c .before .before .before .before .before .before .before .before .before .wide .ensures .0)) (given .count .now) (given .rows .now) (sym (c .before .before .before .before .before .before .before .is-held .ensures) ∙ not-false (c .before .before .before .before .before .before .before .is-held .result) (c .before .before .before .before .before .before .if1 .left)) (w .0), (entry .pre .1 .0 .short))
 
 walk-rule-returns-4 : (t : ℕ) → walk-rule-lts.Need-returns-4 (walk-rule-claims t) (walk-rule-at t) walk-rule.Post
 walk-rule-returns-4 t c =
@@ -500,7 +510,7 @@ walk-rule-returns-4 t c =
     let w = was-possible (c .before .before .before .before .before .held .given .0 .0) (recordOf (c .before .before .before .before .before .before .before .before .before .before .look .result)) (possible (c .before .before .before .before .before .before .before .before .before .before .look .result) (given .at) (length (given .text .now))) (sym (c .before .before .before .before .before .held .given .1) ∙ c .before .before .before .before .before .before .before .from-word .ensures) in
     let m = ap (λ (r : Record). r .matched) (w .1) in
     let n = ap (λ (r : Record). r .length) (w .1) in
-    rule-missed (rulesIn (given .words .now)) (given .root) (given .room) (given .text .now) (given .table .now) (nodeV (given .room) (given .words .now) (given .text .now) (given .table .now) (given .left)) (given .rule) (given .at) (given .lo) (given .hi) (given .depth) (c .before .before .before .before .before .before .before .before .before .before .look .ensures ∙ ap (λ (n : ℕ). getD (given .table .now) ((given .at) * n + (given .rule)) 0) (c .before .before .before .before .before .before .before .before .before .before .before .wide .ensures .0)) (given .count .now) (given .rows .now) (sym (c .before .before .before .before .before .before .before .before .before .is-held .ensures) ∙ not-false (c .before .before .before .before .before .before .before .before .before .is-held .result) (c .before .before .before .before .before .before .before .before .if1 .left)) (w .0) (sym m ∙ not-false (c .before .before .before .before .before .held .given .0 .0 .matched) (c .before .before .if2 .left)) n (sym (c .before .touched .ensures) ∙ not-true (c .before .touched .result) (c .if3 .taken))
+    rule-missed (rulesIn (given .words .now)) (given .call % 4096) (given .room) (given .text .now) (given .table .now) (nodeV (given .room) (given .words .now) (given .text .now) (given .table .now) (given .left)) (given .call / 4096) (given .at) (given .lo) (given .hi) (given .depth) (c .before .before .before .before .before .before .before .before .before .before .look .ensures ∙ ap (λ (n : ℕ). getD (given .table .now) ((given .at) * n + (given .call / 4096)) 0) (c .before .before .before .before .before .before .before .before .before .before .before .wide .ensures .0)) (given .count .now) (given .rows .now) (sym (c .before .before .before .before .before .before .before .before .before .is-held .ensures) ∙ not-false (c .before .before .before .before .before .before .before .before .before .is-held .result) (c .before .before .before .before .before .before .before .before .if1 .left)) (w .0) (sym m ∙ not-false (c .before .before .before .before .before .held .given .0 .0 .matched) (c .before .before .if2 .left)) n (sym (c .before .touched .ensures) ∙ not-true (c .before .touched .result) (c .if3 .taken))
 
 walk-rule-add-result-3 : (t : ℕ) → walk-rule-lts.Need-add-result-3 (walk-rule-claims t) (walk-rule-at t) walk-rule.Post
 walk-rule-add-result-3 t c = search needs
@@ -511,7 +521,7 @@ walk-rule-returns-5 t c =
     let w = was-possible (c .before .before .before .before .before .before .before .held .given .0 .0) (recordOf (c .before .before .before .before .before .before .before .before .before .before .before .before .look .result)) (possible (c .before .before .before .before .before .before .before .before .before .before .before .before .look .result) (given .at) (length (given .text .now))) (sym (c .before .before .before .before .before .before .before .held .given .1) ∙ c .before .before .before .before .before .before .before .before .before .from-word .ensures) in
     let m = ap (λ (r : Record). r .matched) (w .1) in
     let n = ap (λ (r : Record). r .length) (w .1) in
-    rule-full (rulesIn (given .words .now)) (given .root) (given .room) (given .text .now) (given .table .now) (nodeV (given .room) (given .words .now) (given .text .now) (given .table .now) (given .left)) (given .rule) (given .at) (given .lo) (given .hi) (given .depth) (c .before .before .before .before .before .before .before .before .before .before .before .before .look .ensures ∙ ap (λ (n : ℕ). getD (given .table .now) ((given .at) * n + (given .rule)) 0) (c .before .before .before .before .before .before .before .before .before .before .before .before .before .wide .ensures .0)) (given .count .now) (given .rows .now) (sym (c .before .before .before .before .before .before .before .before .before .before .before .is-held .ensures) ∙ not-false (c .before .before .before .before .before .before .before .before .before .before .before .is-held .result) (c .before .before .before .before .before .before .before .before .before .before .if1 .left)) (w .0) (sym m ∙ not-false (c .before .before .before .before .before .before .before .held .given .0 .0 .matched) (c .before .before .before .before .if2 .left)) n (sym (c .before .before .before .touched .ensures) ∙ not-false (c .before .before .before .touched .result) (c .before .before .if3 .left)) (c .if4 .taken)
+    rule-full (rulesIn (given .words .now)) (given .call % 4096) (given .room) (given .text .now) (given .table .now) (nodeV (given .room) (given .words .now) (given .text .now) (given .table .now) (given .left)) (given .call / 4096) (given .at) (given .lo) (given .hi) (given .depth) (c .before .before .before .before .before .before .before .before .before .before .before .before .look .ensures ∙ ap (λ (n : ℕ). getD (given .table .now) ((given .at) * n + (given .call / 4096)) 0) (c .before .before .before .before .before .before .before .before .before .before .before .before .before .wide .ensures .0)) (given .count .now) (given .rows .now) (sym (c .before .before .before .before .before .before .before .before .before .before .before .is-held .ensures) ∙ not-false (c .before .before .before .before .before .before .before .before .before .before .before .is-held .result) (c .before .before .before .before .before .before .before .before .before .before .if1 .left)) (w .0) (sym m ∙ not-false (c .before .before .before .before .before .before .before .held .given .0 .0 .matched) (c .before .before .before .before .if2 .left)) n (sym (c .before .before .before .touched .ensures) ∙ not-false (c .before .before .before .touched .result) (c .before .before .if3 .left)) (c .if4 .taken)
 
 walk-rule-row-word-requires : (t : ℕ) → walk-rule-lts.Need-row-word-requires (walk-rule-claims t) (walk-rule-at t) walk-rule.Post
 walk-rule-row-word-requires t c κs =
@@ -520,7 +530,7 @@ walk-rule-row-word-requires t c κs =
     let w = was-possible (c .before .before .before .before .before .before .before .before .held .given .0 .0) (recordOf (c .before .before .before .before .before .before .before .before .before .before .before .before .before .look .result)) (possible (c .before .before .before .before .before .before .before .before .before .before .before .before .before .look .result) (given .at) (length (given .text .now))) (sym (c .before .before .before .before .before .before .before .before .held .given .1) ∙ c .before .before .before .before .before .before .before .before .before .before .from-word .ensures) in
     let m = ap (λ (r : Record). r .matched) (w .1) in
     let n = ap (λ (r : Record). r .length) (w .1) in
-    (omega (arith, entry .pre .1 .0 .shallow), omega (arith, (entry .pre .1 .0 .here), (entry .pre .1 .0 .short)), omega (arith, n, rule-in-text (rulesIn (given .words .now)) (given .root) (given .room) (given .text .now) (given .table .now) (nodeV (given .room) (given .words .now) (given .text .now) (given .table .now) (given .left)) (given .rule) (given .at) (given .lo) (given .hi) (given .depth) (c .before .before .before .before .before .before .before .before .before .before .before .before .before .look .ensures ∙ ap (λ (n : ℕ). getD (given .table .now) ((given .at) * n + (given .rule)) 0) (c .before .before .before .before .before .before .before .before .before .before .before .before .before .before .wide .ensures .0)) (given .count .now) (given .rows .now) (sym (c .before .before .before .before .before .before .before .before .before .before .before .before .is-held .ensures) ∙ not-false (c .before .before .before .before .before .before .before .before .before .before .before .before .is-held .result) (c .before .before .before .before .before .before .before .before .before .before .before .if1 .left)) (w .0), (entry .pre .1 .0 .short)))
+    (omega (arith, entry .pre .1 .0 .shallow), omega (arith, (entry .pre .1 .0 .here), (entry .pre .1 .0 .short)), omega (arith, n, rule-in-text (rulesIn (given .words .now)) (given .call % 4096) (given .room) (given .text .now) (given .table .now) (nodeV (given .room) (given .words .now) (given .text .now) (given .table .now) (given .left)) (given .call / 4096) (given .at) (given .lo) (given .hi) (given .depth) (c .before .before .before .before .before .before .before .before .before .before .before .before .before .look .ensures ∙ ap (λ (n : ℕ). getD (given .table .now) ((given .at) * n + (given .call / 4096)) 0) (c .before .before .before .before .before .before .before .before .before .before .before .before .before .before .wide .ensures .0)) (given .count .now) (given .rows .now) (sym (c .before .before .before .before .before .before .before .before .before .before .before .before .is-held .ensures) ∙ not-false (c .before .before .before .before .before .before .before .before .before .before .before .before .is-held .result) (c .before .before .before .before .before .before .before .before .before .before .before .if1 .left)) (w .0), (entry .pre .1 .0 .short)))
 
 walk-rule-put-requires : (t : ℕ) → walk-rule-lts.Need-put-requires (walk-rule-claims t) (walk-rule-at t) walk-rule.Post
 walk-rule-put-requires t c κs = search needs
@@ -536,7 +546,7 @@ walk-rule-add-walk-node t c =
 walk-rule-walk-node-requires : (t : ℕ) → walk-rule-lts.Need-walk-node-requires (walk-rule-claims t) (walk-rule-at t) walk-rule.Post
 walk-rule-walk-node-requires t c κs =
     let entry = c .before .before .before .before .before .before .before .before .before .before .before .before .before .before .before .before .before .before .before .before .before .before .before .before .before in
-    (omega (arith, entry .pre .0), (record { short = (entry .pre .1 .0 .short); here = (entry .pre .1 .0 .here); few = (let a = c .before .before .before .before .before .before .before .if4 .left in omega (arith, a)); shallow = omega (arith, entry .pre .1 .0 .shallow) }, entry .pre .1 .2))
+    (omega (arith, entry .pre .0), (record { short = (entry .pre .1 .0 .short); here = (entry .pre .1 .0 .here); few = (let a = c .before .before .before .before .before .before .before .if4 .left in omega (arith, a)); shallow = omega (arith, entry .pre .1 .0 .shallow) }, omega arith))
 
 walk-rule-same-length : (t : ℕ) → walk-rule-lts.Need-same-length (walk-rule-claims t) (walk-rule-at t) walk-rule.Post
 walk-rule-same-length t c = search needs
@@ -548,7 +558,7 @@ walk-rule-returns-6 t c =
     let w = was-possible (c .before .before .before .before .before .before .before .before .before .before .before .before .before .before .before .before .before .before .held .given .0 .0) (recordOf (c .before .before .before .before .before .before .before .before .before .before .before .before .before .before .before .before .before .before .before .before .before .before .before .look .result)) (possible (c .before .before .before .before .before .before .before .before .before .before .before .before .before .before .before .before .before .before .before .before .before .before .before .look .result) (given .at) (length (given .text .now))) (sym (c .before .before .before .before .before .before .before .before .before .before .before .before .before .before .before .before .before .before .held .given .1) ∙ c .before .before .before .before .before .before .before .before .before .before .before .before .before .before .before .before .before .before .before .before .from-word .ensures) in
     let m = ap (λ (r : Record). r .matched) (w .1) in
     let n = ap (λ (r : Record). r .length) (w .1) in
-    rule-stops (rulesIn (given .words .now)) (given .root) (given .room) (given .text .now) (given .table .now) (nodeV (given .room) (given .words .now) (given .text .now) (given .table .now) (given .left)) (given .rule) (given .at) (given .lo) (given .hi) (given .depth) (c .before .before .before .before .before .before .before .before .before .before .before .before .before .before .before .before .before .before .before .before .before .before .before .look .ensures ∙ ap (λ (n : ℕ). getD (given .table .now) ((given .at) * n + (given .rule)) 0) (c .before .before .before .before .before .before .before .before .before .before .before .before .before .before .before .before .before .before .before .before .before .before .before .before .wide .ensures .0)) (given .count .now) (given .rows .now) (sym (c .before .before .before .before .before .before .before .before .before .before .before .before .before .before .before .before .before .before .before .before .before .before .is-held .ensures) ∙ not-false (c .before .before .before .before .before .before .before .before .before .before .before .before .before .before .before .before .before .before .before .before .before .before .is-held .result) (c .before .before .before .before .before .before .before .before .before .before .before .before .before .before .before .before .before .before .before .before .before .if1 .left)) (w .0) (sym m ∙ not-false (c .before .before .before .before .before .before .before .before .before .before .before .before .before .before .before .before .before .before .held .given .0 .0 .matched) (c .before .before .before .before .before .before .before .before .before .before .before .before .before .before .before .if2 .left)) n (sym (c .before .before .before .before .before .before .before .before .before .before .before .before .before .before .touched .ensures) ∙ not-false (c .before .before .before .before .before .before .before .before .before .before .before .before .before .before .touched .result) (c .before .before .before .before .before .before .before .before .before .before .before .before .before .if3 .left)) (c .before .before .before .before .before .before .before .before .before .before .before .if4 .left) (c .before .before .before .before .before .before .before .before .before .row-word .ensures) (entry .pre .1 .0 .short) (entry .pre .1 .0 .here) (node-bounded (given .room) (given .words .now) (given .text .now) (given .table .now) (given .left)) _ _ _ (rw (c .before .before .before .before .before .before .before .before .put .ensures) at (c .before .before .before .walk-node .ensures)) (c .if5 .taken)
+    rule-stops (rulesIn (given .words .now)) (given .call % 4096) (given .room) (given .text .now) (given .table .now) (nodeV (given .room) (given .words .now) (given .text .now) (given .table .now) (given .left)) (given .call / 4096) (given .at) (given .lo) (given .hi) (given .depth) (c .before .before .before .before .before .before .before .before .before .before .before .before .before .before .before .before .before .before .before .before .before .before .before .look .ensures ∙ ap (λ (n : ℕ). getD (given .table .now) ((given .at) * n + (given .call / 4096)) 0) (c .before .before .before .before .before .before .before .before .before .before .before .before .before .before .before .before .before .before .before .before .before .before .before .before .wide .ensures .0)) (given .count .now) (given .rows .now) (sym (c .before .before .before .before .before .before .before .before .before .before .before .before .before .before .before .before .before .before .before .before .before .before .is-held .ensures) ∙ not-false (c .before .before .before .before .before .before .before .before .before .before .before .before .before .before .before .before .before .before .before .before .before .before .is-held .result) (c .before .before .before .before .before .before .before .before .before .before .before .before .before .before .before .before .before .before .before .before .before .if1 .left)) (w .0) (sym m ∙ not-false (c .before .before .before .before .before .before .before .before .before .before .before .before .before .before .before .before .before .before .held .given .0 .0 .matched) (c .before .before .before .before .before .before .before .before .before .before .before .before .before .before .before .if2 .left)) n (sym (c .before .before .before .before .before .before .before .before .before .before .before .before .before .before .touched .ensures) ∙ not-false (c .before .before .before .before .before .before .before .before .before .before .before .before .before .before .touched .result) (c .before .before .before .before .before .before .before .before .before .before .before .before .before .if3 .left)) (c .before .before .before .before .before .before .before .before .before .before .before .if4 .left) (c .before .before .before .before .before .before .before .before .before .row-word .ensures) (entry .pre .1 .0 .short) (entry .pre .1 .0 .here) (node-bounded (given .room) (given .words .now) (given .text .now) (given .table .now) (given .left)) _ _ _ (rw (c .before .before .before .before .before .before .before .before .put .ensures) at (c .before .before .before .walk-node .ensures)) (c .if5 .taken)
 
 walk-rule-same-length-2 : (t : ℕ) → walk-rule-lts.Need-same-length-2 (walk-rule-claims t) (walk-rule-at t) walk-rule.Post
 walk-rule-same-length-2 t c = search needs
@@ -560,7 +570,7 @@ walk-rule-returns-7 t c =
     let w = was-possible (c .before .before .before .before .before .before .before .before .before .before .before .before .before .before .before .before .before .before .held .given .0 .0) (recordOf (c .before .before .before .before .before .before .before .before .before .before .before .before .before .before .before .before .before .before .before .before .before .before .before .look .result)) (possible (c .before .before .before .before .before .before .before .before .before .before .before .before .before .before .before .before .before .before .before .before .before .before .before .look .result) (given .at) (length (given .text .now))) (sym (c .before .before .before .before .before .before .before .before .before .before .before .before .before .before .before .before .before .before .held .given .1) ∙ c .before .before .before .before .before .before .before .before .before .before .before .before .before .before .before .before .before .before .before .before .from-word .ensures) in
     let m = ap (λ (r : Record). r .matched) (w .1) in
     let n = ap (λ (r : Record). r .length) (w .1) in
-    rule-goes (rulesIn (given .words .now)) (given .root) (given .room) (given .text .now) (given .table .now) (nodeV (given .room) (given .words .now) (given .text .now) (given .table .now) (given .left)) (given .rule) (given .at) (given .lo) (given .hi) (given .depth) (c .before .before .before .before .before .before .before .before .before .before .before .before .before .before .before .before .before .before .before .before .before .before .before .look .ensures ∙ ap (λ (n : ℕ). getD (given .table .now) ((given .at) * n + (given .rule)) 0) (c .before .before .before .before .before .before .before .before .before .before .before .before .before .before .before .before .before .before .before .before .before .before .before .before .wide .ensures .0)) (given .count .now) (given .rows .now) (sym (c .before .before .before .before .before .before .before .before .before .before .before .before .before .before .before .before .before .before .before .before .before .before .is-held .ensures) ∙ not-false (c .before .before .before .before .before .before .before .before .before .before .before .before .before .before .before .before .before .before .before .before .before .before .is-held .result) (c .before .before .before .before .before .before .before .before .before .before .before .before .before .before .before .before .before .before .before .before .before .if1 .left)) (w .0) (sym m ∙ not-false (c .before .before .before .before .before .before .before .before .before .before .before .before .before .before .before .before .before .before .held .given .0 .0 .matched) (c .before .before .before .before .before .before .before .before .before .before .before .before .before .before .before .if2 .left)) n (sym (c .before .before .before .before .before .before .before .before .before .before .before .before .before .before .touched .ensures) ∙ not-false (c .before .before .before .before .before .before .before .before .before .before .before .before .before .before .touched .result) (c .before .before .before .before .before .before .before .before .before .before .before .before .before .if3 .left)) (c .before .before .before .before .before .before .before .before .before .before .before .if4 .left) (c .before .before .before .before .before .before .before .before .before .row-word .ensures) (entry .pre .1 .0 .short) (entry .pre .1 .0 .here) (node-bounded (given .room) (given .words .now) (given .text .now) (given .table .now) (given .left)) _ _ _ (rw (c .before .before .before .before .before .before .before .before .put .ensures) at (c .before .before .before .walk-node .ensures)) (c .if5 .left)
+    rule-goes (rulesIn (given .words .now)) (given .call % 4096) (given .room) (given .text .now) (given .table .now) (nodeV (given .room) (given .words .now) (given .text .now) (given .table .now) (given .left)) (given .call / 4096) (given .at) (given .lo) (given .hi) (given .depth) (c .before .before .before .before .before .before .before .before .before .before .before .before .before .before .before .before .before .before .before .before .before .before .before .look .ensures ∙ ap (λ (n : ℕ). getD (given .table .now) ((given .at) * n + (given .call / 4096)) 0) (c .before .before .before .before .before .before .before .before .before .before .before .before .before .before .before .before .before .before .before .before .before .before .before .before .wide .ensures .0)) (given .count .now) (given .rows .now) (sym (c .before .before .before .before .before .before .before .before .before .before .before .before .before .before .before .before .before .before .before .before .before .before .is-held .ensures) ∙ not-false (c .before .before .before .before .before .before .before .before .before .before .before .before .before .before .before .before .before .before .before .before .before .before .is-held .result) (c .before .before .before .before .before .before .before .before .before .before .before .before .before .before .before .before .before .before .before .before .before .if1 .left)) (w .0) (sym m ∙ not-false (c .before .before .before .before .before .before .before .before .before .before .before .before .before .before .before .before .before .before .held .given .0 .0 .matched) (c .before .before .before .before .before .before .before .before .before .before .before .before .before .before .before .if2 .left)) n (sym (c .before .before .before .before .before .before .before .before .before .before .before .before .before .before .touched .ensures) ∙ not-false (c .before .before .before .before .before .before .before .before .before .before .before .before .before .before .touched .result) (c .before .before .before .before .before .before .before .before .before .before .before .before .before .if3 .left)) (c .before .before .before .before .before .before .before .before .before .before .before .if4 .left) (c .before .before .before .before .before .before .before .before .before .row-word .ensures) (entry .pre .1 .0 .short) (entry .pre .1 .0 .here) (node-bounded (given .room) (given .words .now) (given .text .now) (given .table .now) (given .left)) _ _ _ (rw (c .before .before .before .before .before .before .before .before .put .ensures) at (c .before .before .before .walk-node .ensures)) (c .if5 .left)
 
 walk-sequence-walk-node-requires : (t : ℕ) → walk-sequence-lts.Need-walk-node-requires (walk-sequence-claims t) (walk-sequence-at t) walk-sequence.Post
 walk-sequence-walk-node-requires t c κs =
@@ -760,6 +770,8 @@ pub +walk-choice+walk-node+walk-not+walk-part+walk-rule+walk-sequence+walk-star-
     (walk-node-walk-star-requires t)
     (walk-node-sub-walk-not t)
     (walk-node-walk-not-requires t)
+    (walk-node-mul-walk-rule t)
+    (walk-node-add-walk-rule t)
     (walk-node-sub-walk-rule t)
     (walk-node-walk-rule-requires t)
     (walk-node-add-result-2 t)
