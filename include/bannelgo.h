@@ -7,7 +7,7 @@
  * until the call returns; nothing is kept. A pointer is never NULL, also where the length is 0, and one to words is aligned to 8 bytes.
  * What a call may write to overlaps nothing else that is lent to it.
  *
- * Stack: where the nesting comes near 4,096, bannelgo_plain_reading and bannelgo_read need up to 2 MiB, bannelgo_list up to 2.5 MiB. */
+ * Stack: where the nesting comes near 4,096, bannelgo_plain_reading, bannelgo_read and bannelgo_list need up to 2 MiB. */
 #ifndef BANNELGO_H
 #define BANNELGO_H
 

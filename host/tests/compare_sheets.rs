@@ -3,7 +3,7 @@
 
 mod sheets;
 
-use bannelgo_host::small_stack::{on_listing_stack, on_small_stack};
+use bannelgo_host::small_stack::on_small_stack;
 use sheets::{deep, every, foreign, listings, lists, long, planners, tally, true_tables};
 
 #[test]
@@ -68,7 +68,7 @@ fn calls_over_any_words_are_the_papers() {
 
 #[test]
 fn listings_are_the_ledgers_and_the_papers() {
-    on_listing_stack(|| {
+    on_small_stack(|| {
         let tallies = [
             listings::near_the_limit(3301),
             listings::by_choices_and_calls(3302),

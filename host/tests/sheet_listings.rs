@@ -6,7 +6,7 @@ use bannelgo_host::expr::{byte, or_else, then, Expr, Grammar};
 use bannelgo_host::numbering::{image_of, Numbering};
 use bannelgo_host::plain_reading::Outcome::{Nothing, Whole};
 use bannelgo_host::samples::{D2, M10};
-use bannelgo_host::small_stack::on_listing_stack;
+use bannelgo_host::small_stack::on_small_stack;
 
 /// Rule, depth, start, length.
 fn row((rule, depth, start, length): (u8, usize, usize, usize)) -> Row {
@@ -69,7 +69,7 @@ fn nested(rule: u8, depth: usize) -> impl Iterator<Item = Row> {
 
 #[test]
 fn marked_10_and_its_neighbours() {
-    on_listing_stack(|| {
+    on_small_stack(|| {
         let list = |image: &[u8]| open(image, &"(".repeat(BRACKETS)).list(BRACKETS + 2);
         let listing = list(&M10).expect("nesting 4,095");
         assert_eq!(listing.read.reading.nesting, 4_095);

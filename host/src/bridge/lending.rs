@@ -1,7 +1,6 @@
 //! The five calls over lent buffers. Every loan and every number has an answer.
 //!
-//! Where the nesting comes near 4,096 a reading needs a stack of up to 2 MiB, a listing of up to
-//! 2.5 MiB.
+//! Where the nesting comes near 4,096 a reading and a listing need a stack of up to 2 MiB.
 
 use super::raw::{self, AnswerFields};
 

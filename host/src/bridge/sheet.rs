@@ -68,7 +68,7 @@ impl Sheet {
 
     /// Reads the text and lists the calls that made the match; a refusal is 14, or 15 where there are
     /// more than `most`. After 15 the records of the reading are kept. Near the limit of 14 it needs a
-    /// stack of up to 2.5 MiB.
+    /// stack of up to 2 MiB.
     pub fn list(&mut self, most: usize) -> Result<Listing, Refusal> {
         let mut rows = vec![0; most];
         let answer = lending::list(
