@@ -67,7 +67,7 @@ static inline uint64_t bannelgo_row_length(uint64_t row) { return row & 0xFFFF; 
 /* The number of the first of questions 1 to 7 that the image fails, 0 where it passes all seven. */
 uint64_t bannelgo_check_image(const uint8_t *image, size_t image_length);
 
-/* Reads a text without records. The answer is a word as above, or without bit 63 the number of a refusal: 1 to 8, 13 or 14. The
+/* Reads a text without records. The answer is a word as above, or without bit 63 the number of a refusal: 1 to 8, or 14. The
  * reading is whole where it matched with the length of the text. For some grammars the time grows exponentially with the text. */
 uint64_t bannelgo_plain_reading(const uint8_t *image, size_t image_length, const uint8_t *text, size_t text_length);
 

@@ -1,2 +1,2 @@
 // Theorems about evaluations: their shape, what the outcome sets say of them, that each exists, and what decides them.
-// This crate has theorems (proofs/) and no code that runs.
+// This crate has definitions (specs/) and theorems (proofs/) and no code that runs.

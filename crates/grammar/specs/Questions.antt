@@ -1,4 +1,5 @@
--- The questions, in order. `First` says which of a list of questions fails first; a call asks questions 1 to 11 in this form.
+-- The questions, in order. `First` says which of a list of questions fails first; the calls ask questions 1 to 11 in this form, the plain
+-- reading 14 too.
 -- Here are `First` and questions 1 to 7, which ask about the image.
 use Prim.Native.Nat.{ℕ, suc, zero, _+_, _*_, _≤_, _<_}
 use mathlib.Core.Path.{_≡_}

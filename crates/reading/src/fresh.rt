@@ -1,5 +1,5 @@
 // The evaluator of a plain reading, which has no records: a call is its rule's body, and no table and no count are handed on.
-// `left` and the answers are as in `evaluate`, and so is what each function does.
+// `left` and the answers are as in `evaluate`. There is no function for a rule: `fresh_word` follows calls to the body that is none.
 use crate::answers;
 use crate::terminals;
 ghost use Prim.Native.Nat.{_+_, _-_, _<_};

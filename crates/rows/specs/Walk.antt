@@ -9,6 +9,7 @@ use lib.ListN.{length, getD}
 use lib.Dec.{leb, eqb}
 use Rattle.grammar.specs.Image.{start, root, Node, empty, terminal, sequence, choice, star, not-predicate, call, unlawful}
 use Rattle.grammar.specs.Terminal.{terminalAt}
+use Rattle.records.specs.Slots.{slotOf}
 use Rattle.records.specs.Words.{isHeld, possible, matchedOf, lengthOf}
 use Rattle.reading.specs.Loaded.{wordB, wordNode, rulesIn}
 use Rattle.rows.specs.Rows.{rowWord}
@@ -86,13 +87,13 @@ met true true c go = go
 -- the row loses its upper bits; a grammar of at most 64 rules has none.
 unfoldable pub pairV : (rules root room : ℕ) → (text table : List ℕ) → Walker → Walker
 pairV rules root room text table ev r at lo hi k c =
-    let word = getD table (at * rules + r) 0 in
+    let word = getD table (slotOf rules r at) 0 in
     met (isHeld word && possible word at (length text)) (matchedOf word) c
     (entered (touches lo hi at (lengthOf word)) (leb room c) (lengthOf word)
     (rowWord (record { rule = r % 256; depth = k; start = at; length = lengthOf word }))
     (ev root at lo hi (k + 1)) c)
 
--- A terminal or the empty node: nothing is entered.
+-- A node, by its kind.
 unfoldable pub kindV : (text : List ℕ) → (nodes called : Walker) → Node → (at lo hi around count : ℕ) → Trail
 kindV text nodes called empty at lo hi k c = trail (walked true 0 c) []
 kindV text nodes called (terminal m) at lo hi k c =
