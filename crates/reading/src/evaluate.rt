@@ -223,8 +223,7 @@ pub fn eval_rule(
     ensures { λ r. ⌜ Gives (length (now (text .entry))) at left (pairM (rulesIn (now (words .entry))) root (now (text .entry)) (nodeW (now (words .entry)) (now (text .entry)) left) left rule at (now (table .entry)) (now (count .entry))) r (now (table .exit)) (now (count .exit)) ⌝ }
 {
     let rules = loaded::rules_in(words);
-    let slot = at * rules + rule;
-    let word = memo::look(table, slot);
+    let word = memo::look(table, rules, rule, at);
     if records::is_held(word) {
         let Decoded::Possible(held) = Record::from_word(word, at, text.len()) else {
             return 12;
@@ -238,7 +237,7 @@ pub fn eval_rule(
     if value < 16 {
         return value;
     }
-    memo::put(table, slot, value);
+    memo::put(table, rules, rule, at, value);
     *count = std::num::wrapping_add_u64(*count, 1);
     value
 }

@@ -1,4 +1,4 @@
-use Rattle.reading.proofs.Rules.{was-possible, was-impossible, rule-impossible, rule-too-deep, rule-met, rule-refused, rule-stored, slot-fits, node-too-deep, node-goes, word-goes, past-7}
+use Rattle.reading.proofs.Rules.{was-possible, was-impossible, rule-impossible, rule-too-deep, rule-met, rule-refused, rule-stored, node-too-deep, node-goes, word-goes, past-7}
 use Rattle.reading.proofs.LoadedRuns.{word-is, word-unlawful}
 use Rattle.reading.proofs.Stars.{Rounds, rounds-start, round-refused, round-still, round-fails, round-goes, round-bounds}
 use Rattle.reading.proofs.Runs.{not-refused, not-answered, call-refused, call-answered, nesting-allowed, says-itself, length-within}
@@ -324,14 +324,6 @@ eval-not-returns-2 t c =
 
 eval-rule-rules-in-requires : (t : ℕ) → eval-rule-lts.Need-rules-in-requires (eval-rule-claims t) (eval-rule-at t) eval-rule.Post
 eval-rule-rules-in-requires t c κs = search needs
-
-eval-rule-mul-slot : (t : ℕ) → eval-rule-lts.Need-mul-slot (eval-rule-claims t) (eval-rule-at t) eval-rule.Post
-eval-rule-mul-slot t c =
-    omega (arith, slot-fits (c .before .before .before .args .at) (c .rules-in .result) (omega (arith, c .before .before .before .pre .1 .0 .short, c .before .before .before .pre .1 .0 .here)) (c .rules-in .ensures .1))
-
-eval-rule-add-slot : (t : ℕ) → eval-rule-lts.Need-add-slot (eval-rule-claims t) (eval-rule-at t) eval-rule.Post
-eval-rule-add-slot t c =
-    omega (arith, slot-fits (c .before .before .before .args .at) (c .rules-in .result) (omega (arith, c .before .before .before .pre .1 .0 .short, c .before .before .before .pre .1 .0 .here)) (c .rules-in .ensures .1), c .before .before .before .pre .1 .1)
 
 eval-rule-look-requires : (t : ℕ) → eval-rule-lts.Need-look-requires (eval-rule-claims t) (eval-rule-at t) eval-rule.Post
 eval-rule-look-requires t c κs = search needs
@@ -730,8 +722,6 @@ pub +eval-call+eval-choice+eval-node+eval-not+eval-rule+eval-sequence+eval-star+
     (eval-rule-at t)
     eval-rule.Post
     (eval-rule-rules-in-requires t)
-    (eval-rule-mul-slot t)
-    (eval-rule-add-slot t)
     (eval-rule-look-requires t)
     (eval-rule-is-held-requires t)
     (eval-rule-from-word-requires t)
