@@ -4,11 +4,12 @@
 use crate::bytes;
 use crate::bytes::FAILED;
 use crate::slots;
+use reading::memo;
 use records::Decoded;
 use records::Record;
 ghost use Prim.Native.Nat.{_+_, _/_, _%_, _<_, _^_};
 ghost use mathlib.Core.Path.{_≡_};
-ghost use lib.ListN.{length, getD};
+ghost use lib.ListN.{length};
 ghost use Rattle.grammar.specs.Image.{sequence, choice, star, not-predicate};
 ghost use Rattle.rows.specs.Walk.{partV, nodeV, ruleV, insideV};
 ghost use Rattle.listing.specs.Gives.{Gives, Steady};
@@ -373,12 +374,6 @@ fn wide(word: u32) -> usize
 }
 
 // The word in a slot of the table; a slot past it reads as 0.
-fn look(table: &[u64], slot: usize) -> u64
-    ensures { λ r. ⌜ r ≡ getD (now (table .entry)) slot 0 ⌝ }
-{
-    if slot < table.len() { table[slot] } else { 0 }
-}
-
 // A rule at a position: its record, its row, and the rows of its body. Rule and root are one argument, `call`, which has 12 bits for each:
 // with one more a thread of 2 MiB would not hold a listing of nesting 4,096.
 pub fn walk_rule(
@@ -401,7 +396,7 @@ pub fn walk_rule(
     let rule = call / 4096;
     let root = call % 4096;
     let rules = wide(words[4096]);
-    let word = look(table, at * rules + rule);
+    let word = memo::look(table, rules, rule, at);
     if !records::is_held(word) {
         return FAILED + 12;
     }

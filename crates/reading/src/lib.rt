@@ -5,7 +5,7 @@ pub mod code;
 mod evaluate;
 mod fresh;
 pub mod loaded;
-mod memo;
+pub mod memo;
 pub mod plain;
 pub mod session;
 pub mod terminals;

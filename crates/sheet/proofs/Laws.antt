@@ -1,7 +1,7 @@
 -- What the calls leave to be shown: from what their parts gave to their promises. Assumes nothing.
 use Prim.Native.Nat.{ℕ, _+_, _*_, _≤_, _<_}
 use native.Mathlib.Omega.{arith}
-use native.Mathlib.Nat.{mul-le-mul, mul-le-mul-right}
+use native.Mathlib.Nat.{mul-le-mul}
 use mathlib.Core.Path.{_≡_, subst}
 use mathlib.Core.List.{List}
 use lib.ListN.{length, take}
@@ -21,14 +21,6 @@ use Rattle.ledger.proofs.SheetReads.{reads-word, reads-number}
 -- The number of words of a table is far below a machine word.
 pub size-fits : (rules cap : ℕ) → rules ≤ 64 → cap ≤ 65535 → rules * (cap + 1) ≤ 4194304
 size-fits rules cap h k = let l : cap + 1 ≤ 65536 = omega arith in mul-le-mul h l
-
-pub slot-small : (rules q : ℕ) → rules ≤ 64 → q ≤ 65535 → q * rules ≤ 4194240
-slot-small rules q h k = mul-le-mul k h
-
--- The slot of a pair of the text is in the table.
-pub slot-in : (R rule q n cap words : ℕ) → rule < R → q ≤ n → n ≤ cap → R * (cap + 1) ≤ words → q * R + rule < words
-slot-in R rule q n cap words a b c d =
-    let m : (q + 1) * R ≤ (cap + 1) * R = mul-le-mul-right R (omega arith) in omega arith
 
 -- The number that the questions gave is 0.
 pub passed :

@@ -2,7 +2,7 @@
 -- or proofs/Rules. The measure is three times the allowance, a node below a part, a part below the kinds. Assumes nothing.
 use Rattle.listing.proofs.Paths.{sequence-first, sequence-ends, sequence-second-ends, sequence-second, sequence-both, not-stops, not-fails, not-matches, part-found, part-ends, part-missed, part-goes, choice-first, choice-failed, choice-second, Rounds, star-start, star-stops, star-last, star-found, star-still, star-more}
 use Rattle.listing.proofs.Rules.{packed-root, packed-rule, rule-empty, rule-impossible, rule-failed, rule-in-text, rule-missed, rule-full, rule-stops, rule-goes, node-too-deep, node-goes, empty-goes, unlawful-goes, terminal-goes}
-use Rattle.reading.proofs.Rules.{was-possible, was-impossible, slot-fits, past-7}
+use Rattle.reading.proofs.Rules.{was-possible, was-impossible, past-7}
 use Rattle.reading.proofs.LoadedRuns.{word-is, word-unlawful}
 use Rattle.reading.specs.Loaded.{rulesIn}
 use Rattle.rows.specs.Walk.{nodeV, pairV, kindV}
@@ -45,7 +45,7 @@ use Rattle.listing.proofs.bytes.byte_between.Reads as byte-between-read
 use Rattle.listing.proofs.slots.put.Reads as put-reads
 use Rattle.listing.proofs.slots.row_word.Reads as row-word-reads
 use Rattle.listing.proofs.slots.touched.Reads as touched-reads
-use Rattle.listing.proofs.walk.look.Reads as look-reads
+use Rattle.reading.proofs.memo.look.Reads as look-reads
 use Rattle.listing.proofs.walk.wide.Reads as wide-reads
 use Rattle.records.proofs.Record.from_word.Reads as from-word-reads
 use Rattle.records.proofs.is_held.Reads as is-held-reads
@@ -446,16 +446,6 @@ walk-rule-element-copy-out-wide t c = search needs
 walk-rule-wide-requires : (t : ℕ) → walk-rule-lts.Need-wide-requires (walk-rule-claims t) (walk-rule-at t) walk-rule.Post
 walk-rule-wide-requires t c κs = search needs
 
-walk-rule-mul-look : (t : ℕ) → walk-rule-lts.Need-mul-look (walk-rule-claims t) (walk-rule-at t) walk-rule.Post
-walk-rule-mul-look t c =
-    let entry = c .before .before .before .before .before in
-    omega (arith, slot-fits (entry .args .at) (c .wide .result) (omega (arith, (entry .pre .1 .0 .short), (entry .pre .1 .0 .here))) (c .wide .ensures .1))
-
-walk-rule-add-look : (t : ℕ) → walk-rule-lts.Need-add-look (walk-rule-claims t) (walk-rule-at t) walk-rule.Post
-walk-rule-add-look t c =
-    let entry = c .before .before .before .before .before in
-    omega (arith, slot-fits (entry .args .at) (c .wide .result) (omega (arith, (entry .pre .1 .0 .short), (entry .pre .1 .0 .here))) (c .wide .ensures .1), entry .pre .1 .1)
-
 walk-rule-look-requires : (t : ℕ) → walk-rule-lts.Need-look-requires (walk-rule-claims t) (walk-rule-at t) walk-rule.Post
 walk-rule-look-requires t c κs = search needs
 
@@ -820,8 +810,6 @@ pub +walk-choice+walk-node+walk-not+walk-part+walk-rule+walk-sequence+walk-star-
     walk-rule.Post
     (walk-rule-element-copy-out-wide t)
     (walk-rule-wide-requires t)
-    (walk-rule-mul-look t)
-    (walk-rule-add-look t)
     (walk-rule-look-requires t)
     (walk-rule-is-held-requires t)
     (walk-rule-add-result t)
