@@ -20,3 +20,4 @@ pub mod OverTables
 pub mod Stores
 pub mod TrueTables
 pub mod TrueReads
+pub mod Allowance

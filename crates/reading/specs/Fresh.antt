@@ -1,14 +1,15 @@
 -- The evaluator of a plain reading as a function over a loaded grammar: without records, so that a call is its rule's body.
 -- It is the evaluator of Loaded with another answer to a call. No table is lent to it and no pair is counted: it runs over the empty
 -- table and the count 0, and leaves them.
-use Prim.Native.Nat.{ℕ, zero, suc, _+_, _*_}
+use Prim.Native.Nat.{ℕ, zero, suc, _+_, _*_, _≤_, _<_}
 use mathlib.Core.Path.{_≡_}
 use mathlib.Core.Bool.{Bool, true, false}
 use mathlib.Core.List.{List, []}
 use lib.ListN.{getD}
 use lib.Dec.{ltb}
+use Rattle.grammar.specs.declared.Evaluation.{Evaluation}
 use Rattle.grammar.specs.Image.{Node, field}
-use Rattle.reading.specs.Model.{Out, out, refused, Evaluator, kindM}
+use Rattle.reading.specs.Model.{answered, Out, out, refused, Evaluator, kindM}
 use Rattle.reading.specs.Gives.{Gives}
 use Rattle.reading.specs.Loaded.{wordB, wordNode}
 
@@ -44,3 +45,8 @@ raised w k = raisedIf (ltb w 16) w k
 -- What a function of this evaluator promises.
 abbrev pub Answers : (n at left : ℕ) → Out → (word : ℕ) → Type 0
 Answers n at left o word = Gives n at left o word [] 0
+
+-- How a run with an allowance ends where the evaluation is z: with z exactly where the allowance covers its nesting, else with 14.
+pub data Ends (left : ℕ) (z : Evaluation) (o : Out) : Type 0 where
+  covered : z .nesting ≤ left → o ≡ out (answered z) [] 0 → Ends left z o
+  too-deep : left < z .nesting → o ≡ out (refused 14) [] 0 → Ends left z o

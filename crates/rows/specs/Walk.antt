@@ -2,7 +2,7 @@
 -- that it gives, in order. It is not the definition of the rows, which is `rowsOf`; proofs/ show how the two agree.
 -- A walk has a window: it lists the rows that the window touches and enters no other call. In the window (n + 1, 0), which touches
 -- nothing, it only tells whether a node matches, and how long, from the records.
-use Prim.Native.Nat.{ℕ, zero, suc, _+_, _*_, _%_}
+use Prim.Native.Nat.{ℕ, zero, suc, _+_, _%_}
 use mathlib.Core.Bool.{Bool, true, false, not, _&&_}
 use mathlib.Core.List.{List, [], _∷_, _++_}
 use lib.ListN.{length, getD}

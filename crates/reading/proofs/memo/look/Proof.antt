@@ -1,6 +1,6 @@
 use Prim.Native.Nat.{ℕ}
 use lib.ListN.{getD, List·getD-eq-default}
-use mathlib.Core.Path.{_≡_, sym, ap, _∙_}
+use mathlib.Core.Path.{sym, ap, _∙_}
 use borrow.Author.Needs.{needs}
 use Rattle.reading.proofs.memo.look.Statement.{statement}
 use Rattle.reading.proofs.memo.look.Tie as tie

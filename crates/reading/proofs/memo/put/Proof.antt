@@ -1,7 +1,7 @@
 use Prim.Native.Nat.{ℕ}
 use lib.ListN.{set}
 use lib.Seq.{set-out}
-use mathlib.Core.Path.{_≡_, sym, ap, _∙_}
+use mathlib.Core.Path.{sym, ap, _∙_}
 use borrow.Author.Needs.{needs}
 use Rattle.reading.proofs.memo.put.Statement.{statement}
 use Rattle.reading.proofs.memo.put.Tie as tie
