@@ -7,8 +7,6 @@ pub mod Runs
 pub mod Stars
 pub mod Rules
 pub mod Raised
-pub mod FreshRuns
-pub mod FreshSame
 pub mod PlainReading
 pub mod Coding
 pub mod Consuming

@@ -1,17 +1,23 @@
 -- A loaded grammar: which node a word stands for, and that the evaluator over a loaded grammar is the one over its image.
 -- Assumes nothing.
 use Prim.Native.Nat.{ℕ, zero, suc, _≤_}
+use native.Mathlib.Omega.{arith}
 use mathlib.Core.Path.{_≡_, refl, sym, _∙_, subst}
+use mathlib.Core.Bool.{Bool, true, false}
 use mathlib.Core.List.{List, [], _∷_}
 use lib.ListN.{length, getD, List·getD-eq-default}
+use lib.Dec.{ltb}
+use borrow.Author.Tests.{ltb-true, ltb-false}
 use Rattle.grammar.specs.Image.{Node, empty, terminal, any, range, sequence, choice, star, not-predicate, call, unlawful}
 use Rattle.grammar.specs.Image.{nodeOfKind, node, rules, root, start}
 use Rattle.image.specs.Fields.{WordFields}
 use Rattle.image.specs.declared.Node as image
 use Rattle.reading.specs.Model.{Out, Evaluator, pairM, ruleM, kindM, nodeM}
-use Rattle.reading.specs.Loaded.{wordB, wordNode, rulesIn, Loaded, nodeW}
+use Rattle.reading.specs.Loaded.{wordB, wordNode, rulesIn, Loaded, nodeW, wordM}
 use Rattle.reading.specs.Gives.{Gives}
+use Rattle.reading.specs.Plain.{StartWord}
 use Rattle.reading.specs.Session.{StartOver}
+use Rattle.reading.proofs.Rules.{node-goes, rule-refused, rule-stored}
 
 module _ (w : ℕ) {f : image.Node} (s : WordFields w f) where
   pub word-is : {k : ℕ} → f .kind ≡ k → wordNode w ≡ nodeOfKind k (f .a) (f .b)
@@ -68,6 +74,37 @@ module _ (img text : List ℕ) {ws : List ℕ} (l : Loaded img ws) where
       t
       c)
       ∙ same-root (rulesIn ws) (wordB (getD ws i 0)) img text (nodeM img text left) left (node img i) (l .rules-are) (l .words-are i .root-is) at t c
+
+-- The start pair over no records: the run of its rule's body, over the loaded grammar, gives its word.
+module _ (img text : List ℕ) {ws : List ℕ} (l : Loaded img ws) (short : length text ≤ 65535) where
+  pub start-given :
+      {word count : ℕ} {table : List ℕ}
+      → Gives (length text) 0 4096 (wordM ws text 4095 (getD ws (root img (start img)) 0) 0 [] 0) word table count
+      → StartWord img text word
+  start-given {word} {count} {table} g = go (ltb word 16) refl
+    where
+      body : Gives (length text) 0 4096 (nodeM img text 4096 (root img (start img)) 0 [] 0) word table count
+      body =
+          subst (λ (o : Out). Gives (length text) 0 4096 o word table count) (loaded-run img text l 4096 (root img (start img)) 0 [] 0)
+          (node-goes ws text 4096 (root img (start img)) 0 [] 0 (λ e. omega arith) g)
+
+      go : (b : Bool) → ltb word 16 ≡ b → StartWord img text word
+      go true e =
+          record {
+            table = table;
+            count = count;
+            gives =
+                rule-refused (rules img) (root img (start img)) text (nodeM img text 4096) 4096 (start img) 0 [] 0 {word = 0} refl short (omega arith) refl body
+                (ltb-true word 16 e);
+          }
+      go false e =
+          record {
+            table = _;
+            count = _;
+            gives =
+                rule-stored (rules img) (root img (start img)) text (nodeM img text 4096) 4096 (start img) 0 [] 0 {word = 0} refl short (omega arith) refl body
+                (ltb-false word 16 e);
+          }
 
 -- The same for a pair.
 pub loaded-pair :

@@ -9,7 +9,7 @@ use mathlib.Core.List.{List}
 use lib.ListN.{length, getD, set}
 use lib.Dec.{leb}
 use borrow.Author.Tests.{le-leb, lt-leb}
-use Rattle.grammar.specs.Image.{Node}
+use Rattle.grammar.specs.Image.{Node, call}
 use Rattle.evaluation.specs.Within.{Within}
 use Rattle.records.specs.declared.Record.{Record}
 use Rattle.records.specs.declared.Decoded.the-variants.{Possible, Impossible}
@@ -152,6 +152,17 @@ module _ {n : ℕ} (ws text : List ℕ) (left : ℕ) where
       let l : left - 1 + 1 ≡ left = omega arith in
       subst (λ (k : ℕ). Gives n at k (wordM ws text (left - 1) w at t c) r u d) l
       (subst (λ (x : Node). Gives n at (left - 1 + 1) (kindW ws text (left - 1) (wordB w) x at t c) r u d) (sym e) g)
+
+  -- A call's word: the root that the body has is the word's field B.
+  pub call-goes :
+      (w at : ℕ) (t : List ℕ) (c : ℕ) {root rule r d : ℕ} {u : List ℕ}
+      → (left ≡ 0 → ⊥)
+      → root ≡ wordB w
+      → wordNode w ≡ call rule
+      → Gives n at (left - 1 + 1) (kindW ws text (left - 1) root (call rule) at t c) r u d
+      → Gives n at left (wordM ws text (left - 1) w at t c) r u d
+  call-goes w at t c {rule = rule} {r} {d} {u} ne b e g =
+      word-goes w at t c ne e (subst (λ (k : ℕ). Gives n at (left - 1 + 1) (kindW ws text (left - 1) k (call rule) at t c) r u d) b g)
 
 -- A kind that is none of 0 to 7.
 pub past-7 :

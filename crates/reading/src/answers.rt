@@ -1,10 +1,9 @@
 // The ways of combining evaluations, on their words: one function for each case of the paper.
-ghost use Prim.Native.Nat.{_+_, _*_, _^_, _≤_, _<_, max};
+ghost use Prim.Native.Nat.{_≤_, _<_, max};
 ghost use mathlib.Core.Path.{_≡_};
 ghost use Rattle.grammar.specs.Evaluates.{firstFailed, inSequence, takenOver, secondChoice, negated};
 ghost use Rattle.records.specs.Words.{wordOf, valueOf, nestingOf};
 ghost use Rattle.reading.specs.Gives.{Joinable};
-ghost use Rattle.reading.specs.Fresh.{raised};
 
 // The word of the empty node's evaluation: matched, nesting 1.
 pub const EMPTY_HERE: u64 = 0xC000_0002_0000_0000;
@@ -15,19 +14,17 @@ pub fn larger(a: usize, b: usize) -> usize
     if a < b { b } else { a }
 }
 
-// The word of an evaluation.
+// The word of an evaluation. Its fields fit, so that none loses bits.
 pub fn answer(matched: bool, nesting: usize, examined: usize, length: usize) -> u64
     requires { ⌜ (nesting < 8192) × (examined < 131072) × (length < 65536) ⌝ }
     ensures { λ r. ⌜ r ≡ wordOf (record { matched = matched; length = length; examined = examined; nesting = nesting }) ⌝ }
 {
-    let record = records::Record {
-        matched,
-        spare: 0,
-        nesting,
-        examined,
-        length,
-    };
-    record.word()
+    let fields = nesting * 8589934592 + examined * 65536 + length;
+    if matched {
+        0xC000_0000_0000_0000 + fields as u64
+    } else {
+        0x8000_0000_0000_0000 + fields as u64
+    }
 }
 
 // "A then B: if A fails, A's examined;"
@@ -92,15 +89,4 @@ pub fn negated_answer(x: u64) -> u64
         records::examined_of(x),
         0,
     )
-}
-
-// The word of an answer with so many calls around it; a refusal stays.
-pub fn raised_by(x: u64, levels: usize) -> u64
-    requires { ⌜ (16 ≤ x → x + levels * 8589934592 < 2 ^ 64) × (levels ≤ 4096) ⌝ }
-    ensures { λ r. ⌜ r ≡ raised x levels ⌝ }
-{
-    if x < 16 {
-        return x;
-    }
-    x + levels as u64 * 8589934592
 }

@@ -1,6 +1,8 @@
-// The evaluator: "Nodes call rules and rules evaluate nodes, in turn." A function for each kind that has something inside stands
-// between the two. `left` is the remaining allowance of nesting: it falls by one from a node to what is evaluated inside it, and not
-// from a rule to its body. An answer is a record word, or the number of a refusal, which is below 16 and so not held.
+// The evaluator, for sessions and for the plain reading, which lends it an empty table: "Nodes call rules and rules evaluate nodes, in
+// turn." A function for each kind that has something inside stands between the two. `left` is the remaining allowance of nesting: it
+// falls by one from a node to what is evaluated inside it, and not from a rule to its body. An answer is a record word, or the number
+// of a refusal, which is below 16 and so not held. The text is lent as a reference to its slice: one pointer to hand on, where a slice
+// is a pointer and a length that each call copies.
 use crate::answers;
 use crate::loaded;
 use crate::memo;
@@ -17,15 +19,15 @@ ghost use Rattle.reading.specs.Gives.{Ready, Gives};
 // A node at a position. A byte range is answered here, which saves the call that most visits would end in.
 fn eval_node(
     words: &[u32; 4097],
-    text: &[u8],
+    text: &&[u8],
     table: &mut [u64],
     count: &mut u64,
     node: usize,
     at: usize,
     left: usize,
 ) -> u64
-    requires { ⌜ Ready (now text) at left × (node < 4096) ⌝ }
-    ensures { λ r. ⌜ Gives (length (now (text .entry))) at left (nodeW (now (words .entry)) (now (text .entry)) left node at (now (table .entry)) (now (count .entry))) r (now (table .exit)) (now (count .exit)) ⌝ }
+    requires { ⌜ Ready (now (now text)) at left × (node < 4096) ⌝ }
+    ensures { λ r. ⌜ Gives (length (now (now (text .entry)))) at left (nodeW (now (words .entry)) (now (now (text .entry))) left node at (now (table .entry)) (now (count .entry))) r (now (table .exit)) (now (count .exit)) ⌝ }
 {
     if left == 0 {
         return 14;
@@ -33,23 +35,23 @@ fn eval_node(
     let word = words[node];
     let fields = image::node_of(word);
     if fields.kind == 2 {
-        return terminals::byte_between(text, fields.a, fields.b, at);
+        return terminals::byte_between(*text, fields.a, fields.b, at);
     }
     eval_word(words, text, table, count, word, at, left)
 }
 
 // A node's word at a position.
-fn eval_word(
+pub fn eval_word(
     words: &[u32; 4097],
-    text: &[u8],
+    text: &&[u8],
     table: &mut [u64],
     count: &mut u64,
     word: u32,
     at: usize,
     left: usize,
 ) -> u64
-    requires { ⌜ Ready (now text) at left × (0 < left) ⌝ }
-    ensures { λ r. ⌜ Gives (length (now (text .entry))) at left (wordM (now (words .entry)) (now (text .entry)) (left - 1) word at (now (table .entry)) (now (count .entry))) r (now (table .exit)) (now (count .exit)) ⌝ }
+    requires { ⌜ Ready (now (now text)) at left × (0 < left) ⌝ }
+    ensures { λ r. ⌜ Gives (length (now (now (text .entry)))) at left (wordM (now (words .entry)) (now (now (text .entry))) (left - 1) word at (now (table .entry)) (now (count .entry))) r (now (table .exit)) (now (count .exit)) ⌝ }
 {
     let fields = image::node_of(word);
     let kind = fields.kind;
@@ -57,8 +59,8 @@ fn eval_word(
     let b = fields.b;
     match kind {
         0 => answers::EMPTY_HERE,
-        1 => terminals::any_byte(text, at),
-        2 => terminals::byte_between(text, a, b, at),
+        1 => terminals::any_byte(*text, at),
+        2 => terminals::byte_between(*text, a, b, at),
         3 => eval_sequence(words, text, table, count, a, b, at, left - 1),
         4 => eval_choice(words, text, table, count, a, b, at, left - 1),
         5 => eval_star(words, text, table, count, a, at, left - 1),
@@ -72,7 +74,7 @@ fn eval_word(
 // A then B.
 fn eval_sequence(
     words: &[u32; 4097],
-    text: &[u8],
+    text: &&[u8],
     table: &mut [u64],
     count: &mut u64,
     a: usize,
@@ -80,8 +82,8 @@ fn eval_sequence(
     at: usize,
     left: usize,
 ) -> u64
-    requires { ⌜ Ready (now text) at (left + 1) × (a < 4096) × (b < 4096) ⌝ }
-    ensures { λ r. ⌜ Gives (length (now (text .entry))) at (left + 1) (kindW (now (words .entry)) (now (text .entry)) left b (sequence a b) at (now (table .entry)) (now (count .entry))) r (now (table .exit)) (now (count .exit)) ⌝ }
+    requires { ⌜ Ready (now (now text)) at (left + 1) × (a < 4096) × (b < 4096) ⌝ }
+    ensures { λ r. ⌜ Gives (length (now (now (text .entry)))) at (left + 1) (kindW (now (words .entry)) (now (now (text .entry))) left b (sequence a b) at (now (table .entry)) (now (count .entry))) r (now (table .exit)) (now (count .exit)) ⌝ }
 {
     let x = eval_node(words, text, table, count, a, at, left);
     if x < 16 {
@@ -108,7 +110,7 @@ fn eval_sequence(
 // A else B.
 fn eval_choice(
     words: &[u32; 4097],
-    text: &[u8],
+    text: &&[u8],
     table: &mut [u64],
     count: &mut u64,
     a: usize,
@@ -116,8 +118,8 @@ fn eval_choice(
     at: usize,
     left: usize,
 ) -> u64
-    requires { ⌜ Ready (now text) at (left + 1) × (a < 4096) × (b < 4096) ⌝ }
-    ensures { λ r. ⌜ Gives (length (now (text .entry))) at (left + 1) (kindW (now (words .entry)) (now (text .entry)) left b (choice a b) at (now (table .entry)) (now (count .entry))) r (now (table .exit)) (now (count .exit)) ⌝ }
+    requires { ⌜ Ready (now (now text)) at (left + 1) × (a < 4096) × (b < 4096) ⌝ }
+    ensures { λ r. ⌜ Gives (length (now (now (text .entry)))) at (left + 1) (kindW (now (words .entry)) (now (now (text .entry))) left b (choice a b) at (now (table .entry)) (now (count .entry))) r (now (table .exit)) (now (count .exit)) ⌝ }
 {
     let x = eval_node(words, text, table, count, a, at, left);
     if x < 16 {
@@ -136,15 +138,15 @@ fn eval_choice(
 // Not A.
 fn eval_not(
     words: &[u32; 4097],
-    text: &[u8],
+    text: &&[u8],
     table: &mut [u64],
     count: &mut u64,
     a: usize,
     at: usize,
     left: usize,
 ) -> u64
-    requires { ⌜ Ready (now text) at (left + 1) × (a < 4096) ⌝ }
-    ensures { λ r. ⌜ Gives (length (now (text .entry))) at (left + 1) (kindW (now (words .entry)) (now (text .entry)) left 0 (not-predicate a) at (now (table .entry)) (now (count .entry))) r (now (table .exit)) (now (count .exit)) ⌝ }
+    requires { ⌜ Ready (now (now text)) at (left + 1) × (a < 4096) ⌝ }
+    ensures { λ r. ⌜ Gives (length (now (now (text .entry)))) at (left + 1) (kindW (now (words .entry)) (now (now (text .entry))) left 0 (not-predicate a) at (now (table .entry)) (now (count .entry))) r (now (table .exit)) (now (count .exit)) ⌝ }
 {
     let x = eval_node(words, text, table, count, a, at, left);
     if x < 16 {
@@ -156,15 +158,15 @@ fn eval_not(
 // A zero or more times: rounds until one fails. A matched round of length 0 gets refusal 12.
 fn eval_star(
     words: &[u32; 4097],
-    text: &[u8],
+    text: &&[u8],
     table: &mut [u64],
     count: &mut u64,
     a: usize,
     at: usize,
     left: usize,
 ) -> u64
-    requires { ⌜ Ready (now text) at (left + 1) × (a < 4096) ⌝ }
-    ensures { λ r. ⌜ Gives (length (now (text .entry))) at (left + 1) (kindW (now (words .entry)) (now (text .entry)) left 0 (star a) at (now (table .entry)) (now (count .entry))) r (now (table .exit)) (now (count .exit)) ⌝ }
+    requires { ⌜ Ready (now (now text)) at (left + 1) × (a < 4096) ⌝ }
+    ensures { λ r. ⌜ Gives (length (now (now (text .entry)))) at (left + 1) (kindW (now (words .entry)) (now (now (text .entry))) left 0 (star a) at (now (table .entry)) (now (count .entry))) r (now (table .exit)) (now (count .exit)) ⌝ }
 {
     let mut consumed = 0usize;
     let mut examined = 0usize;
@@ -190,7 +192,7 @@ fn eval_star(
 // A call of a rule.
 fn eval_call(
     words: &[u32; 4097],
-    text: &[u8],
+    text: &&[u8],
     table: &mut [u64],
     count: &mut u64,
     rule: usize,
@@ -198,8 +200,8 @@ fn eval_call(
     at: usize,
     left: usize,
 ) -> u64
-    requires { ⌜ Ready (now text) at (left + 1) × (rule < 4096) × (root < 4096) ⌝ }
-    ensures { λ r. ⌜ Gives (length (now (text .entry))) at (left + 1) (kindW (now (words .entry)) (now (text .entry)) left root (call rule) at (now (table .entry)) (now (count .entry))) r (now (table .exit)) (now (count .exit)) ⌝ }
+    requires { ⌜ Ready (now (now text)) at (left + 1) × (rule < 4096) × (root < 4096) ⌝ }
+    ensures { λ r. ⌜ Gives (length (now (now (text .entry)))) at (left + 1) (kindW (now (words .entry)) (now (now (text .entry))) left root (call rule) at (now (table .entry)) (now (count .entry))) r (now (table .exit)) (now (count .exit)) ⌝ }
 {
     let x = eval_rule(words, text, table, count, rule, root, at, left);
     if x < 16 {
@@ -211,7 +213,7 @@ fn eval_call(
 // A rule, whose body has that root, at a position: its pair is looked up before its body is evaluated.
 pub fn eval_rule(
     words: &[u32; 4097],
-    text: &[u8],
+    text: &&[u8],
     table: &mut [u64],
     count: &mut u64,
     rule: usize,
@@ -219,8 +221,8 @@ pub fn eval_rule(
     at: usize,
     left: usize,
 ) -> u64
-    requires { ⌜ Ready (now text) at left × (rule < 4096) × (root < 4096) ⌝ }
-    ensures { λ r. ⌜ Gives (length (now (text .entry))) at left (pairM (rulesIn (now (words .entry))) root (now (text .entry)) (nodeW (now (words .entry)) (now (text .entry)) left) left rule at (now (table .entry)) (now (count .entry))) r (now (table .exit)) (now (count .exit)) ⌝ }
+    requires { ⌜ Ready (now (now text)) at left × (rule < 4096) × (root < 4096) ⌝ }
+    ensures { λ r. ⌜ Gives (length (now (now (text .entry)))) at left (pairM (rulesIn (now (words .entry))) root (now (now (text .entry))) (nodeW (now (words .entry)) (now (now (text .entry))) left) left rule at (now (table .entry)) (now (count .entry))) r (now (table .exit)) (now (count .exit)) ⌝ }
 {
     let rules = loaded::rules_in(words);
     let word = memo::look(table, rules, rule, at);

@@ -3,7 +3,6 @@
 mod answers;
 pub mod code;
 mod evaluate;
-mod fresh;
 pub mod loaded;
 pub mod memo;
 pub mod plain;

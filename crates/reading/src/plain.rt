@@ -1,5 +1,5 @@
 // The plain reading: a reading without records. Its answer depends on the image and the text alone.
-use crate::fresh;
+use crate::evaluate;
 use crate::loaded;
 use records::Record;
 ghost use Prim.Native.Nat.{_≤_};
@@ -67,7 +67,17 @@ fn start_word(image: &[u8], text: &[u8]) -> u64
     let body = image::rule_at(image, header.start);
     let root = body.root;
     let word = words[root];
-    fresh::fresh_word(&words, text, word, 0, Record::MAX_NESTING)
+    let mut table = [0u64; 0];
+    let mut count = 0u64;
+    evaluate::eval_word(
+        &words,
+        &text,
+        &mut table,
+        &mut count,
+        word,
+        0,
+        Record::MAX_NESTING,
+    )
 }
 
 // The reading of a text by a grammar. Refuses an image with its number 1 to 7, a text above 65,535 bytes with 8, and a start pair

@@ -19,7 +19,7 @@ pub fn start_over(image: &[u8], text: &[u8], table: &mut [u64], count: &mut u64)
     let root = body.root;
     evaluate::eval_rule(
         &words,
-        text,
+        &text,
         table,
         count,
         start,

@@ -1,14 +1,46 @@
-use Rattle.records.proofs.Codec.{plain-word}
-use mathlib.Core.Path.{_∙_}
+use native.Mathlib.Omega.{arith}
+use mathlib.Core.Path.{ap}
+use mir.Val.{boolByte}
+use Rattle.records.specs.Words.{wordOf}
 use borrow.Author.Needs.{needs}
 use Rattle.reading.proofs.answers.answer.Statement.{statement}
 use Rattle.reading.proofs.answers.answer.Tie as tie
 
-word-requires : tie.Need-word-requires
-word-requires c κs = search needs
+mul-fields : tie.Need-mul-fields
+mul-fields c = search needs
+
+mul-fields-2 : tie.Need-mul-fields-2
+mul-fields-2 c = search needs
+
+add-fields : tie.Need-add-fields
+add-fields c = search needs
+
+add-fields-2 : tie.Need-add-fields-2
+add-fields-2 c = search needs
+
+add-result : tie.Need-add-result
+add-result c = search needs
+
+add-result-2 : tie.Need-add-result-2
+add-result-2 c = search needs
 
 returns : tie.Need-returns
-returns c = c .word .ensures ∙ plain-word (c .before .args .matched) (c .before .args .nesting) (c .before .args .examined) (c .before .args .length) (c .before .pre .0) (c .before .pre .1) (c .before .pre .2)
+unfolding wordOf
+returns c = omega (arith, ap boolByte (c .if1 .taken))
+
+returns-2 : tie.Need-returns-2
+unfolding wordOf
+returns-2 c = omega (arith, ap boolByte (c .if1 .left))
 
 pub answer-spec : {M : Type 1} → statement M
-answer-spec = tie.close (tie.spec word-requires returns)
+answer-spec =
+    tie.close
+    (tie.spec
+    mul-fields
+    mul-fields-2
+    add-fields
+    add-fields-2
+    add-result
+    add-result-2
+    returns
+    returns-2)

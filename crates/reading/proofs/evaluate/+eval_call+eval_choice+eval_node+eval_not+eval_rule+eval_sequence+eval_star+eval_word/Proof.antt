@@ -1,4 +1,4 @@
-use Rattle.reading.proofs.Rules.{was-possible, was-impossible, rule-impossible, rule-too-deep, rule-met, rule-refused, rule-stored, node-too-deep, node-goes, word-goes, past-7}
+use Rattle.reading.proofs.Rules.{was-possible, was-impossible, rule-impossible, rule-too-deep, rule-met, rule-refused, rule-stored, node-too-deep, node-goes, word-goes, call-goes, past-7}
 use Rattle.reading.proofs.LoadedRuns.{word-is, word-unlawful}
 use Rattle.reading.proofs.Stars.{Rounds, rounds-start, round-refused, round-still, round-fails, round-goes, round-bounds}
 use Rattle.reading.proofs.Runs.{not-refused, not-answered, call-refused, call-answered, nesting-allowed, says-itself, length-within}
@@ -75,99 +75,99 @@ use Rattle.reading.proofs.evaluate.+eval_call+eval_choice+eval_node+eva
   close,
 }
 
-abbrev μ-eval-call : Measures 4 eval-call-kinds.ps ℕ
+abbrev μ-eval-call : Measures 5 eval-call-kinds.ps ℕ
 μ-eval-call κs a =
     4 * (a .1 .1 .1 .1 .1 .1 .1 .0) + 3
 
-abbrev μ-eval-choice : Measures 4 eval-choice-kinds.ps ℕ
+abbrev μ-eval-choice : Measures 5 eval-choice-kinds.ps ℕ
 μ-eval-choice κs a =
     4 * (a .1 .1 .1 .1 .1 .1 .1 .0) + 3
 
-abbrev μ-eval-node : Measures 4 eval-node-kinds.ps ℕ
+abbrev μ-eval-node : Measures 5 eval-node-kinds.ps ℕ
 μ-eval-node κs a =
     4 * (a .1 .1 .1 .1 .1 .1 .0) + 1
 
-abbrev μ-eval-not : Measures 4 eval-not-kinds.ps ℕ
+abbrev μ-eval-not : Measures 5 eval-not-kinds.ps ℕ
 μ-eval-not κs a =
     4 * (a .1 .1 .1 .1 .1 .1 .0) + 3
 
-abbrev μ-eval-rule : Measures 4 eval-rule-kinds.ps ℕ
+abbrev μ-eval-rule : Measures 5 eval-rule-kinds.ps ℕ
 μ-eval-rule κs a =
     4 * (a .1 .1 .1 .1 .1 .1 .1 .0) + 2
 
-abbrev μ-eval-sequence : Measures 4 eval-sequence-kinds.ps ℕ
+abbrev μ-eval-sequence : Measures 5 eval-sequence-kinds.ps ℕ
 μ-eval-sequence κs a =
     4 * (a .1 .1 .1 .1 .1 .1 .1 .0) + 3
 
-abbrev μ-eval-star : Measures 4 eval-star-kinds.ps ℕ
+abbrev μ-eval-star : Measures 5 eval-star-kinds.ps ℕ
 μ-eval-star κs a =
     4 * (a .1 .1 .1 .1 .1 .1 .0) + 3
 
-abbrev μ-eval-word : Measures 4 eval-word-kinds.ps ℕ
+abbrev μ-eval-word : Measures 5 eval-word-kinds.ps ℕ
 μ-eval-word κs a =
     4 * (a .1 .1 .1 .1 .1 .1 .0) + 0
 
-abbrev eval-call-at : ℕ → In 4 eval-call-kinds.ps
-eval-call-at t = and 4 eval-call-kinds.ps (is 4 eval-call-kinds.ps μ-eval-call t) eval-call.Pre
+abbrev eval-call-at : ℕ → In 5 eval-call-kinds.ps
+eval-call-at t = and 5 eval-call-kinds.ps (is 5 eval-call-kinds.ps μ-eval-call t) eval-call.Pre
 
-abbrev eval-call-below : ℕ → In 4 eval-call-kinds.ps
+abbrev eval-call-below : ℕ → In 5 eval-call-kinds.ps
 eval-call-below t =
-    and 4 eval-call-kinds.ps (falls 4 eval-call-kinds.ps _<_ μ-eval-call t) eval-call.Pre
+    and 5 eval-call-kinds.ps (falls 5 eval-call-kinds.ps _<_ μ-eval-call t) eval-call.Pre
 
-abbrev eval-choice-at : ℕ → In 4 eval-choice-kinds.ps
+abbrev eval-choice-at : ℕ → In 5 eval-choice-kinds.ps
 eval-choice-at t =
-    and 4 eval-choice-kinds.ps (is 4 eval-choice-kinds.ps μ-eval-choice t) eval-choice.Pre
+    and 5 eval-choice-kinds.ps (is 5 eval-choice-kinds.ps μ-eval-choice t) eval-choice.Pre
 
-abbrev eval-choice-below : ℕ → In 4 eval-choice-kinds.ps
+abbrev eval-choice-below : ℕ → In 5 eval-choice-kinds.ps
 eval-choice-below t =
-    and 4 eval-choice-kinds.ps (falls 4 eval-choice-kinds.ps _<_ μ-eval-choice t) eval-choice.Pre
+    and 5 eval-choice-kinds.ps (falls 5 eval-choice-kinds.ps _<_ μ-eval-choice t) eval-choice.Pre
 
-abbrev eval-node-at : ℕ → In 4 eval-node-kinds.ps
-eval-node-at t = and 4 eval-node-kinds.ps (is 4 eval-node-kinds.ps μ-eval-node t) eval-node.Pre
+abbrev eval-node-at : ℕ → In 5 eval-node-kinds.ps
+eval-node-at t = and 5 eval-node-kinds.ps (is 5 eval-node-kinds.ps μ-eval-node t) eval-node.Pre
 
-abbrev eval-node-below : ℕ → In 4 eval-node-kinds.ps
+abbrev eval-node-below : ℕ → In 5 eval-node-kinds.ps
 eval-node-below t =
-    and 4 eval-node-kinds.ps (falls 4 eval-node-kinds.ps _<_ μ-eval-node t) eval-node.Pre
+    and 5 eval-node-kinds.ps (falls 5 eval-node-kinds.ps _<_ μ-eval-node t) eval-node.Pre
 
-abbrev eval-not-at : ℕ → In 4 eval-not-kinds.ps
-eval-not-at t = and 4 eval-not-kinds.ps (is 4 eval-not-kinds.ps μ-eval-not t) eval-not.Pre
+abbrev eval-not-at : ℕ → In 5 eval-not-kinds.ps
+eval-not-at t = and 5 eval-not-kinds.ps (is 5 eval-not-kinds.ps μ-eval-not t) eval-not.Pre
 
-abbrev eval-not-below : ℕ → In 4 eval-not-kinds.ps
+abbrev eval-not-below : ℕ → In 5 eval-not-kinds.ps
 eval-not-below t =
-    and 4 eval-not-kinds.ps (falls 4 eval-not-kinds.ps _<_ μ-eval-not t) eval-not.Pre
+    and 5 eval-not-kinds.ps (falls 5 eval-not-kinds.ps _<_ μ-eval-not t) eval-not.Pre
 
-abbrev eval-rule-at : ℕ → In 4 eval-rule-kinds.ps
-eval-rule-at t = and 4 eval-rule-kinds.ps (is 4 eval-rule-kinds.ps μ-eval-rule t) eval-rule.Pre
+abbrev eval-rule-at : ℕ → In 5 eval-rule-kinds.ps
+eval-rule-at t = and 5 eval-rule-kinds.ps (is 5 eval-rule-kinds.ps μ-eval-rule t) eval-rule.Pre
 
-abbrev eval-rule-below : ℕ → In 4 eval-rule-kinds.ps
+abbrev eval-rule-below : ℕ → In 5 eval-rule-kinds.ps
 eval-rule-below t =
-    and 4 eval-rule-kinds.ps (falls 4 eval-rule-kinds.ps _<_ μ-eval-rule t) eval-rule.Pre
+    and 5 eval-rule-kinds.ps (falls 5 eval-rule-kinds.ps _<_ μ-eval-rule t) eval-rule.Pre
 
-abbrev eval-sequence-at : ℕ → In 4 eval-sequence-kinds.ps
+abbrev eval-sequence-at : ℕ → In 5 eval-sequence-kinds.ps
 eval-sequence-at t =
-    and 4 eval-sequence-kinds.ps (is 4 eval-sequence-kinds.ps μ-eval-sequence t) eval-sequence.Pre
+    and 5 eval-sequence-kinds.ps (is 5 eval-sequence-kinds.ps μ-eval-sequence t) eval-sequence.Pre
 
-abbrev eval-sequence-below : ℕ → In 4 eval-sequence-kinds.ps
+abbrev eval-sequence-below : ℕ → In 5 eval-sequence-kinds.ps
 eval-sequence-below t =
     and
-    4
+    5
     eval-sequence-kinds.ps
-    (falls 4 eval-sequence-kinds.ps _<_ μ-eval-sequence t)
+    (falls 5 eval-sequence-kinds.ps _<_ μ-eval-sequence t)
     eval-sequence.Pre
 
-abbrev eval-star-at : ℕ → In 4 eval-star-kinds.ps
-eval-star-at t = and 4 eval-star-kinds.ps (is 4 eval-star-kinds.ps μ-eval-star t) eval-star.Pre
+abbrev eval-star-at : ℕ → In 5 eval-star-kinds.ps
+eval-star-at t = and 5 eval-star-kinds.ps (is 5 eval-star-kinds.ps μ-eval-star t) eval-star.Pre
 
-abbrev eval-star-below : ℕ → In 4 eval-star-kinds.ps
+abbrev eval-star-below : ℕ → In 5 eval-star-kinds.ps
 eval-star-below t =
-    and 4 eval-star-kinds.ps (falls 4 eval-star-kinds.ps _<_ μ-eval-star t) eval-star.Pre
+    and 5 eval-star-kinds.ps (falls 5 eval-star-kinds.ps _<_ μ-eval-star t) eval-star.Pre
 
-abbrev eval-word-at : ℕ → In 4 eval-word-kinds.ps
-eval-word-at t = and 4 eval-word-kinds.ps (is 4 eval-word-kinds.ps μ-eval-word t) eval-word.Pre
+abbrev eval-word-at : ℕ → In 5 eval-word-kinds.ps
+eval-word-at t = and 5 eval-word-kinds.ps (is 5 eval-word-kinds.ps μ-eval-word t) eval-word.Pre
 
-abbrev eval-word-below : ℕ → In 4 eval-word-kinds.ps
+abbrev eval-word-below : ℕ → In 5 eval-word-kinds.ps
 eval-word-below t =
-    and 4 eval-word-kinds.ps (falls 4 eval-word-kinds.ps _<_ μ-eval-word t) eval-word.Pre
+    and 5 eval-word-kinds.ps (falls 5 eval-word-kinds.ps _<_ μ-eval-word t) eval-word.Pre
 
 abbrev eval-call-claims : ℕ → eval-call-lts.Claims
 eval-call-claims t = (eval-rule-below t, eval-rule.Post, taken-over-reads.Asked, taken-over-reads.Learnt)
@@ -195,84 +195,106 @@ eval-word-claims t = (node-of-reads.Asked, node-of-reads.Learnt, any-byte-reads.
 
 eval-call-eval-rule-requires : (t : ℕ) → eval-call-lts.Need-eval-rule-requires (eval-call-claims t) (eval-call-at t) eval-call.Post
 eval-call-eval-rule-requires t c κs =
-    (omega (arith, c .before .before .before .before .pre .0), (record { short = c .before .before .before .before .pre .1 .0 .short; here = c .before .before .before .before .pre .1 .0 .here; most = omega (arith, c .before .before .before .before .pre .1 .0 .most) }, c .before .before .before .before .pre .1 .1, c .before .before .before .before .pre .1 .2))
+    let pre = c .before .before .before .pre in
+    (omega (arith, pre .0), (record { short = pre .1 .0 .short; here = pre .1 .0 .here; most = omega (arith, pre .1 .0 .most) }, pre .1 .1, pre .1 .2))
 
 eval-call-same-length : (t : ℕ) → eval-call-lts.Need-same-length (eval-call-claims t) (eval-call-at t) eval-call.Post
 eval-call-same-length t c = search needs
 
 eval-call-returns : (t : ℕ) → eval-call-lts.Need-returns (eval-call-claims t) (eval-call-at t) eval-call.Post
 eval-call-returns t c =
-    call-refused (c .before .before .before .before .before .before .before .before .args .text .now) (nodeW (c .before .before .before .before .before .before .before .before .args .words .now) (c .before .before .before .before .before .before .before .before .args .text .now) (c .before .before .before .before .before .before .before .before .args .left)) (pairM (rulesIn (c .before .before .before .before .before .before .before .before .args .words .now)) (c .before .before .before .before .before .before .before .before .args .root) (c .before .before .before .before .before .before .before .before .args .text .now) (nodeW (c .before .before .before .before .before .before .before .before .args .words .now) (c .before .before .before .before .before .before .before .before .args .text .now) (c .before .before .before .before .before .before .before .before .args .left)) (c .before .before .before .before .before .before .before .before .args .left)) (c .before .before .before .before .before .before .before .before .args .table .now) (c .before .before .before .before .before .before .before .before .args .count .now) (c .before .before .before .before .before .before .before .before .pre .1 .0 .short) (c .before .before .before .before .before .before .before .before .pre .1 .0 .most) (c .before .before .before .before .before .before .before .before .args .rule) (c .before .before .before .eval-rule .ensures) (c .if1 .taken)
+    let a = c .before .before .before .before .before .before .before .args in
+    let pre = c .before .before .before .before .before .before .before .pre in
+    call-refused (a .text .now .now) (nodeW (a .words .now) (a .text .now .now) (a .left)) (pairM (rulesIn (a .words .now)) (a .root) (a .text .now .now) (nodeW (a .words .now) (a .text .now .now) (a .left)) (a .left)) (a .table .now) (a .count .now) (pre .1 .0 .short) (pre .1 .0 .most) (a .rule) (c .before .before .before .eval-rule .ensures) (c .if1 .taken)
 
 eval-call-taken-over-requires : (t : ℕ) → eval-call-lts.Need-taken-over-requires (eval-call-claims t) (eval-call-at t) eval-call.Post
 eval-call-taken-over-requires t c κs =
-    (says-itself (c .before .before .before .before .before .before .before .before .pre .1 .0 .short) (omega (arith, c .before .before .before .before .before .before .before .before .pre .1 .0 .most)) (c .before .before .before .eval-rule .ensures) (c .if1 .left), omega (arith, nesting-allowed (c .before .before .before .before .before .before .before .before .pre .1 .0 .short) (omega (arith, c .before .before .before .before .before .before .before .before .pre .1 .0 .most)) (c .before .before .before .eval-rule .ensures) (c .if1 .left), c .before .before .before .before .before .before .before .before .pre .1 .0 .most))
+    let pre = c .before .before .before .before .before .before .before .pre in
+    let x = c .before .before .before .eval-rule in
+    (says-itself (pre .1 .0 .short) (omega (arith, pre .1 .0 .most)) (x .ensures) (c .if1 .left), omega (arith, nesting-allowed (pre .1 .0 .short) (omega (arith, pre .1 .0 .most)) (x .ensures) (c .if1 .left), pre .1 .0 .most))
 
 eval-call-same-length-2 : (t : ℕ) → eval-call-lts.Need-same-length-2 (eval-call-claims t) (eval-call-at t) eval-call.Post
 eval-call-same-length-2 t c = search needs
 
 eval-call-returns-2 : (t : ℕ) → eval-call-lts.Need-returns-2 (eval-call-claims t) (eval-call-at t) eval-call.Post
 eval-call-returns-2 t c =
-    call-answered (c .before .before .before .before .before .before .before .before .before .args .text .now) (nodeW (c .before .before .before .before .before .before .before .before .before .args .words .now) (c .before .before .before .before .before .before .before .before .before .args .text .now) (c .before .before .before .before .before .before .before .before .before .args .left)) (pairM (rulesIn (c .before .before .before .before .before .before .before .before .before .args .words .now)) (c .before .before .before .before .before .before .before .before .before .args .root) (c .before .before .before .before .before .before .before .before .before .args .text .now) (nodeW (c .before .before .before .before .before .before .before .before .before .args .words .now) (c .before .before .before .before .before .before .before .before .before .args .text .now) (c .before .before .before .before .before .before .before .before .before .args .left)) (c .before .before .before .before .before .before .before .before .before .args .left)) (c .before .before .before .before .before .before .before .before .before .args .table .now) (c .before .before .before .before .before .before .before .before .before .args .count .now) (c .before .before .before .before .before .before .before .before .before .pre .1 .0 .short) (c .before .before .before .before .before .before .before .before .before .pre .1 .0 .most) (c .before .before .before .before .before .before .before .before .before .args .rule) (c .before .before .before .before .eval-rule .ensures) (c .before .if1 .left) (c .taken-over .ensures)
+    let a = c .before .before .before .before .before .before .before .before .args in
+    let pre = c .before .before .before .before .before .before .before .before .pre in
+    call-answered (a .text .now .now) (nodeW (a .words .now) (a .text .now .now) (a .left)) (pairM (rulesIn (a .words .now)) (a .root) (a .text .now .now) (nodeW (a .words .now) (a .text .now .now) (a .left)) (a .left)) (a .table .now) (a .count .now) (pre .1 .0 .short) (pre .1 .0 .most) (a .rule) (c .before .before .before .before .eval-rule .ensures) (c .before .if1 .left) (c .taken-over .ensures)
 
 eval-choice-eval-node-requires : (t : ℕ) → eval-choice-lts.Need-eval-node-requires (eval-choice-claims t) (eval-choice-at t) eval-choice.Post
 eval-choice-eval-node-requires t c κs =
-    (omega (arith, c .before .before .before .before .pre .0), (record { short = c .before .before .before .before .pre .1 .0 .short; here = c .before .before .before .before .pre .1 .0 .here; most = omega (arith, c .before .before .before .before .pre .1 .0 .most) }, c .before .before .before .before .pre .1 .1))
+    let pre = c .before .before .before .pre in
+    (omega (arith, pre .0), (record { short = pre .1 .0 .short; here = pre .1 .0 .here; most = omega (arith, pre .1 .0 .most) }, pre .1 .1))
 
 eval-choice-same-length : (t : ℕ) → eval-choice-lts.Need-same-length (eval-choice-claims t) (eval-choice-at t) eval-choice.Post
 eval-choice-same-length t c = search needs
 
 eval-choice-returns : (t : ℕ) → eval-choice-lts.Need-returns (eval-choice-claims t) (eval-choice-at t) eval-choice.Post
 eval-choice-returns t c =
-    choice-refused (c .before .before .before .before .before .before .before .before .args .text .now) (nodeW (c .before .before .before .before .before .before .before .before .args .words .now) (c .before .before .before .before .before .before .before .before .args .text .now) (c .before .before .before .before .before .before .before .before .args .left)) (pairM (rulesIn (c .before .before .before .before .before .before .before .before .args .words .now)) (c .before .before .before .before .before .before .before .before .args .b) (c .before .before .before .before .before .before .before .before .args .text .now) (nodeW (c .before .before .before .before .before .before .before .before .args .words .now) (c .before .before .before .before .before .before .before .before .args .text .now) (c .before .before .before .before .before .before .before .before .args .left)) (c .before .before .before .before .before .before .before .before .args .left)) (c .before .before .before .before .before .before .before .before .args .table .now) (c .before .before .before .before .before .before .before .before .args .count .now) (c .before .before .before .before .before .before .before .before .pre .1 .0 .short) (c .before .before .before .before .before .before .before .before .pre .1 .0 .most) (c .before .before .before .before .before .before .before .before .args .a) (c .before .before .before .before .before .before .before .before .args .b) (c .before .before .before .eval-node .ensures) (c .if1 .taken)
+    let a = c .before .before .before .before .before .before .before .args in
+    let pre = c .before .before .before .before .before .before .before .pre in
+    choice-refused (a .text .now .now) (nodeW (a .words .now) (a .text .now .now) (a .left)) (pairM (rulesIn (a .words .now)) (a .b) (a .text .now .now) (nodeW (a .words .now) (a .text .now .now) (a .left)) (a .left)) (a .table .now) (a .count .now) (pre .1 .0 .short) (pre .1 .0 .most) (a .a) (a .b) (c .before .before .before .eval-node .ensures) (c .if1 .taken)
 
 eval-choice-matched-of-requires : (t : ℕ) → eval-choice-lts.Need-matched-of-requires (eval-choice-claims t) (eval-choice-at t) eval-choice.Post
 eval-choice-matched-of-requires t c κs = search needs
 
 eval-choice-taken-over-requires : (t : ℕ) → eval-choice-lts.Need-taken-over-requires (eval-choice-claims t) (eval-choice-at t) eval-choice.Post
 eval-choice-taken-over-requires t c κs =
-    (says-itself (c .before .before .before .before .before .before .before .before .before .before .pre .1 .0 .short) (omega (arith, c .before .before .before .before .before .before .before .before .before .before .pre .1 .0 .most)) (c .before .before .before .before .before .eval-node .ensures) (c .before .before .if1 .left), omega (arith, nesting-allowed (c .before .before .before .before .before .before .before .before .before .before .pre .1 .0 .short) (omega (arith, c .before .before .before .before .before .before .before .before .before .before .pre .1 .0 .most)) (c .before .before .before .before .before .eval-node .ensures) (c .before .before .if1 .left), c .before .before .before .before .before .before .before .before .before .before .pre .1 .0 .most))
+    let pre = c .before .before .before .before .before .before .before .before .before .pre in
+    let x = c .before .before .before .before .before .eval-node in
+    let if1 = c .before .before .if1 in
+    (says-itself (pre .1 .0 .short) (omega (arith, pre .1 .0 .most)) (x .ensures) (if1 .left), omega (arith, nesting-allowed (pre .1 .0 .short) (omega (arith, pre .1 .0 .most)) (x .ensures) (if1 .left), pre .1 .0 .most))
 
 eval-choice-same-length-2 : (t : ℕ) → eval-choice-lts.Need-same-length-2 (eval-choice-claims t) (eval-choice-at t) eval-choice.Post
 eval-choice-same-length-2 t c = search needs
 
 eval-choice-returns-2 : (t : ℕ) → eval-choice-lts.Need-returns-2 (eval-choice-claims t) (eval-choice-at t) eval-choice.Post
 eval-choice-returns-2 t c =
-    choice-first (c .before .before .before .before .before .before .before .before .before .before .before .args .text .now) (nodeW (c .before .before .before .before .before .before .before .before .before .before .before .args .words .now) (c .before .before .before .before .before .before .before .before .before .before .before .args .text .now) (c .before .before .before .before .before .before .before .before .before .before .before .args .left)) (pairM (rulesIn (c .before .before .before .before .before .before .before .before .before .before .before .args .words .now)) (c .before .before .before .before .before .before .before .before .before .before .before .args .b) (c .before .before .before .before .before .before .before .before .before .before .before .args .text .now) (nodeW (c .before .before .before .before .before .before .before .before .before .before .before .args .words .now) (c .before .before .before .before .before .before .before .before .before .before .before .args .text .now) (c .before .before .before .before .before .before .before .before .before .before .before .args .left)) (c .before .before .before .before .before .before .before .before .before .before .before .args .left)) (c .before .before .before .before .before .before .before .before .before .before .before .args .table .now) (c .before .before .before .before .before .before .before .before .before .before .before .args .count .now) (c .before .before .before .before .before .before .before .before .before .before .before .pre .1 .0 .short) (c .before .before .before .before .before .before .before .before .before .before .before .pre .1 .0 .most) (c .before .before .before .before .before .before .before .before .before .before .before .args .a) (c .before .before .before .before .before .before .before .before .before .before .before .args .b) (c .before .before .before .before .before .before .eval-node .ensures) (c .before .before .before .if1 .left) (sym (c .before .before .matched-of .ensures) ∙ c .before .if2 .taken) (c .taken-over .ensures)
+    let a = c .before .before .before .before .before .before .before .before .before .before .args in
+    let pre = c .before .before .before .before .before .before .before .before .before .before .pre in
+    choice-first (a .text .now .now) (nodeW (a .words .now) (a .text .now .now) (a .left)) (pairM (rulesIn (a .words .now)) (a .b) (a .text .now .now) (nodeW (a .words .now) (a .text .now .now) (a .left)) (a .left)) (a .table .now) (a .count .now) (pre .1 .0 .short) (pre .1 .0 .most) (a .a) (a .b) (c .before .before .before .before .before .before .eval-node .ensures) (c .before .before .before .if1 .left) (sym (c .before .before .matched-of .ensures) ∙ c .before .if2 .taken) (c .taken-over .ensures)
 
 eval-choice-eval-node-requires-2 : (t : ℕ) → eval-choice-lts.Need-eval-node-requires-2 (eval-choice-claims t) (eval-choice-at t) eval-choice.Post
 eval-choice-eval-node-requires-2 t c κs =
-    (omega (arith, c .before .before .before .before .before .before .before .before .before .before .before .before .pre .0), (record { short = c .before .before .before .before .before .before .before .before .before .before .before .before .pre .1 .0 .short; here = c .before .before .before .before .before .before .before .before .before .before .before .before .pre .1 .0 .here; most = omega (arith, c .before .before .before .before .before .before .before .before .before .before .before .before .pre .1 .0 .most) }, c .before .before .before .before .before .before .before .before .before .before .before .before .pre .1 .2))
+    let pre = c .before .before .before .before .before .before .before .before .before .before .before .pre in
+    (omega (arith, pre .0), (record { short = pre .1 .0 .short; here = pre .1 .0 .here; most = omega (arith, pre .1 .0 .most) }, pre .1 .2))
 
 eval-choice-same-length-3 : (t : ℕ) → eval-choice-lts.Need-same-length-3 (eval-choice-claims t) (eval-choice-at t) eval-choice.Post
 eval-choice-same-length-3 t c = search needs
 
 eval-choice-returns-3 : (t : ℕ) → eval-choice-lts.Need-returns-3 (eval-choice-claims t) (eval-choice-at t) eval-choice.Post
 eval-choice-returns-3 t c =
-    choice-second-refused (c .before .before .before .before .before .before .before .before .before .before .before .before .before .before .before .before .args .text .now) (nodeW (c .before .before .before .before .before .before .before .before .before .before .before .before .before .before .before .before .args .words .now) (c .before .before .before .before .before .before .before .before .before .before .before .before .before .before .before .before .args .text .now) (c .before .before .before .before .before .before .before .before .before .before .before .before .before .before .before .before .args .left)) (pairM (rulesIn (c .before .before .before .before .before .before .before .before .before .before .before .before .before .before .before .before .args .words .now)) (c .before .before .before .before .before .before .before .before .before .before .before .before .before .before .before .before .args .b) (c .before .before .before .before .before .before .before .before .before .before .before .before .before .before .before .before .args .text .now) (nodeW (c .before .before .before .before .before .before .before .before .before .before .before .before .before .before .before .before .args .words .now) (c .before .before .before .before .before .before .before .before .before .before .before .before .before .before .before .before .args .text .now) (c .before .before .before .before .before .before .before .before .before .before .before .before .before .before .before .before .args .left)) (c .before .before .before .before .before .before .before .before .before .before .before .before .before .before .before .before .args .left)) (c .before .before .before .before .before .before .before .before .before .before .before .before .before .before .before .before .args .table .now) (c .before .before .before .before .before .before .before .before .before .before .before .before .before .before .before .before .args .count .now) (c .before .before .before .before .before .before .before .before .before .before .before .before .before .before .before .before .pre .1 .0 .short) (c .before .before .before .before .before .before .before .before .before .before .before .before .before .before .before .before .pre .1 .0 .most) (c .before .before .before .before .before .before .before .before .before .before .before .before .before .before .before .before .args .a) (c .before .before .before .before .before .before .before .before .before .before .before .before .before .before .before .before .args .b) (c .before .before .before .before .before .before .before .before .before .before .before .eval-node .ensures) (c .before .before .before .before .before .before .before .before .if1 .left) (sym (c .before .before .before .before .before .before .before .matched-of .ensures) ∙ c .before .before .before .before .before .before .if2 .left) (c .before .before .before .eval-node2 .ensures) (c .if3 .taken)
+    let a = c .before .before .before .before .before .before .before .before .before .before .before .before .before .before .before .args in
+    let pre = c .before .before .before .before .before .before .before .before .before .before .before .before .before .before .before .pre in
+    choice-second-refused (a .text .now .now) (nodeW (a .words .now) (a .text .now .now) (a .left)) (pairM (rulesIn (a .words .now)) (a .b) (a .text .now .now) (nodeW (a .words .now) (a .text .now .now) (a .left)) (a .left)) (a .table .now) (a .count .now) (pre .1 .0 .short) (pre .1 .0 .most) (a .a) (a .b) (c .before .before .before .before .before .before .before .before .before .before .before .eval-node .ensures) (c .before .before .before .before .before .before .before .before .if1 .left) (sym (c .before .before .before .before .before .before .before .matched-of .ensures) ∙ c .before .before .before .before .before .before .if2 .left) (c .before .before .before .eval-node2 .ensures) (c .if3 .taken)
 
 eval-choice-second-choice-requires : (t : ℕ) → eval-choice-lts.Need-second-choice-requires (eval-choice-claims t) (eval-choice-at t) eval-choice.Post
 eval-choice-second-choice-requires t c κs =
-    (omega (arith, nesting-allowed (c .before .before .before .before .before .before .before .before .before .before .before .before .before .before .before .before .pre .1 .0 .short) (omega (arith, c .before .before .before .before .before .before .before .before .before .before .before .before .before .before .before .before .pre .1 .0 .most)) (c .before .before .before .before .before .before .before .before .before .before .before .eval-node .ensures) (c .before .before .before .before .before .before .before .before .if1 .left), c .before .before .before .before .before .before .before .before .before .before .before .before .before .before .before .before .pre .1 .0 .most), omega (arith, nesting-allowed (c .before .before .before .before .before .before .before .before .before .before .before .before .before .before .before .before .pre .1 .0 .short) (omega (arith, c .before .before .before .before .before .before .before .before .before .before .before .before .before .before .before .before .pre .1 .0 .most)) (c .before .before .before .eval-node2 .ensures) (c .if3 .left), c .before .before .before .before .before .before .before .before .before .before .before .before .before .before .before .before .pre .1 .0 .most))
+    let pre = c .before .before .before .before .before .before .before .before .before .before .before .before .before .before .before .pre in
+    (omega (arith, nesting-allowed (pre .1 .0 .short) (omega (arith, pre .1 .0 .most)) (c .before .before .before .before .before .before .before .before .before .before .before .eval-node .ensures) (c .before .before .before .before .before .before .before .before .if1 .left), pre .1 .0 .most), omega (arith, nesting-allowed (pre .1 .0 .short) (omega (arith, pre .1 .0 .most)) (c .before .before .before .eval-node2 .ensures) (c .if3 .left), pre .1 .0 .most))
 
 eval-choice-same-length-4 : (t : ℕ) → eval-choice-lts.Need-same-length-4 (eval-choice-claims t) (eval-choice-at t) eval-choice.Post
 eval-choice-same-length-4 t c = search needs
 
 eval-choice-returns-4 : (t : ℕ) → eval-choice-lts.Need-returns-4 (eval-choice-claims t) (eval-choice-at t) eval-choice.Post
 eval-choice-returns-4 t c =
-    choice-second (c .before .before .before .before .before .before .before .before .before .before .before .before .before .before .before .before .before .args .text .now) (nodeW (c .before .before .before .before .before .before .before .before .before .before .before .before .before .before .before .before .before .args .words .now) (c .before .before .before .before .before .before .before .before .before .before .before .before .before .before .before .before .before .args .text .now) (c .before .before .before .before .before .before .before .before .before .before .before .before .before .before .before .before .before .args .left)) (pairM (rulesIn (c .before .before .before .before .before .before .before .before .before .before .before .before .before .before .before .before .before .args .words .now)) (c .before .before .before .before .before .before .before .before .before .before .before .before .before .before .before .before .before .args .b) (c .before .before .before .before .before .before .before .before .before .before .before .before .before .before .before .before .before .args .text .now) (nodeW (c .before .before .before .before .before .before .before .before .before .before .before .before .before .before .before .before .before .args .words .now) (c .before .before .before .before .before .before .before .before .before .before .before .before .before .before .before .before .before .args .text .now) (c .before .before .before .before .before .before .before .before .before .before .before .before .before .before .before .before .before .args .left)) (c .before .before .before .before .before .before .before .before .before .before .before .before .before .before .before .before .before .args .left)) (c .before .before .before .before .before .before .before .before .before .before .before .before .before .before .before .before .before .args .table .now) (c .before .before .before .before .before .before .before .before .before .before .before .before .before .before .before .before .before .args .count .now) (c .before .before .before .before .before .before .before .before .before .before .before .before .before .before .before .before .before .pre .1 .0 .short) (c .before .before .before .before .before .before .before .before .before .before .before .before .before .before .before .before .before .pre .1 .0 .most) (c .before .before .before .before .before .before .before .before .before .before .before .before .before .before .before .before .before .args .a) (c .before .before .before .before .before .before .before .before .before .before .before .before .before .before .before .before .before .args .b) (c .before .before .before .before .before .before .before .before .before .before .before .before .eval-node .ensures) (c .before .before .before .before .before .before .before .before .before .if1 .left) (sym (c .before .before .before .before .before .before .before .before .matched-of .ensures) ∙ c .before .before .before .before .before .before .before .if2 .left) (c .before .before .before .before .eval-node2 .ensures) (c .before .if3 .left) (c .second-choice .ensures)
+    let a = c .before .before .before .before .before .before .before .before .before .before .before .before .before .before .before .before .args in
+    let pre = c .before .before .before .before .before .before .before .before .before .before .before .before .before .before .before .before .pre in
+    choice-second (a .text .now .now) (nodeW (a .words .now) (a .text .now .now) (a .left)) (pairM (rulesIn (a .words .now)) (a .b) (a .text .now .now) (nodeW (a .words .now) (a .text .now .now) (a .left)) (a .left)) (a .table .now) (a .count .now) (pre .1 .0 .short) (pre .1 .0 .most) (a .a) (a .b) (c .before .before .before .before .before .before .before .before .before .before .before .before .eval-node .ensures) (c .before .before .before .before .before .before .before .before .before .if1 .left) (sym (c .before .before .before .before .before .before .before .before .matched-of .ensures) ∙ c .before .before .before .before .before .before .before .if2 .left) (c .before .before .before .before .eval-node2 .ensures) (c .before .if3 .left) (c .second-choice .ensures)
 
 eval-node-returns : (t : ℕ) → eval-node-lts.Need-returns (eval-node-claims t) (eval-node-at t) eval-node.Post
 eval-node-returns t c =
-    node-too-deep (c .before .before .before .args .words .now) (c .before .before .before .args .text .now) (c .before .before .before .args .left) (c .before .before .before .args .node) (c .before .before .before .args .at) (c .before .before .before .args .table .now) (c .before .before .before .args .count .now) (c .if1 .taken)
+    let a = c .before .before .args in
+    node-too-deep (a .words .now) (a .text .now .now) (a .left) (a .node) (a .at) (a .table .now) (a .count .now) (c .if1 .taken)
 
 eval-node-mul-word : (t : ℕ) → eval-node-lts.Need-mul-word (eval-node-claims t) (eval-node-at t) eval-node.Post
 eval-node-mul-word t c =
-    omega (arith, c .before .before .before .pre .1 .1)
+    omega (arith, c .before .before .pre .1 .1)
 
 eval-node-element-copy-out-word : (t : ℕ) → eval-node-lts.Need-element-copy-out-word (eval-node-claims t) (eval-node-at t) eval-node.Post
 eval-node-element-copy-out-word t c =
-    omega (arith, c .before .before .before .pre .1 .1)
+    omega (arith, c .before .before .pre .1 .1)
 
 eval-node-node-of-requires : (t : ℕ) → eval-node-lts.Need-node-of-requires (eval-node-claims t) (eval-node-at t) eval-node.Post
 eval-node-node-of-requires t c κs = search needs
@@ -283,44 +305,55 @@ eval-node-byte-between-requires t c κs = search needs
 eval-node-returns-2 : (t : ℕ) → eval-node-lts.Need-returns-2 (eval-node-claims t) (eval-node-at t) eval-node.Post
 unfolding kindM nodeOfKind
 eval-node-returns-2 t c =
-    let s = shape (range (c .before .before .before .node-of .result .a) (c .before .before .before .node-of .result .b)) (c .before .before .before .before .before .before .before .before .args .text .now) (c .before .before .before .before .before .before .before .before .args .at) (c .before .before .before .before .before .before .before .before .pre .1 .0 .here) in
-    node-goes (c .before .before .before .before .before .before .before .before .args .words .now) (c .before .before .before .before .before .before .before .before .args .text .now) (c .before .before .before .before .before .before .before .before .args .left) (c .before .before .before .before .before .before .before .before .args .node) (c .before .before .before .before .before .before .before .before .args .at) (c .before .before .before .before .before .before .before .before .args .table .now) (c .before .before .before .before .before .before .before .before .args .count .now) (c .before .before .before .before .before .if1 .left) (word-goes (c .before .before .before .before .before .before .before .before .args .words .now) (c .before .before .before .before .before .before .before .before .args .text .now) (c .before .before .before .before .before .before .before .before .args .left) (getD (c .before .before .before .before .before .before .before .before .args .words .now) (c .before .before .before .before .before .before .before .before .args .node) 0) (c .before .before .before .before .before .before .before .before .args .at) (c .before .before .before .before .before .before .before .before .args .table .now) (c .before .before .before .before .before .before .before .before .args .count .now) (c .before .before .before .before .before .if1 .left) (word-is (getD (c .before .before .before .before .before .before .before .before .args .words .now) (c .before .before .before .before .before .before .before .before .args .node) 0) (c .before .before .before .node-of .ensures) {k = 2} (c .before .if2 .taken))
-    (gives-value (terminalAt (range (c .before .before .before .node-of .result .a) (c .before .before .before .node-of .result .b)) (c .before .before .before .before .before .before .before .before .args .text .now) (c .before .before .before .before .before .before .before .before .args .at)) refl (c .byte-between .ensures)
+    let a = c .before .before .before .before .before .before .before .before .args in
+    let if1 = c .before .before .before .before .before .before .if1 in
+    let node-of = c .before .before .before .before .node-of in
+    let s = shape (range (node-of .result .a) (node-of .result .b)) (a .text .now .now) (a .at) (c .before .before .before .before .before .before .before .before .pre .1 .0 .here) in
+    node-goes (a .words .now) (a .text .now .now) (a .left) (a .node) (a .at) (a .table .now) (a .count .now) (if1 .left) (word-goes (a .words .now) (a .text .now .now) (a .left) (getD (a .words .now) (a .node) 0) (a .at) (a .table .now) (a .count .now) (if1 .left) (word-is (getD (a .words .now) (a .node) 0) (node-of .ensures) {k = 2} (c .before .before .if2 .taken))
+    (gives-value (terminalAt (range (node-of .result .a) (node-of .result .b)) (a .text .now .now) (a .at)) refl (c .byte-between .ensures)
     (record { in-text = s .in-text; up-to-end = s .up-to-end; in-examined = s .in-examined; failure = s .failure; nested = omega (arith, s .flat) })
     (omega (arith, s .flat))))
 
 eval-node-eval-word-requires : (t : ℕ) → eval-node-lts.Need-eval-word-requires (eval-node-claims t) (eval-node-at t) eval-node.Post
 eval-node-eval-word-requires t c κs =
-    (omega (arith, c .before .before .before .before .before .before .before .before .before .pre .0), (c .before .before .before .before .before .before .before .before .before .pre .1 .0, let ne = c .before .before .before .before .before .before .if1 .left in omega (arith, ne)))
+    let pre = c .before .before .before .before .before .before .before .before .pre in
+    (omega (arith, pre .0), (pre .1 .0, let ne = c .before .before .before .before .before .before .if1 .left in omega (arith, ne)))
 
 eval-node-same-length : (t : ℕ) → eval-node-lts.Need-same-length (eval-node-claims t) (eval-node-at t) eval-node.Post
 eval-node-same-length t c = search needs
 
 eval-node-returns-3 : (t : ℕ) → eval-node-lts.Need-returns-3 (eval-node-claims t) (eval-node-at t) eval-node.Post
 eval-node-returns-3 t c =
-    node-goes (c .before .before .before .before .before .before .before .before .before .before .before .before .args .words .now) (c .before .before .before .before .before .before .before .before .before .before .before .before .args .text .now) (c .before .before .before .before .before .before .before .before .before .before .before .before .args .left) (c .before .before .before .before .before .before .before .before .before .before .before .before .args .node) (c .before .before .before .before .before .before .before .before .before .before .before .before .args .at) (c .before .before .before .before .before .before .before .before .before .before .before .before .args .table .now) (c .before .before .before .before .before .before .before .before .before .before .before .before .args .count .now) (c .before .before .before .before .before .before .before .before .before .if1 .left) (c .before .before .eval-word .ensures)
+    let a = c .before .before .before .before .before .before .before .before .before .before .before .args in
+    node-goes (a .words .now) (a .text .now .now) (a .left) (a .node) (a .at) (a .table .now) (a .count .now) (c .before .before .before .before .before .before .before .before .before .if1 .left) (c .before .before .eval-word .ensures)
 
 eval-not-eval-node-requires : (t : ℕ) → eval-not-lts.Need-eval-node-requires (eval-not-claims t) (eval-not-at t) eval-not.Post
 eval-not-eval-node-requires t c κs =
-    (omega (arith, c .before .before .before .before .pre .0), (record { short = c .before .before .before .before .pre .1 .0 .short; here = c .before .before .before .before .pre .1 .0 .here; most = omega (arith, c .before .before .before .before .pre .1 .0 .most) }, c .before .before .before .before .pre .1 .1))
+    let pre = c .before .before .before .pre in
+    (omega (arith, pre .0), (record { short = pre .1 .0 .short; here = pre .1 .0 .here; most = omega (arith, pre .1 .0 .most) }, pre .1 .1))
 
 eval-not-same-length : (t : ℕ) → eval-not-lts.Need-same-length (eval-not-claims t) (eval-not-at t) eval-not.Post
 eval-not-same-length t c = search needs
 
 eval-not-returns : (t : ℕ) → eval-not-lts.Need-returns (eval-not-claims t) (eval-not-at t) eval-not.Post
 eval-not-returns t c =
-    not-refused (c .before .before .before .before .before .before .before .before .args .text .now) (nodeW (c .before .before .before .before .before .before .before .before .args .words .now) (c .before .before .before .before .before .before .before .before .args .text .now) (c .before .before .before .before .before .before .before .before .args .left)) (pairM (rulesIn (c .before .before .before .before .before .before .before .before .args .words .now)) 0 (c .before .before .before .before .before .before .before .before .args .text .now) (nodeW (c .before .before .before .before .before .before .before .before .args .words .now) (c .before .before .before .before .before .before .before .before .args .text .now) (c .before .before .before .before .before .before .before .before .args .left)) (c .before .before .before .before .before .before .before .before .args .left)) (c .before .before .before .before .before .before .before .before .args .table .now) (c .before .before .before .before .before .before .before .before .args .count .now) (c .before .before .before .before .before .before .before .before .pre .1 .0 .short) (c .before .before .before .before .before .before .before .before .pre .1 .0 .most) (c .before .before .before .before .before .before .before .before .args .a) (c .before .before .before .eval-node .ensures) (c .if1 .taken)
+    let a = c .before .before .before .before .before .before .before .args in
+    let pre = c .before .before .before .before .before .before .before .pre in
+    not-refused (a .text .now .now) (nodeW (a .words .now) (a .text .now .now) (a .left)) (pairM (rulesIn (a .words .now)) 0 (a .text .now .now) (nodeW (a .words .now) (a .text .now .now) (a .left)) (a .left)) (a .table .now) (a .count .now) (pre .1 .0 .short) (pre .1 .0 .most) (a .a) (c .before .before .before .eval-node .ensures) (c .if1 .taken)
 
 eval-not-negated-answer-requires : (t : ℕ) → eval-not-lts.Need-negated-answer-requires (eval-not-claims t) (eval-not-at t) eval-not.Post
 eval-not-negated-answer-requires t c κs =
-    omega (arith, nesting-allowed (c .before .before .before .before .before .before .before .before .pre .1 .0 .short) (omega (arith, c .before .before .before .before .before .before .before .before .pre .1 .0 .most)) (c .before .before .before .eval-node .ensures) (c .if1 .left), c .before .before .before .before .before .before .before .before .pre .1 .0 .most)
+    let pre = c .before .before .before .before .before .before .before .pre in
+    omega (arith, nesting-allowed (pre .1 .0 .short) (omega (arith, pre .1 .0 .most)) (c .before .before .before .eval-node .ensures) (c .if1 .left), pre .1 .0 .most)
 
 eval-not-same-length-2 : (t : ℕ) → eval-not-lts.Need-same-length-2 (eval-not-claims t) (eval-not-at t) eval-not.Post
 eval-not-same-length-2 t c = search needs
 
 eval-not-returns-2 : (t : ℕ) → eval-not-lts.Need-returns-2 (eval-not-claims t) (eval-not-at t) eval-not.Post
 eval-not-returns-2 t c =
-    not-answered (c .before .before .before .before .before .before .before .before .before .args .text .now) (nodeW (c .before .before .before .before .before .before .before .before .before .args .words .now) (c .before .before .before .before .before .before .before .before .before .args .text .now) (c .before .before .before .before .before .before .before .before .before .args .left)) (pairM (rulesIn (c .before .before .before .before .before .before .before .before .before .args .words .now)) 0 (c .before .before .before .before .before .before .before .before .before .args .text .now) (nodeW (c .before .before .before .before .before .before .before .before .before .args .words .now) (c .before .before .before .before .before .before .before .before .before .args .text .now) (c .before .before .before .before .before .before .before .before .before .args .left)) (c .before .before .before .before .before .before .before .before .before .args .left)) (c .before .before .before .before .before .before .before .before .before .args .table .now) (c .before .before .before .before .before .before .before .before .before .args .count .now) (c .before .before .before .before .before .before .before .before .before .pre .1 .0 .short) (c .before .before .before .before .before .before .before .before .before .pre .1 .0 .most) (c .before .before .before .before .before .before .before .before .before .args .a) (c .before .before .before .before .eval-node .ensures) (c .before .if1 .left) (c .negated-answer .ensures)
+    let a = c .before .before .before .before .before .before .before .before .args in
+    let pre = c .before .before .before .before .before .before .before .before .pre in
+    not-answered (a .text .now .now) (nodeW (a .words .now) (a .text .now .now) (a .left)) (pairM (rulesIn (a .words .now)) 0 (a .text .now .now) (nodeW (a .words .now) (a .text .now .now) (a .left)) (a .left)) (a .table .now) (a .count .now) (pre .1 .0 .short) (pre .1 .0 .most) (a .a) (c .before .before .before .before .eval-node .ensures) (c .before .if1 .left) (c .negated-answer .ensures)
 
 eval-rule-rules-in-requires : (t : ℕ) → eval-rule-lts.Need-rules-in-requires (eval-rule-claims t) (eval-rule-at t) eval-rule.Post
 eval-rule-rules-in-requires t c κs = search needs
@@ -345,16 +378,21 @@ eval-rule-same-length t c = search needs
 
 eval-rule-returns : (t : ℕ) → eval-rule-lts.Need-returns (eval-rule-claims t) (eval-rule-at t) eval-rule.Post
 eval-rule-returns t c =
-    rule-impossible (rulesIn (c .before .before .before .before .before .before .before .before .before .before .args .words .now)) (c .before .before .before .before .before .before .before .before .before .before .args .root) (c .before .before .before .before .before .before .before .before .before .before .args .text .now) (nodeW (c .before .before .before .before .before .before .before .before .before .before .args .words .now) (c .before .before .before .before .before .before .before .before .before .before .args .text .now) (c .before .before .before .before .before .before .before .before .before .before .args .left)) (c .before .before .before .before .before .before .before .before .before .before .args .left) (c .before .before .before .before .before .before .before .before .before .before .args .rule) (c .before .before .before .before .before .before .before .before .before .before .args .at) (c .before .before .before .before .before .before .before .before .before .before .args .table .now) (c .before .before .before .before .before .before .before .before .before .before .args .count .now) (rw (c .before .before .before .before .before .before .before .rules-in .ensures .0) at (c .before .before .before .before .before .look .ensures)) (sym (c .before .before .before .before .is-held .ensures) ∙ c .before .before .before .if1 .taken) (was-impossible (recordOf (c .before .before .before .before .before .look .result)) (possible (c .before .before .before .before .before .look .result) (c .before .before .before .before .before .before .before .before .before .before .args .at) (length (c .before .before .before .before .before .before .before .before .before .before .args .text .now))) (sym (c .enum-told .given .1) ∙ c .before .before .from-word .ensures))
+    let a = c .before .before .before .before .before .before .before .before .before .args in
+    let look = c .before .before .before .before .before .look in
+    rule-impossible (rulesIn (a .words .now)) (a .root) (a .text .now .now) (nodeW (a .words .now) (a .text .now .now) (a .left)) (a .left) (a .rule) (a .at) (a .table .now) (a .count .now) (rw (c .before .before .before .before .before .before .before .rules-in .ensures .0) at (look .ensures)) (sym (c .before .before .before .before .is-held .ensures) ∙ c .before .before .before .if1 .taken) (was-impossible (recordOf (look .result)) (possible (look .result) (a .at) (length (a .text .now .now))) (sym (c .enum-told .given .1) ∙ c .before .before .from-word .ensures))
 
 eval-rule-same-length-2 : (t : ℕ) → eval-rule-lts.Need-same-length-2 (eval-rule-claims t) (eval-rule-at t) eval-rule.Post
 eval-rule-same-length-2 t c = search needs
 
 eval-rule-returns-2 : (t : ℕ) → eval-rule-lts.Need-returns-2 (eval-rule-claims t) (eval-rule-at t) eval-rule.Post
 eval-rule-returns-2 t c =
-    let w = was-possible (c .before .before .before .held .given .0 .0) (recordOf (c .before .before .before .before .before .before .before .before .look .result)) (possible (c .before .before .before .before .before .before .before .before .look .result) (c .before .before .before .before .before .before .before .before .before .before .before .before .before .args .at) (length (c .before .before .before .before .before .before .before .before .before .before .before .before .before .args .text .now))) (sym (c .before .before .before .held .given .1) ∙ c .before .before .before .before .before .from-word .ensures) in
+    let a = c .before .before .before .before .before .before .before .before .before .before .before .before .args in
+    let look = c .before .before .before .before .before .before .before .before .look in
+    let held = c .before .before .before .held in
+    let w = was-possible (held .given .0 .0) (recordOf (look .result)) (possible (look .result) (a .at) (length (a .text .now .now))) (sym (held .given .1) ∙ c .before .before .before .before .before .from-word .ensures) in
     let e = ap (λ (r : Record). r .nesting) (w .1) in
-    rule-too-deep (rulesIn (c .before .before .before .before .before .before .before .before .before .before .before .before .before .args .words .now)) (c .before .before .before .before .before .before .before .before .before .before .before .before .before .args .root) (c .before .before .before .before .before .before .before .before .before .before .before .before .before .args .text .now) (nodeW (c .before .before .before .before .before .before .before .before .before .before .before .before .before .args .words .now) (c .before .before .before .before .before .before .before .before .before .before .before .before .before .args .text .now) (c .before .before .before .before .before .before .before .before .before .before .before .before .before .args .left)) (c .before .before .before .before .before .before .before .before .before .before .before .before .before .args .left) (c .before .before .before .before .before .before .before .before .before .before .before .before .before .args .rule) (c .before .before .before .before .before .before .before .before .before .before .before .before .before .args .at) (c .before .before .before .before .before .before .before .before .before .before .before .before .before .args .table .now) (c .before .before .before .before .before .before .before .before .before .before .before .before .before .args .count .now) (rw (c .before .before .before .before .before .before .before .before .before .before .rules-in .ensures .0) at (c .before .before .before .before .before .before .before .before .look .ensures)) (sym (c .before .before .before .before .before .before .before .is-held .ensures) ∙ c .before .before .before .before .before .before .if1 .taken) (w .0) (omega (arith, e, c .if2 .taken))
+    rule-too-deep (rulesIn (a .words .now)) (a .root) (a .text .now .now) (nodeW (a .words .now) (a .text .now .now) (a .left)) (a .left) (a .rule) (a .at) (a .table .now) (a .count .now) (rw (c .before .before .before .before .before .before .before .before .before .before .rules-in .ensures .0) at (look .ensures)) (sym (c .before .before .before .before .before .before .before .is-held .ensures) ∙ c .before .before .before .before .before .before .if1 .taken) (w .0) (omega (arith, e, c .if2 .taken))
 
 eval-rule-word-requires : (t : ℕ) → eval-rule-lts.Need-word-requires (eval-rule-claims t) (eval-rule-at t) eval-rule.Post
 eval-rule-word-requires t c κs = search needs
@@ -364,20 +402,26 @@ eval-rule-same-length-3 t c = search needs
 
 eval-rule-returns-3 : (t : ℕ) → eval-rule-lts.Need-returns-3 (eval-rule-claims t) (eval-rule-at t) eval-rule.Post
 eval-rule-returns-3 t c =
-    let w = was-possible (c .before .before .before .before .held .given .0 .0) (recordOf (c .before .before .before .before .before .before .before .before .before .look .result)) (possible (c .before .before .before .before .before .before .before .before .before .look .result) (c .before .before .before .before .before .before .before .before .before .before .before .before .before .before .args .at) (length (c .before .before .before .before .before .before .before .before .before .before .before .before .before .before .args .text .now))) (sym (c .before .before .before .before .held .given .1) ∙ c .before .before .before .before .before .before .from-word .ensures) in
+    let a = c .before .before .before .before .before .before .before .before .before .before .before .before .before .args in
+    let look = c .before .before .before .before .before .before .before .before .before .look in
+    let held = c .before .before .before .before .held in
+    let w = was-possible (held .given .0 .0) (recordOf (look .result)) (possible (look .result) (a .at) (length (a .text .now .now))) (sym (held .given .1) ∙ c .before .before .before .before .before .before .from-word .ensures) in
     let e = ap (λ (r : Record). r .nesting) (w .1) in
-    rule-met (rulesIn (c .before .before .before .before .before .before .before .before .before .before .before .before .before .before .args .words .now)) (c .before .before .before .before .before .before .before .before .before .before .before .before .before .before .args .root) (c .before .before .before .before .before .before .before .before .before .before .before .before .before .before .args .text .now) (nodeW (c .before .before .before .before .before .before .before .before .before .before .before .before .before .before .args .words .now) (c .before .before .before .before .before .before .before .before .before .before .before .before .before .before .args .text .now) (c .before .before .before .before .before .before .before .before .before .before .before .before .before .before .args .left)) (c .before .before .before .before .before .before .before .before .before .before .before .before .before .before .args .left) (c .before .before .before .before .before .before .before .before .before .before .before .before .before .before .args .rule) (c .before .before .before .before .before .before .before .before .before .before .before .before .before .before .args .at) (c .before .before .before .before .before .before .before .before .before .before .before .before .before .before .args .table .now) (c .before .before .before .before .before .before .before .before .before .before .before .before .before .before .args .count .now) (rw (c .before .before .before .before .before .before .before .before .before .before .before .rules-in .ensures .0) at (c .before .before .before .before .before .before .before .before .before .look .ensures)) (sym (c .before .before .before .before .before .before .before .before .is-held .ensures) ∙ c .before .before .before .before .before .before .before .if1 .taken) (w .0) (omega (arith, e, c .before .if2 .left)) (c .word .ensures ∙ ap recordWord (w .1))
+    rule-met (rulesIn (a .words .now)) (a .root) (a .text .now .now) (nodeW (a .words .now) (a .text .now .now) (a .left)) (a .left) (a .rule) (a .at) (a .table .now) (a .count .now) (rw (c .before .before .before .before .before .before .before .before .before .before .before .rules-in .ensures .0) at (look .ensures)) (sym (c .before .before .before .before .before .before .before .before .is-held .ensures) ∙ c .before .before .before .before .before .before .before .if1 .taken) (w .0) (omega (arith, e, c .before .if2 .left)) (c .word .ensures ∙ ap recordWord (w .1))
 
 eval-rule-eval-node-requires : (t : ℕ) → eval-rule-lts.Need-eval-node-requires (eval-rule-claims t) (eval-rule-at t) eval-rule.Post
 eval-rule-eval-node-requires t c κs =
-    (omega (arith, c .before .before .before .before .before .before .before .before .before .pre .0), (c .before .before .before .before .before .before .before .before .before .pre .1 .0, c .before .before .before .before .before .before .before .before .before .pre .1 .2))
+    let pre = c .before .before .before .before .before .before .before .before .pre in
+    (omega (arith, pre .0), (pre .1 .0, pre .1 .2))
 
 eval-rule-same-length-4 : (t : ℕ) → eval-rule-lts.Need-same-length-4 (eval-rule-claims t) (eval-rule-at t) eval-rule.Post
 eval-rule-same-length-4 t c = search needs
 
 eval-rule-returns-4 : (t : ℕ) → eval-rule-lts.Need-returns-4 (eval-rule-claims t) (eval-rule-at t) eval-rule.Post
 eval-rule-returns-4 t c =
-    rule-refused (rulesIn (c .before .before .before .before .before .before .before .before .before .before .before .before .before .args .words .now)) (c .before .before .before .before .before .before .before .before .before .before .before .before .before .args .root) (c .before .before .before .before .before .before .before .before .before .before .before .before .before .args .text .now) (nodeW (c .before .before .before .before .before .before .before .before .before .before .before .before .before .args .words .now) (c .before .before .before .before .before .before .before .before .before .before .before .before .before .args .text .now) (c .before .before .before .before .before .before .before .before .before .before .before .before .before .args .left)) (c .before .before .before .before .before .before .before .before .before .before .before .before .before .args .left) (c .before .before .before .before .before .before .before .before .before .before .before .before .before .args .rule) (c .before .before .before .before .before .before .before .before .before .before .before .before .before .args .at) (c .before .before .before .before .before .before .before .before .before .before .before .before .before .args .table .now) (c .before .before .before .before .before .before .before .before .before .before .before .before .before .args .count .now) (rw (c .before .before .before .before .before .before .before .before .before .before .rules-in .ensures .0) at (c .before .before .before .before .before .before .before .before .look .ensures)) (c .before .before .before .before .before .before .before .before .before .before .before .before .before .pre .1 .0 .short) (c .before .before .before .before .before .before .before .before .before .before .before .before .before .pre .1 .0 .most) (sym (c .before .before .before .before .before .before .before .is-held .ensures) ∙ c .before .before .before .before .before .before .if1 .left) (c .before .before .before .eval-node .ensures) (c .if3 .taken)
+    let a = c .before .before .before .before .before .before .before .before .before .before .before .before .args in
+    let pre = c .before .before .before .before .before .before .before .before .before .before .before .before .pre in
+    rule-refused (rulesIn (a .words .now)) (a .root) (a .text .now .now) (nodeW (a .words .now) (a .text .now .now) (a .left)) (a .left) (a .rule) (a .at) (a .table .now) (a .count .now) (rw (c .before .before .before .before .before .before .before .before .before .before .rules-in .ensures .0) at (c .before .before .before .before .before .before .before .before .look .ensures)) (pre .1 .0 .short) (pre .1 .0 .most) (sym (c .before .before .before .before .before .before .before .is-held .ensures) ∙ c .before .before .before .before .before .before .if1 .left) (c .before .before .before .eval-node .ensures) (c .if3 .taken)
 
 eval-rule-put-requires : (t : ℕ) → eval-rule-lts.Need-put-requires (eval-rule-claims t) (eval-rule-at t) eval-rule.Post
 eval-rule-put-requires t c κs = search needs
@@ -390,82 +434,104 @@ eval-rule-same-length-5 t c = search needs
 
 eval-rule-returns-5 : (t : ℕ) → eval-rule-lts.Need-returns-5 (eval-rule-claims t) (eval-rule-at t) eval-rule.Post
 eval-rule-returns-5 t c =
-    rw (c .before .before .before .before .put .ensures, c .before .before .before .before .before .before .before .before .before .before .before .before .before .before .before .before .rules-in .ensures .0, c .wrapping-add-u64 .ensures)
-    (rule-stored (rulesIn (c .before .before .before .before .before .before .before .before .before .before .before .before .before .before .before .before .before .before .before .args .words .now)) (c .before .before .before .before .before .before .before .before .before .before .before .before .before .before .before .before .before .before .before .args .root) (c .before .before .before .before .before .before .before .before .before .before .before .before .before .before .before .before .before .before .before .args .text .now) (nodeW (c .before .before .before .before .before .before .before .before .before .before .before .before .before .before .before .before .before .before .before .args .words .now) (c .before .before .before .before .before .before .before .before .before .before .before .before .before .before .before .before .before .before .before .args .text .now) (c .before .before .before .before .before .before .before .before .before .before .before .before .before .before .before .before .before .before .before .args .left)) (c .before .before .before .before .before .before .before .before .before .before .before .before .before .before .before .before .before .before .before .args .left) (c .before .before .before .before .before .before .before .before .before .before .before .before .before .before .before .before .before .before .before .args .rule) (c .before .before .before .before .before .before .before .before .before .before .before .before .before .before .before .before .before .before .before .args .at) (c .before .before .before .before .before .before .before .before .before .before .before .before .before .before .before .before .before .before .before .args .table .now) (c .before .before .before .before .before .before .before .before .before .before .before .before .before .before .before .before .before .before .before .args .count .now) (rw (c .before .before .before .before .before .before .before .before .before .before .before .before .before .before .before .before .rules-in .ensures .0) at (c .before .before .before .before .before .before .before .before .before .before .before .before .before .before .look .ensures)) (c .before .before .before .before .before .before .before .before .before .before .before .before .before .before .before .before .before .before .before .pre .1 .0 .short) (c .before .before .before .before .before .before .before .before .before .before .before .before .before .before .before .before .before .before .before .pre .1 .0 .most) (sym (c .before .before .before .before .before .before .before .before .before .before .before .before .before .is-held .ensures) ∙ c .before .before .before .before .before .before .before .before .before .before .before .before .if1 .left) (c .before .before .before .before .before .before .before .before .before .eval-node .ensures) (c .before .before .before .before .before .before .if3 .left))
+    let a = c .before .before .before .before .before .before .before .before .before .before .before .before .before .before .before .before .before .before .args in
+    let pre = c .before .before .before .before .before .before .before .before .before .before .before .before .before .before .before .before .before .before .pre in
+    let rules-in = c .before .before .before .before .before .before .before .before .before .before .before .before .before .before .before .before .rules-in in
+    rw (c .before .before .before .before .put .ensures, rules-in .ensures .0, c .wrapping-add-u64 .ensures)
+    (rule-stored (rulesIn (a .words .now)) (a .root) (a .text .now .now) (nodeW (a .words .now) (a .text .now .now) (a .left)) (a .left) (a .rule) (a .at) (a .table .now) (a .count .now) (rw (rules-in .ensures .0) at (c .before .before .before .before .before .before .before .before .before .before .before .before .before .before .look .ensures)) (pre .1 .0 .short) (pre .1 .0 .most) (sym (c .before .before .before .before .before .before .before .before .before .before .before .before .before .is-held .ensures) ∙ c .before .before .before .before .before .before .before .before .before .before .before .before .if1 .left) (c .before .before .before .before .before .before .before .before .before .eval-node .ensures) (c .before .before .before .before .before .before .if3 .left))
 
 eval-sequence-eval-node-requires : (t : ℕ) → eval-sequence-lts.Need-eval-node-requires (eval-sequence-claims t) (eval-sequence-at t) eval-sequence.Post
 eval-sequence-eval-node-requires t c κs =
-    (omega (arith, c .before .before .before .before .pre .0), (record { short = c .before .before .before .before .pre .1 .0 .short; here = c .before .before .before .before .pre .1 .0 .here; most = omega (arith, c .before .before .before .before .pre .1 .0 .most) }, c .before .before .before .before .pre .1 .1))
+    let pre = c .before .before .before .pre in
+    (omega (arith, pre .0), (record { short = pre .1 .0 .short; here = pre .1 .0 .here; most = omega (arith, pre .1 .0 .most) }, pre .1 .1))
 
 eval-sequence-same-length : (t : ℕ) → eval-sequence-lts.Need-same-length (eval-sequence-claims t) (eval-sequence-at t) eval-sequence.Post
 eval-sequence-same-length t c = search needs
 
 eval-sequence-returns : (t : ℕ) → eval-sequence-lts.Need-returns (eval-sequence-claims t) (eval-sequence-at t) eval-sequence.Post
 eval-sequence-returns t c =
-    sequence-refused (c .before .before .before .before .before .before .before .before .args .text .now) (nodeW (c .before .before .before .before .before .before .before .before .args .words .now) (c .before .before .before .before .before .before .before .before .args .text .now) (c .before .before .before .before .before .before .before .before .args .left)) (pairM (rulesIn (c .before .before .before .before .before .before .before .before .args .words .now)) (c .before .before .before .before .before .before .before .before .args .b) (c .before .before .before .before .before .before .before .before .args .text .now) (nodeW (c .before .before .before .before .before .before .before .before .args .words .now) (c .before .before .before .before .before .before .before .before .args .text .now) (c .before .before .before .before .before .before .before .before .args .left)) (c .before .before .before .before .before .before .before .before .args .left)) (c .before .before .before .before .before .before .before .before .args .table .now) (c .before .before .before .before .before .before .before .before .args .count .now) (c .before .before .before .before .before .before .before .before .pre .1 .0 .short) (c .before .before .before .before .before .before .before .before .pre .1 .0 .most) (c .before .before .before .before .before .before .before .before .args .a) (c .before .before .before .before .before .before .before .before .args .b) (c .before .before .before .eval-node .ensures) (c .if1 .taken)
+    let a = c .before .before .before .before .before .before .before .args in
+    let pre = c .before .before .before .before .before .before .before .pre in
+    sequence-refused (a .text .now .now) (nodeW (a .words .now) (a .text .now .now) (a .left)) (pairM (rulesIn (a .words .now)) (a .b) (a .text .now .now) (nodeW (a .words .now) (a .text .now .now) (a .left)) (a .left)) (a .table .now) (a .count .now) (pre .1 .0 .short) (pre .1 .0 .most) (a .a) (a .b) (c .before .before .before .eval-node .ensures) (c .if1 .taken)
 
 eval-sequence-matched-of-requires : (t : ℕ) → eval-sequence-lts.Need-matched-of-requires (eval-sequence-claims t) (eval-sequence-at t) eval-sequence.Post
 eval-sequence-matched-of-requires t c κs = search needs
 
 eval-sequence-first-failed-requires : (t : ℕ) → eval-sequence-lts.Need-first-failed-requires (eval-sequence-claims t) (eval-sequence-at t) eval-sequence.Post
 eval-sequence-first-failed-requires t c κs =
-    omega (arith, nesting-allowed (c .before .before .before .before .before .before .before .before .before .before .pre .1 .0 .short) (omega (arith, c .before .before .before .before .before .before .before .before .before .before .pre .1 .0 .most)) (c .before .before .before .before .before .eval-node .ensures) (c .before .before .if1 .left), c .before .before .before .before .before .before .before .before .before .before .pre .1 .0 .most)
+    let pre = c .before .before .before .before .before .before .before .before .before .pre in
+    omega (arith, nesting-allowed (pre .1 .0 .short) (omega (arith, pre .1 .0 .most)) (c .before .before .before .before .before .eval-node .ensures) (c .before .before .if1 .left), pre .1 .0 .most)
 
 eval-sequence-same-length-2 : (t : ℕ) → eval-sequence-lts.Need-same-length-2 (eval-sequence-claims t) (eval-sequence-at t) eval-sequence.Post
 eval-sequence-same-length-2 t c = search needs
 
 eval-sequence-returns-2 : (t : ℕ) → eval-sequence-lts.Need-returns-2 (eval-sequence-claims t) (eval-sequence-at t) eval-sequence.Post
 eval-sequence-returns-2 t c =
-    sequence-failed (c .before .before .before .before .before .before .before .before .before .before .before .args .text .now) (nodeW (c .before .before .before .before .before .before .before .before .before .before .before .args .words .now) (c .before .before .before .before .before .before .before .before .before .before .before .args .text .now) (c .before .before .before .before .before .before .before .before .before .before .before .args .left)) (pairM (rulesIn (c .before .before .before .before .before .before .before .before .before .before .before .args .words .now)) (c .before .before .before .before .before .before .before .before .before .before .before .args .b) (c .before .before .before .before .before .before .before .before .before .before .before .args .text .now) (nodeW (c .before .before .before .before .before .before .before .before .before .before .before .args .words .now) (c .before .before .before .before .before .before .before .before .before .before .before .args .text .now) (c .before .before .before .before .before .before .before .before .before .before .before .args .left)) (c .before .before .before .before .before .before .before .before .before .before .before .args .left)) (c .before .before .before .before .before .before .before .before .before .before .before .args .table .now) (c .before .before .before .before .before .before .before .before .before .before .before .args .count .now) (c .before .before .before .before .before .before .before .before .before .before .before .pre .1 .0 .short) (c .before .before .before .before .before .before .before .before .before .before .before .pre .1 .0 .most) (c .before .before .before .before .before .before .before .before .before .before .before .args .a) (c .before .before .before .before .before .before .before .before .before .before .before .args .b) (c .before .before .before .before .before .before .eval-node .ensures) (c .before .before .before .if1 .left) (sym (c .before .before .matched-of .ensures) ∙ not-true (c .before .before .matched-of .result) (c .before .if2 .taken)) (c .first-failed .ensures)
+    let a = c .before .before .before .before .before .before .before .before .before .before .args in
+    let pre = c .before .before .before .before .before .before .before .before .before .before .pre in
+    let matched-of = c .before .before .matched-of in
+    sequence-failed (a .text .now .now) (nodeW (a .words .now) (a .text .now .now) (a .left)) (pairM (rulesIn (a .words .now)) (a .b) (a .text .now .now) (nodeW (a .words .now) (a .text .now .now) (a .left)) (a .left)) (a .table .now) (a .count .now) (pre .1 .0 .short) (pre .1 .0 .most) (a .a) (a .b) (c .before .before .before .before .before .before .eval-node .ensures) (c .before .before .before .if1 .left) (sym (matched-of .ensures) ∙ not-true (matched-of .result) (c .before .if2 .taken)) (c .first-failed .ensures)
 
 eval-sequence-length-of-requires : (t : ℕ) → eval-sequence-lts.Need-length-of-requires (eval-sequence-claims t) (eval-sequence-at t) eval-sequence.Post
 eval-sequence-length-of-requires t c κs = search needs
 
 eval-sequence-add-eval-node : (t : ℕ) → eval-sequence-lts.Need-add-eval-node (eval-sequence-claims t) (eval-sequence-at t) eval-sequence.Post
 eval-sequence-add-eval-node t c =
-    omega (arith, length-within (c .before .before .before .before .before .before .before .before .before .before .before .before .before .pre .1 .0 .short) (omega (arith, c .before .before .before .before .before .before .before .before .before .before .before .before .before .pre .1 .0 .most)) (c .before .before .before .before .before .before .before .before .eval-node .ensures) (c .before .before .before .before .before .if1 .left), c .length-of .ensures .0, c .before .before .before .before .before .before .before .before .before .before .before .before .before .pre .1 .0 .short)
+    let pre = c .before .before .before .before .before .before .before .before .before .before .before .before .pre in
+    omega (arith, length-within (pre .1 .0 .short) (omega (arith, pre .1 .0 .most)) (c .before .before .before .before .before .before .before .before .eval-node .ensures) (c .before .before .before .before .before .if1 .left), c .length-of .ensures .0, pre .1 .0 .short)
 
 eval-sequence-eval-node-requires-2 : (t : ℕ) → eval-sequence-lts.Need-eval-node-requires-2 (eval-sequence-claims t) (eval-sequence-at t) eval-sequence.Post
 eval-sequence-eval-node-requires-2 t c κs =
-    (omega (arith, c .before .before .before .before .before .before .before .before .before .before .before .before .before .pre .0), (record { short = c .before .before .before .before .before .before .before .before .before .before .before .before .before .pre .1 .0 .short; here = omega (arith, length-within (c .before .before .before .before .before .before .before .before .before .before .before .before .before .pre .1 .0 .short) (omega (arith, c .before .before .before .before .before .before .before .before .before .before .before .before .before .pre .1 .0 .most)) (c .before .before .before .before .before .before .before .before .eval-node .ensures) (c .before .before .before .before .before .if1 .left), c .length-of .ensures .0); most = omega (arith, c .before .before .before .before .before .before .before .before .before .before .before .before .before .pre .1 .0 .most) }, c .before .before .before .before .before .before .before .before .before .before .before .before .before .pre .1 .2))
+    let pre = c .before .before .before .before .before .before .before .before .before .before .before .before .pre in
+    (omega (arith, pre .0), (record { short = pre .1 .0 .short; here = omega (arith, length-within (pre .1 .0 .short) (omega (arith, pre .1 .0 .most)) (c .before .before .before .before .before .before .before .before .eval-node .ensures) (c .before .before .before .before .before .if1 .left), c .length-of .ensures .0); most = omega (arith, pre .1 .0 .most) }, pre .1 .2))
 
 eval-sequence-same-length-3 : (t : ℕ) → eval-sequence-lts.Need-same-length-3 (eval-sequence-claims t) (eval-sequence-at t) eval-sequence.Post
 eval-sequence-same-length-3 t c = search needs
 
 eval-sequence-returns-3 : (t : ℕ) → eval-sequence-lts.Need-returns-3 (eval-sequence-claims t) (eval-sequence-at t) eval-sequence.Post
 eval-sequence-returns-3 t c =
-    sequence-second-refused (c .before .before .before .before .before .before .before .before .before .before .before .before .before .before .before .before .before .args .text .now) (nodeW (c .before .before .before .before .before .before .before .before .before .before .before .before .before .before .before .before .before .args .words .now) (c .before .before .before .before .before .before .before .before .before .before .before .before .before .before .before .before .before .args .text .now) (c .before .before .before .before .before .before .before .before .before .before .before .before .before .before .before .before .before .args .left)) (pairM (rulesIn (c .before .before .before .before .before .before .before .before .before .before .before .before .before .before .before .before .before .args .words .now)) (c .before .before .before .before .before .before .before .before .before .before .before .before .before .before .before .before .before .args .b) (c .before .before .before .before .before .before .before .before .before .before .before .before .before .before .before .before .before .args .text .now) (nodeW (c .before .before .before .before .before .before .before .before .before .before .before .before .before .before .before .before .before .args .words .now) (c .before .before .before .before .before .before .before .before .before .before .before .before .before .before .before .before .before .args .text .now) (c .before .before .before .before .before .before .before .before .before .before .before .before .before .before .before .before .before .args .left)) (c .before .before .before .before .before .before .before .before .before .before .before .before .before .before .before .before .before .args .left)) (c .before .before .before .before .before .before .before .before .before .before .before .before .before .before .before .before .before .args .table .now) (c .before .before .before .before .before .before .before .before .before .before .before .before .before .before .before .before .before .args .count .now) (c .before .before .before .before .before .before .before .before .before .before .before .before .before .before .before .before .before .pre .1 .0 .short) (c .before .before .before .before .before .before .before .before .before .before .before .before .before .before .before .before .before .pre .1 .0 .most) (c .before .before .before .before .before .before .before .before .before .before .before .before .before .before .before .before .before .args .a) (c .before .before .before .before .before .before .before .before .before .before .before .before .before .before .before .before .before .args .b) (c .before .before .before .before .before .before .before .before .before .before .before .before .eval-node .ensures) (c .before .before .before .before .before .before .before .before .before .if1 .left) (sym (c .before .before .before .before .before .before .before .before .matched-of .ensures) ∙ not-false (c .before .before .before .before .before .before .before .before .matched-of .result) (c .before .before .before .before .before .before .before .if2 .left)) (rw (c .before .before .before .before .length-of .ensures .0) at (c .before .before .before .eval-node2 .ensures)) (c .if3 .taken)
+    let a = c .before .before .before .before .before .before .before .before .before .before .before .before .before .before .before .before .args in
+    let pre = c .before .before .before .before .before .before .before .before .before .before .before .before .before .before .before .before .pre in
+    let matched-of = c .before .before .before .before .before .before .before .before .matched-of in
+    sequence-second-refused (a .text .now .now) (nodeW (a .words .now) (a .text .now .now) (a .left)) (pairM (rulesIn (a .words .now)) (a .b) (a .text .now .now) (nodeW (a .words .now) (a .text .now .now) (a .left)) (a .left)) (a .table .now) (a .count .now) (pre .1 .0 .short) (pre .1 .0 .most) (a .a) (a .b) (c .before .before .before .before .before .before .before .before .before .before .before .before .eval-node .ensures) (c .before .before .before .before .before .before .before .before .before .if1 .left) (sym (matched-of .ensures) ∙ not-false (matched-of .result) (c .before .before .before .before .before .before .before .if2 .left)) (rw (c .before .before .before .before .length-of .ensures .0) at (c .before .before .before .eval-node2 .ensures)) (c .if3 .taken)
 
 eval-sequence-in-sequence-requires : (t : ℕ) → eval-sequence-lts.Need-in-sequence-requires (eval-sequence-claims t) (eval-sequence-at t) eval-sequence.Post
 eval-sequence-in-sequence-requires t c κs =
-    joinable (c .before .before .before .before .before .before .before .before .before .before .before .before .before .before .before .before .before .args .text .now) (nodeW (c .before .before .before .before .before .before .before .before .before .before .before .before .before .before .before .before .before .args .words .now) (c .before .before .before .before .before .before .before .before .before .before .before .before .before .before .before .before .before .args .text .now) (c .before .before .before .before .before .before .before .before .before .before .before .before .before .before .before .before .before .args .left)) (pairM (rulesIn (c .before .before .before .before .before .before .before .before .before .before .before .before .before .before .before .before .before .args .words .now)) (c .before .before .before .before .before .before .before .before .before .before .before .before .before .before .before .before .before .args .b) (c .before .before .before .before .before .before .before .before .before .before .before .before .before .before .before .before .before .args .text .now) (nodeW (c .before .before .before .before .before .before .before .before .before .before .before .before .before .before .before .before .before .args .words .now) (c .before .before .before .before .before .before .before .before .before .before .before .before .before .before .before .before .before .args .text .now) (c .before .before .before .before .before .before .before .before .before .before .before .before .before .before .before .before .before .args .left)) (c .before .before .before .before .before .before .before .before .before .before .before .before .before .before .before .before .before .args .left)) (c .before .before .before .before .before .before .before .before .before .before .before .before .before .before .before .before .before .args .table .now) (c .before .before .before .before .before .before .before .before .before .before .before .before .before .before .before .before .before .args .count .now) (c .before .before .before .before .before .before .before .before .before .before .before .before .before .before .before .before .before .pre .1 .0 .short) (c .before .before .before .before .before .before .before .before .before .before .before .before .before .before .before .before .before .pre .1 .0 .most) (c .before .before .before .before .before .before .before .before .before .before .before .before .before .before .before .before .before .args .a) (c .before .before .before .before .before .before .before .before .before .before .before .before .before .before .before .before .before .args .b) (c .before .before .before .before .before .before .before .before .before .before .before .before .eval-node .ensures) (c .before .before .before .before .before .before .before .before .before .if1 .left) (sym (c .before .before .before .before .before .before .before .before .matched-of .ensures) ∙ not-false (c .before .before .before .before .before .before .before .before .matched-of .result) (c .before .before .before .before .before .before .before .if2 .left)) (rw (c .before .before .before .before .length-of .ensures .0) at (c .before .before .before .eval-node2 .ensures)) (c .if3 .left)
+    let a = c .before .before .before .before .before .before .before .before .before .before .before .before .before .before .before .before .args in
+    let pre = c .before .before .before .before .before .before .before .before .before .before .before .before .before .before .before .before .pre in
+    let matched-of = c .before .before .before .before .before .before .before .before .matched-of in
+    joinable (a .text .now .now) (nodeW (a .words .now) (a .text .now .now) (a .left)) (pairM (rulesIn (a .words .now)) (a .b) (a .text .now .now) (nodeW (a .words .now) (a .text .now .now) (a .left)) (a .left)) (a .table .now) (a .count .now) (pre .1 .0 .short) (pre .1 .0 .most) (a .a) (a .b) (c .before .before .before .before .before .before .before .before .before .before .before .before .eval-node .ensures) (c .before .before .before .before .before .before .before .before .before .if1 .left) (sym (matched-of .ensures) ∙ not-false (matched-of .result) (c .before .before .before .before .before .before .before .if2 .left)) (rw (c .before .before .before .before .length-of .ensures .0) at (c .before .before .before .eval-node2 .ensures)) (c .if3 .left)
 
 eval-sequence-same-length-4 : (t : ℕ) → eval-sequence-lts.Need-same-length-4 (eval-sequence-claims t) (eval-sequence-at t) eval-sequence.Post
 eval-sequence-same-length-4 t c = search needs
 
 eval-sequence-returns-4 : (t : ℕ) → eval-sequence-lts.Need-returns-4 (eval-sequence-claims t) (eval-sequence-at t) eval-sequence.Post
 eval-sequence-returns-4 t c =
-    sequence-both (c .before .before .before .before .before .before .before .before .before .before .before .before .before .before .before .before .before .before .args .text .now) (nodeW (c .before .before .before .before .before .before .before .before .before .before .before .before .before .before .before .before .before .before .args .words .now) (c .before .before .before .before .before .before .before .before .before .before .before .before .before .before .before .before .before .before .args .text .now) (c .before .before .before .before .before .before .before .before .before .before .before .before .before .before .before .before .before .before .args .left)) (pairM (rulesIn (c .before .before .before .before .before .before .before .before .before .before .before .before .before .before .before .before .before .before .args .words .now)) (c .before .before .before .before .before .before .before .before .before .before .before .before .before .before .before .before .before .before .args .b) (c .before .before .before .before .before .before .before .before .before .before .before .before .before .before .before .before .before .before .args .text .now) (nodeW (c .before .before .before .before .before .before .before .before .before .before .before .before .before .before .before .before .before .before .args .words .now) (c .before .before .before .before .before .before .before .before .before .before .before .before .before .before .before .before .before .before .args .text .now) (c .before .before .before .before .before .before .before .before .before .before .before .before .before .before .before .before .before .before .args .left)) (c .before .before .before .before .before .before .before .before .before .before .before .before .before .before .before .before .before .before .args .left)) (c .before .before .before .before .before .before .before .before .before .before .before .before .before .before .before .before .before .before .args .table .now) (c .before .before .before .before .before .before .before .before .before .before .before .before .before .before .before .before .before .before .args .count .now) (c .before .before .before .before .before .before .before .before .before .before .before .before .before .before .before .before .before .before .pre .1 .0 .short) (c .before .before .before .before .before .before .before .before .before .before .before .before .before .before .before .before .before .before .pre .1 .0 .most) (c .before .before .before .before .before .before .before .before .before .before .before .before .before .before .before .before .before .before .args .a) (c .before .before .before .before .before .before .before .before .before .before .before .before .before .before .before .before .before .before .args .b) (c .before .before .before .before .before .before .before .before .before .before .before .before .before .eval-node .ensures) (c .before .before .before .before .before .before .before .before .before .before .if1 .left) (sym (c .before .before .before .before .before .before .before .before .before .matched-of .ensures) ∙ not-false (c .before .before .before .before .before .before .before .before .before .matched-of .result) (c .before .before .before .before .before .before .before .before .if2 .left)) (rw (c .before .before .before .before .before .length-of .ensures .0) at (c .before .before .before .before .eval-node2 .ensures)) (c .before .if3 .left) (c .in-sequence .ensures)
+    let a = c .before .before .before .before .before .before .before .before .before .before .before .before .before .before .before .before .before .args in
+    let pre = c .before .before .before .before .before .before .before .before .before .before .before .before .before .before .before .before .before .pre in
+    let matched-of = c .before .before .before .before .before .before .before .before .before .matched-of in
+    sequence-both (a .text .now .now) (nodeW (a .words .now) (a .text .now .now) (a .left)) (pairM (rulesIn (a .words .now)) (a .b) (a .text .now .now) (nodeW (a .words .now) (a .text .now .now) (a .left)) (a .left)) (a .table .now) (a .count .now) (pre .1 .0 .short) (pre .1 .0 .most) (a .a) (a .b) (c .before .before .before .before .before .before .before .before .before .before .before .before .before .eval-node .ensures) (c .before .before .before .before .before .before .before .before .before .before .if1 .left) (sym (matched-of .ensures) ∙ not-false (matched-of .result) (c .before .before .before .before .before .before .before .before .if2 .left)) (rw (c .before .before .before .before .before .length-of .ensures .0) at (c .before .before .before .before .eval-node2 .ensures)) (c .before .if3 .left) (c .in-sequence .ensures)
 
 abbrev eval-star-Inv-loop : eval-star-lts.InvT-loop
 eval-star-Inv-loop words text table₀ count₀ a at left consumed₀ examined₀ deepest₀ table count consumed examined deepest =
-    (length table ≡ length table₀) × Rounds (length text) at left (nodeW words text left) a (roundsM (suc (length text)) (nodeW words text left) a at table₀ count₀) table count consumed examined deepest
+    (length table ≡ length table₀) × Rounds (length (text .now)) at left (nodeW words (text .now) left) a (roundsM (suc (length (text .now))) (nodeW words (text .now) left) a at table₀ count₀) table count consumed examined deepest
 
 abbrev eval-star-μ-loop : eval-star-lts.MeasureT-loop
 eval-star-μ-loop words text table₀ count₀ a at left consumed₀ examined₀ deepest₀ table count consumed examined deepest =
-    length text - (at + consumed)
+    length (text .now) - (at + consumed)
 
 eval-star-loop-holds : (t : ℕ) → eval-star-lts.Need-loop-holds (eval-star-claims t) (eval-star-at t) eval-star.Post eval-star-Inv-loop eval-star-μ-loop
 eval-star-loop-holds t c =
-    (refl, rounds-start (length (c .before .before .args .text .now)) (c .before .before .args .at) (c .before .before .args .left) (nodeW (c .before .before .args .words .now) (c .before .before .args .text .now) (c .before .before .args .left)) (c .before .before .args .a) (c .before .before .args .table .now) (c .before .before .args .count .now) (c .before .before .pre .1 .0 .here))
+    (refl, rounds-start (length (c .before .args .text .now .now)) (c .before .args .at) (c .before .args .left) (nodeW (c .before .args .words .now) (c .before .args .text .now .now) (c .before .args .left)) (c .before .args .a) (c .before .args .table .now) (c .before .args .count .now) (c .before .pre .1 .0 .here))
 
 eval-star-add-eval-node : (t : ℕ) → eval-star-lts.Need-add-eval-node (eval-star-claims t) (eval-star-at t) eval-star.Post eval-star-Inv-loop eval-star-μ-loop
 eval-star-add-eval-node t c =
-    omega (arith, c .before .before .loop .inv .1 .in-text, c .before .before .before .before .before .pre .1 .0 .short)
+    omega (arith, c .before .before .loop .inv .1 .in-text, c .before .before .before .before .pre .1 .0 .short)
 
 eval-star-eval-node-requires : (t : ℕ) → eval-star-lts.Need-eval-node-requires (eval-star-claims t) (eval-star-at t) eval-star.Post eval-star-Inv-loop eval-star-μ-loop
 eval-star-eval-node-requires t c κs =
-    (omega (arith, c .before .before .before .before .before .pre .0), (record { short = c .before .before .before .before .before .pre .1 .0 .short; here = c .before .before .loop .inv .1 .in-text; most = omega (arith, c .before .before .before .before .before .pre .1 .0 .most) }, c .before .before .before .before .before .pre .1 .1))
+    let pre = c .before .before .before .before .pre in
+    (omega (arith, pre .0), (record { short = pre .1 .0 .short; here = c .before .before .loop .inv .1 .in-text; most = omega (arith, pre .1 .0 .most) }, pre .1 .1))
 
 eval-star-same-length : (t : ℕ) → eval-star-lts.Need-same-length (eval-star-claims t) (eval-star-at t) eval-star.Post eval-star-Inv-loop eval-star-μ-loop
 eval-star-same-length t c = search needs
@@ -473,14 +539,17 @@ eval-star-same-length t c = search needs
 eval-star-returns : (t : ℕ) → eval-star-lts.Need-returns (eval-star-claims t) (eval-star-at t) eval-star.Post eval-star-Inv-loop eval-star-μ-loop
 unfolding kindM
 eval-star-returns t c =
-    gives-refusal (round-refused (nodeW (c .before .before .before .before .before .before .before .before .before .args .words .now) (c .before .before .before .before .before .before .before .before .before .args .text .now) (c .before .before .before .before .before .before .before .before .before .args .left)) (c .before .before .before .before .before .before .before .before .before .args .a) (c .before .before .before .before .before .before .before .before .before .pre .1 .0 .short) (c .before .before .before .before .before .before .before .before .before .pre .1 .0 .most) (c .before .before .before .before .before .before .loop .inv .1) (c .before .before .before .eval-node .ensures) (c .if1 .taken)) (was-refused (c .before .before .before .before .before .before .before .before .before .pre .1 .0 .short) (omega (arith, c .before .before .before .before .before .before .before .before .before .pre .1 .0 .most)) (c .before .before .before .eval-node .ensures) (c .if1 .taken) .small)
+    let a = c .before .before .before .before .before .before .before .before .args in
+    let pre = c .before .before .before .before .before .before .before .before .pre in
+    let x = c .before .before .before .eval-node in
+    gives-refusal (round-refused (nodeW (a .words .now) (a .text .now .now) (a .left)) (a .a) (pre .1 .0 .short) (pre .1 .0 .most) (c .before .before .before .before .before .before .loop .inv .1) (x .ensures) (c .if1 .taken)) (was-refused (pre .1 .0 .short) (omega (arith, pre .1 .0 .most)) (x .ensures) (c .if1 .taken) .small)
 
 eval-star-examined-of-requires : (t : ℕ) → eval-star-lts.Need-examined-of-requires (eval-star-claims t) (eval-star-at t) eval-star.Post eval-star-Inv-loop eval-star-μ-loop
 eval-star-examined-of-requires t c κs = search needs
 
 eval-star-add-larger : (t : ℕ) → eval-star-lts.Need-add-larger (eval-star-claims t) (eval-star-at t) eval-star.Post eval-star-Inv-loop eval-star-μ-loop
 eval-star-add-larger t c =
-    omega (arith, c .examined-of .ensures .1, c .before .before .before .before .before .before .before .loop .inv .1 .in-text, c .before .before .before .before .before .before .before .before .before .before .pre .1 .0 .short)
+    omega (arith, c .examined-of .ensures .1, c .before .before .before .before .before .before .before .loop .inv .1 .in-text, c .before .before .before .before .before .before .before .before .before .pre .1 .0 .short)
 
 eval-star-larger-requires : (t : ℕ) → eval-star-lts.Need-larger-requires (eval-star-claims t) (eval-star-at t) eval-star.Post eval-star-Inv-loop eval-star-μ-loop
 eval-star-larger-requires t c κs = search needs
@@ -496,23 +565,31 @@ eval-star-matched-of-requires t c κs = search needs
 
 eval-star-add-answer : (t : ℕ) → eval-star-lts.Need-add-answer (eval-star-claims t) (eval-star-at t) eval-star.Post eval-star-Inv-loop eval-star-μ-loop
 eval-star-add-answer t c =
-    let b = round-bounds (nodeW (c .before .before .before .before .before .before .before .before .before .before .before .before .before .before .before .args .words .now) (c .before .before .before .before .before .before .before .before .before .before .before .before .before .before .before .args .text .now) (c .before .before .before .before .before .before .before .before .before .before .before .before .before .before .before .args .left)) (c .before .before .before .before .before .before .before .before .before .before .before .before .before .before .before .args .a) (c .before .before .before .before .before .before .before .before .before .before .before .before .before .before .before .pre .1 .0 .short) (c .before .before .before .before .before .before .before .before .before .before .before .before .before .before .before .pre .1 .0 .most) (c .before .before .before .before .before .before .before .before .before .before .before .before .loop .inv .1) (c .before .before .before .before .before .before .before .before .before .eval-node .ensures) (c .before .before .before .before .before .before .if1 .left) in
+    let a = c .before .before .before .before .before .before .before .before .before .before .before .before .before .before .args in
+    let pre = c .before .before .before .before .before .before .before .before .before .before .before .before .before .before .pre in
+    let b = round-bounds (nodeW (a .words .now) (a .text .now .now) (a .left)) (a .a) (pre .1 .0 .short) (pre .1 .0 .most) (c .before .before .before .before .before .before .before .before .before .before .before .before .loop .inv .1) (c .before .before .before .before .before .before .before .before .before .eval-node .ensures) (c .before .before .before .before .before .before .if1 .left) in
     let e = (rw (c .before .before .before .nesting-of .ensures .0) at (c .before .before .larger2 .ensures)) in
-    omega (arith, b .1, c .before .before .before .before .before .before .before .before .before .before .before .before .before .before .before .pre .1 .0 .most)
+    omega (arith, b .1, pre .1 .0 .most)
 
 eval-star-answer-requires : (t : ℕ) → eval-star-lts.Need-answer-requires (eval-star-claims t) (eval-star-at t) eval-star.Post eval-star-Inv-loop eval-star-μ-loop
 eval-star-answer-requires t c κs =
-    let b = round-bounds (nodeW (c .before .before .before .before .before .before .before .before .before .before .before .before .before .before .before .args .words .now) (c .before .before .before .before .before .before .before .before .before .before .before .before .before .before .before .args .text .now) (c .before .before .before .before .before .before .before .before .before .before .before .before .before .before .before .args .left)) (c .before .before .before .before .before .before .before .before .before .before .before .before .before .before .before .args .a) (c .before .before .before .before .before .before .before .before .before .before .before .before .before .before .before .pre .1 .0 .short) (c .before .before .before .before .before .before .before .before .before .before .before .before .before .before .before .pre .1 .0 .most) (c .before .before .before .before .before .before .before .before .before .before .before .before .loop .inv .1) (c .before .before .before .before .before .before .before .before .before .eval-node .ensures) (c .before .before .before .before .before .before .if1 .left) in
+    let a = c .before .before .before .before .before .before .before .before .before .before .before .before .before .before .args in
+    let pre = c .before .before .before .before .before .before .before .before .before .before .before .before .before .before .pre in
+    let loop = c .before .before .before .before .before .before .before .before .before .before .before .before .loop in
+    let b = round-bounds (nodeW (a .words .now) (a .text .now .now) (a .left)) (a .a) (pre .1 .0 .short) (pre .1 .0 .most) (loop .inv .1) (c .before .before .before .before .before .before .before .before .before .eval-node .ensures) (c .before .before .before .before .before .before .if1 .left) in
     let d = (rw (c .before .before .before .before .before .examined-of .ensures .0) at (c .before .before .before .before .larger .ensures)) in
     let e = (rw (c .before .before .before .nesting-of .ensures .0) at (c .before .before .larger2 .ensures)) in
-    (omega (arith, b .1, c .before .before .before .before .before .before .before .before .before .before .before .before .before .before .before .pre .1 .0 .most), omega (arith, b .0, c .before .before .before .before .before .before .before .before .before .before .before .before .before .before .before .pre .1 .0 .short), omega (arith, c .before .before .before .before .before .before .before .before .before .before .before .before .loop .inv .1 .in-text, c .before .before .before .before .before .before .before .before .before .before .before .before .before .before .before .pre .1 .0 .short))
+    (omega (arith, b .1, pre .1 .0 .most), omega (arith, b .0, pre .1 .0 .short), omega (arith, loop .inv .1 .in-text, pre .1 .0 .short))
 
 eval-star-same-length-2 : (t : ℕ) → eval-star-lts.Need-same-length-2 (eval-star-claims t) (eval-star-at t) eval-star.Post eval-star-Inv-loop eval-star-μ-loop
 eval-star-same-length-2 t c = search needs
 
 eval-star-returns-2 : (t : ℕ) → eval-star-lts.Need-returns-2 (eval-star-claims t) (eval-star-at t) eval-star.Post eval-star-Inv-loop eval-star-μ-loop
 eval-star-returns-2 t c =
-    round-fails (nodeW (c .before .before .before .before .before .before .before .before .before .before .before .before .before .before .before .before .args .words .now) (c .before .before .before .before .before .before .before .before .before .before .before .before .before .before .before .before .args .text .now) (c .before .before .before .before .before .before .before .before .before .before .before .before .before .before .before .before .args .left)) (c .before .before .before .before .before .before .before .before .before .before .before .before .before .before .before .before .args .a) (c .before .before .before .before .before .before .before .before .before .before .before .before .before .before .before .before .pre .1 .0 .short) (c .before .before .before .before .before .before .before .before .before .before .before .before .before .before .before .before .pre .1 .0 .most) (c .before .before .before .before .before .before .before .before .before .before .before .before .before .loop .inv .1) (c .before .before .before .before .before .before .before .before .before .before .eval-node .ensures) (c .before .before .before .before .before .before .before .if1 .left) (c .before .before .before .before .before .before .before .before .before .before .before .before .before .before .before .before .args .text .now) (pairM (rulesIn (c .before .before .before .before .before .before .before .before .before .before .before .before .before .before .before .before .args .words .now)) 0 (c .before .before .before .before .before .before .before .before .before .before .before .before .before .before .before .before .args .text .now) (nodeW (c .before .before .before .before .before .before .before .before .before .before .before .before .before .before .before .before .args .words .now) (c .before .before .before .before .before .before .before .before .before .before .before .before .before .before .before .before .args .text .now) (c .before .before .before .before .before .before .before .before .before .before .before .before .before .before .before .before .args .left)) (c .before .before .before .before .before .before .before .before .before .before .before .before .before .before .before .before .args .left)) (c .before .before .before .before .before .before .before .before .before .before .before .before .before .before .before .before .args .table .now) (c .before .before .before .before .before .before .before .before .before .before .before .before .before .before .before .before .args .count .now) refl (sym (c .before .before .matched-of .ensures) ∙ not-true (c .before .before .matched-of .result) (c .before .if2 .taken)) (rw (c .before .before .before .before .before .before .examined-of .ensures .0) at (c .before .before .before .before .before .larger .ensures)) (rw (c .before .before .before .before .nesting-of .ensures .0) at (c .before .before .before .larger2 .ensures)) (c .answer .ensures)
+    let a = c .before .before .before .before .before .before .before .before .before .before .before .before .before .before .before .args in
+    let pre = c .before .before .before .before .before .before .before .before .before .before .before .before .before .before .before .pre in
+    let matched-of = c .before .before .matched-of in
+    round-fails (nodeW (a .words .now) (a .text .now .now) (a .left)) (a .a) (pre .1 .0 .short) (pre .1 .0 .most) (c .before .before .before .before .before .before .before .before .before .before .before .before .before .loop .inv .1) (c .before .before .before .before .before .before .before .before .before .before .eval-node .ensures) (c .before .before .before .before .before .before .before .if1 .left) (a .text .now .now) (pairM (rulesIn (a .words .now)) 0 (a .text .now .now) (nodeW (a .words .now) (a .text .now .now) (a .left)) (a .left)) (a .table .now) (a .count .now) refl (sym (matched-of .ensures) ∙ not-true (matched-of .result) (c .before .if2 .taken)) (rw (c .before .before .before .before .before .before .examined-of .ensures .0) at (c .before .before .before .before .before .larger .ensures)) (rw (c .before .before .before .before .nesting-of .ensures .0) at (c .before .before .before .larger2 .ensures)) (c .answer .ensures)
 
 eval-star-length-of-requires : (t : ℕ) → eval-star-lts.Need-length-of-requires (eval-star-claims t) (eval-star-at t) eval-star.Post eval-star-Inv-loop eval-star-μ-loop
 eval-star-length-of-requires t c κs = search needs
@@ -523,20 +600,29 @@ eval-star-same-length-3 t c = search needs
 eval-star-returns-3 : (t : ℕ) → eval-star-lts.Need-returns-3 (eval-star-claims t) (eval-star-at t) eval-star.Post eval-star-Inv-loop eval-star-μ-loop
 unfolding kindM
 eval-star-returns-3 t c =
-    gives-refusal (round-still (nodeW (c .before .before .before .before .before .before .before .before .before .before .before .before .before .before .before .before .before .args .words .now) (c .before .before .before .before .before .before .before .before .before .before .before .before .before .before .before .before .before .args .text .now) (c .before .before .before .before .before .before .before .before .before .before .before .before .before .before .before .before .before .args .left)) (c .before .before .before .before .before .before .before .before .before .before .before .before .before .before .before .before .before .args .a) (c .before .before .before .before .before .before .before .before .before .before .before .before .before .before .before .before .before .pre .1 .0 .short) (c .before .before .before .before .before .before .before .before .before .before .before .before .before .before .before .before .before .pre .1 .0 .most) (c .before .before .before .before .before .before .before .before .before .before .before .before .before .before .loop .inv .1) (c .before .before .before .before .before .before .before .before .before .before .before .eval-node .ensures) (c .before .before .before .before .before .before .before .before .if1 .left) (sym (c .before .before .before .matched-of .ensures) ∙ not-false (c .before .before .before .matched-of .result) (c .before .before .if2 .left)) (sym (c .before .length-of .ensures .0) ∙ c .if3 .taken)) (omega arith)
+    let a = c .before .before .before .before .before .before .before .before .before .before .before .before .before .before .before .before .args in
+    let pre = c .before .before .before .before .before .before .before .before .before .before .before .before .before .before .before .before .pre in
+    let matched-of = c .before .before .before .matched-of in
+    gives-refusal (round-still (nodeW (a .words .now) (a .text .now .now) (a .left)) (a .a) (pre .1 .0 .short) (pre .1 .0 .most) (c .before .before .before .before .before .before .before .before .before .before .before .before .before .before .loop .inv .1) (c .before .before .before .before .before .before .before .before .before .before .before .eval-node .ensures) (c .before .before .before .before .before .before .before .before .if1 .left) (sym (matched-of .ensures) ∙ not-false (matched-of .result) (c .before .before .if2 .left)) (sym (c .before .length-of .ensures .0) ∙ c .if3 .taken)) (omega arith)
 
 eval-star-add-consumed : (t : ℕ) → eval-star-lts.Need-add-consumed (eval-star-claims t) (eval-star-at t) eval-star.Post eval-star-Inv-loop eval-star-μ-loop
 eval-star-add-consumed t c =
-    omega (arith, c .before .length-of .ensures .1, c .before .before .before .before .before .before .before .before .before .before .before .before .before .before .loop .inv .1 .in-text, c .before .before .before .before .before .before .before .before .before .before .before .before .before .before .before .before .before .pre .1 .0 .short)
+    omega (arith, c .before .length-of .ensures .1, c .before .before .before .before .before .before .before .before .before .before .before .before .before .before .loop .inv .1 .in-text, c .before .before .before .before .before .before .before .before .before .before .before .before .before .before .before .before .pre .1 .0 .short)
 
 eval-star-loop-less : (t : ℕ) → eval-star-lts.Need-loop-less (eval-star-claims t) (eval-star-at t) eval-star.Post eval-star-Inv-loop eval-star-μ-loop
 eval-star-loop-less t c =
+    let pre = c .before .before .before .before .before .before .before .before .before .before .before .before .before .before .before .before .pre in
     let ne = c .if3 .left in
-    omega (arith, length-within (c .before .before .before .before .before .before .before .before .before .before .before .before .before .before .before .before .before .pre .1 .0 .short) (omega (arith, c .before .before .before .before .before .before .before .before .before .before .before .before .before .before .before .before .before .pre .1 .0 .most)) (c .before .before .before .before .before .before .before .before .before .before .before .eval-node .ensures) (c .before .before .before .before .before .before .before .before .if1 .left), c .before .length-of .ensures .0, ne)
+    omega (arith, length-within (pre .1 .0 .short) (omega (arith, pre .1 .0 .most)) (c .before .before .before .before .before .before .before .before .before .before .before .eval-node .ensures) (c .before .before .before .before .before .before .before .before .if1 .left), c .before .length-of .ensures .0, ne)
 
 eval-star-loop-again : (t : ℕ) → eval-star-lts.Need-loop-again (eval-star-claims t) (eval-star-at t) eval-star.Post eval-star-Inv-loop eval-star-μ-loop
 eval-star-loop-again t c =
-    (c .before .before .before .before .before .before .before .before .before .before .before .eval-node .kept .1 .1 .0 ∙ c .before .before .before .before .before .before .before .before .before .before .before .before .before .before .loop .inv .0, round-goes (nodeW (c .before .before .before .before .before .before .before .before .before .before .before .before .before .before .before .before .before .args .words .now) (c .before .before .before .before .before .before .before .before .before .before .before .before .before .before .before .before .before .args .text .now) (c .before .before .before .before .before .before .before .before .before .before .before .before .before .before .before .before .before .args .left)) (c .before .before .before .before .before .before .before .before .before .before .before .before .before .before .before .before .before .args .a) (c .before .before .before .before .before .before .before .before .before .before .before .before .before .before .before .before .before .pre .1 .0 .short) (c .before .before .before .before .before .before .before .before .before .before .before .before .before .before .before .before .before .pre .1 .0 .most) (c .before .before .before .before .before .before .before .before .before .before .before .before .before .before .loop .inv .1) (c .before .before .before .before .before .before .before .before .before .before .before .eval-node .ensures) (c .before .before .before .before .before .before .before .before .if1 .left) (sym (c .before .before .before .matched-of .ensures) ∙ not-false (c .before .before .before .matched-of .result) (c .before .before .if2 .left)) (rw (c .before .before .before .before .before .before .before .examined-of .ensures .0) at (c .before .before .before .before .before .before .larger .ensures)) (rw (c .before .before .before .before .before .nesting-of .ensures .0) at (c .before .before .before .before .larger2 .ensures)) (c .before .length-of .ensures .0) (c .if3 .left))
+    let a = c .before .before .before .before .before .before .before .before .before .before .before .before .before .before .before .before .args in
+    let pre = c .before .before .before .before .before .before .before .before .before .before .before .before .before .before .before .before .pre in
+    let loop = c .before .before .before .before .before .before .before .before .before .before .before .before .before .before .loop in
+    let x = c .before .before .before .before .before .before .before .before .before .before .before .eval-node in
+    let matched-of = c .before .before .before .matched-of in
+    (x .kept .1 .1 .0 ∙ loop .inv .0, round-goes (nodeW (a .words .now) (a .text .now .now) (a .left)) (a .a) (pre .1 .0 .short) (pre .1 .0 .most) (loop .inv .1) (x .ensures) (c .before .before .before .before .before .before .before .before .if1 .left) (sym (matched-of .ensures) ∙ not-false (matched-of .result) (c .before .before .if2 .left)) (rw (c .before .before .before .before .before .before .before .examined-of .ensures .0) at (c .before .before .before .before .before .before .larger .ensures)) (rw (c .before .before .before .before .before .nesting-of .ensures .0) at (c .before .before .before .before .larger2 .ensures)) (c .before .length-of .ensures .0) (c .if3 .left))
 
 eval-word-node-of-requires : (t : ℕ) → eval-word-lts.Need-node-of-requires (eval-word-claims t) (eval-word-at t) eval-word.Post
 eval-word-node-of-requires t c κs = search needs
@@ -549,62 +635,77 @@ eval-word-byte-between-requires t c κs = search needs
 
 eval-word-sub-eval-sequence : (t : ℕ) → eval-word-lts.Need-sub-eval-sequence (eval-word-claims t) (eval-word-at t) eval-word.Post
 eval-word-sub-eval-sequence t c =
-    omega (arith, c .before .before .before .before .before .before .pre .1 .1)
+    omega (arith, c .before .before .before .before .before .pre .1 .1)
 
 eval-word-eval-sequence-requires : (t : ℕ) → eval-word-lts.Need-eval-sequence-requires (eval-word-claims t) (eval-word-at t) eval-word.Post
 eval-word-eval-sequence-requires t c κs =
-    (omega (arith, c .before .before .before .before .before .before .pre .0, c .before .before .before .before .before .before .pre .1 .1), (record { short = c .before .before .before .before .before .before .pre .1 .0 .short; here = c .before .before .before .before .before .before .pre .1 .0 .here; most = omega (arith, c .before .before .before .before .before .before .pre .1 .0 .most, c .before .before .before .before .before .before .pre .1 .1) }, omega (arith, c .before .before .before .node-of .ensures .its-a), omega (arith, c .before .before .before .node-of .ensures .its-b)))
+    let pre = c .before .before .before .before .before .pre in
+    let node-of = c .before .before .before .node-of in
+    (omega (arith, pre .0, pre .1 .1), (record { short = pre .1 .0 .short; here = pre .1 .0 .here; most = omega (arith, pre .1 .0 .most, pre .1 .1) }, omega (arith, node-of .ensures .its-a), omega (arith, node-of .ensures .its-b)))
 
 eval-word-sub-eval-choice : (t : ℕ) → eval-word-lts.Need-sub-eval-choice (eval-word-claims t) (eval-word-at t) eval-word.Post
 eval-word-sub-eval-choice t c =
-    omega (arith, c .before .before .before .before .before .before .pre .1 .1)
+    omega (arith, c .before .before .before .before .before .pre .1 .1)
 
 eval-word-eval-choice-requires : (t : ℕ) → eval-word-lts.Need-eval-choice-requires (eval-word-claims t) (eval-word-at t) eval-word.Post
 eval-word-eval-choice-requires t c κs =
-    (omega (arith, c .before .before .before .before .before .before .pre .0, c .before .before .before .before .before .before .pre .1 .1), (record { short = c .before .before .before .before .before .before .pre .1 .0 .short; here = c .before .before .before .before .before .before .pre .1 .0 .here; most = omega (arith, c .before .before .before .before .before .before .pre .1 .0 .most, c .before .before .before .before .before .before .pre .1 .1) }, omega (arith, c .before .before .before .node-of .ensures .its-a), omega (arith, c .before .before .before .node-of .ensures .its-b)))
+    let pre = c .before .before .before .before .before .pre in
+    let node-of = c .before .before .before .node-of in
+    (omega (arith, pre .0, pre .1 .1), (record { short = pre .1 .0 .short; here = pre .1 .0 .here; most = omega (arith, pre .1 .0 .most, pre .1 .1) }, omega (arith, node-of .ensures .its-a), omega (arith, node-of .ensures .its-b)))
 
 eval-word-sub-eval-star : (t : ℕ) → eval-word-lts.Need-sub-eval-star (eval-word-claims t) (eval-word-at t) eval-word.Post
 eval-word-sub-eval-star t c =
-    omega (arith, c .before .before .before .before .before .before .pre .1 .1)
+    omega (arith, c .before .before .before .before .before .pre .1 .1)
 
 eval-word-eval-star-requires : (t : ℕ) → eval-word-lts.Need-eval-star-requires (eval-word-claims t) (eval-word-at t) eval-word.Post
 eval-word-eval-star-requires t c κs =
-    (omega (arith, c .before .before .before .before .before .before .pre .0, c .before .before .before .before .before .before .pre .1 .1), (record { short = c .before .before .before .before .before .before .pre .1 .0 .short; here = c .before .before .before .before .before .before .pre .1 .0 .here; most = omega (arith, c .before .before .before .before .before .before .pre .1 .0 .most, c .before .before .before .before .before .before .pre .1 .1) }, omega (arith, c .before .before .before .node-of .ensures .its-a)))
+    let pre = c .before .before .before .before .before .pre in
+    (omega (arith, pre .0, pre .1 .1), (record { short = pre .1 .0 .short; here = pre .1 .0 .here; most = omega (arith, pre .1 .0 .most, pre .1 .1) }, omega (arith, c .before .before .before .node-of .ensures .its-a)))
 
 eval-word-sub-eval-not : (t : ℕ) → eval-word-lts.Need-sub-eval-not (eval-word-claims t) (eval-word-at t) eval-word.Post
 eval-word-sub-eval-not t c =
-    omega (arith, c .before .before .before .before .before .before .pre .1 .1)
+    omega (arith, c .before .before .before .before .before .pre .1 .1)
 
 eval-word-eval-not-requires : (t : ℕ) → eval-word-lts.Need-eval-not-requires (eval-word-claims t) (eval-word-at t) eval-word.Post
 eval-word-eval-not-requires t c κs =
-    (omega (arith, c .before .before .before .before .before .before .pre .0, c .before .before .before .before .before .before .pre .1 .1), (record { short = c .before .before .before .before .before .before .pre .1 .0 .short; here = c .before .before .before .before .before .before .pre .1 .0 .here; most = omega (arith, c .before .before .before .before .before .before .pre .1 .0 .most, c .before .before .before .before .before .before .pre .1 .1) }, omega (arith, c .before .before .before .node-of .ensures .its-a)))
+    let pre = c .before .before .before .before .before .pre in
+    (omega (arith, pre .0, pre .1 .1), (record { short = pre .1 .0 .short; here = pre .1 .0 .here; most = omega (arith, pre .1 .0 .most, pre .1 .1) }, omega (arith, c .before .before .before .node-of .ensures .its-a)))
 
 eval-word-sub-eval-call : (t : ℕ) → eval-word-lts.Need-sub-eval-call (eval-word-claims t) (eval-word-at t) eval-word.Post
 eval-word-sub-eval-call t c =
-    omega (arith, c .before .before .before .before .before .before .pre .1 .1)
+    omega (arith, c .before .before .before .before .before .pre .1 .1)
 
 eval-word-eval-call-requires : (t : ℕ) → eval-word-lts.Need-eval-call-requires (eval-word-claims t) (eval-word-at t) eval-word.Post
 eval-word-eval-call-requires t c κs =
-    (omega (arith, c .before .before .before .before .before .before .pre .0, c .before .before .before .before .before .before .pre .1 .1), (record { short = c .before .before .before .before .before .before .pre .1 .0 .short; here = c .before .before .before .before .before .before .pre .1 .0 .here; most = omega (arith, c .before .before .before .before .before .before .pre .1 .0 .most, c .before .before .before .before .before .before .pre .1 .1) }, omega (arith, c .before .before .before .node-of .ensures .its-a), omega (arith, c .before .before .before .node-of .ensures .its-b)))
+    let pre = c .before .before .before .before .before .pre in
+    let node-of = c .before .before .before .node-of in
+    (omega (arith, pre .0, pre .1 .1), (record { short = pre .1 .0 .short; here = pre .1 .0 .here; most = omega (arith, pre .1 .0 .most, pre .1 .1) }, omega (arith, node-of .ensures .its-a), omega (arith, node-of .ensures .its-b)))
 
 eval-word-returns : (t : ℕ) → eval-word-lts.Need-returns (eval-word-claims t) (eval-word-at t) eval-word.Post
 unfolding kindM nodeOfKind wordOf
 eval-word-returns t c =
-    word-goes (c .before .before .before .before .args .words .now) (c .before .before .before .before .args .text .now) (c .before .before .before .before .args .left) (c .before .before .before .before .args .word) (c .before .before .before .before .args .at) (c .before .before .before .before .args .table .now) (c .before .before .before .before .args .count .now) (λ z. let l = c .before .before .before .before .pre .1 .1 in omega arith) (word-is (c .before .before .before .before .args .word) (c .before .node-of .ensures) {k = 0} (omega arith)) (gives-value emptyHere refl refl (empty-within (c .before .before .before .before .pre .1 .0 .here)) (omega arith))
+    let a = c .before .before .before .args in
+    let pre = c .before .before .before .pre in
+    word-goes (a .words .now) (a .text .now .now) (a .left) (a .word) (a .at) (a .table .now) (a .count .now) (λ z. let l = pre .1 .1 in omega arith) (word-is (a .word) (c .before .node-of .ensures) {k = 0} (omega arith)) (gives-value emptyHere refl refl (empty-within (pre .1 .0 .here)) (omega arith))
 
 eval-word-returns-2 : (t : ℕ) → eval-word-lts.Need-returns-2 (eval-word-claims t) (eval-word-at t) eval-word.Post
 unfolding kindM nodeOfKind
 eval-word-returns-2 t c =
-    let s = shape any (c .before .before .before .before .before .args .text .now) (c .before .before .before .before .before .args .at) (c .before .before .before .before .before .pre .1 .0 .here) in
-    word-goes (c .before .before .before .before .before .args .words .now) (c .before .before .before .before .before .args .text .now) (c .before .before .before .before .before .args .left) (c .before .before .before .before .before .args .word) (c .before .before .before .before .before .args .at) (c .before .before .before .before .before .args .table .now) (c .before .before .before .before .before .args .count .now) (λ z. let l = c .before .before .before .before .before .pre .1 .1 in omega arith) (word-is (c .before .before .before .before .before .args .word) (c .before .before .node-of .ensures) {k = 1} (omega arith)) (gives-value (terminalAt any (c .before .before .before .before .before .args .text .now) (c .before .before .before .before .before .args .at)) refl (c .any-byte .ensures)
+    let a = c .before .before .before .before .before .args in
+    let pre = c .before .before .before .before .before .pre in
+    let s = shape any (a .text .now .now) (a .at) (pre .1 .0 .here) in
+    word-goes (a .words .now) (a .text .now .now) (a .left) (a .word) (a .at) (a .table .now) (a .count .now) (λ z. let l = pre .1 .1 in omega arith) (word-is (a .word) (c .before .before .before .node-of .ensures) {k = 1} (omega arith)) (gives-value (terminalAt any (a .text .now .now) (a .at)) refl (c .any-byte .ensures)
     (record { in-text = s .in-text; up-to-end = s .up-to-end; in-examined = s .in-examined; failure = s .failure; nested = omega (arith, s .flat) })
     (omega (arith, s .flat)))
 
 eval-word-returns-3 : (t : ℕ) → eval-word-lts.Need-returns-3 (eval-word-claims t) (eval-word-at t) eval-word.Post
 unfolding kindM nodeOfKind
 eval-word-returns-3 t c =
-    let s = shape (range (c .before .before .node-of .result .a) (c .before .before .node-of .result .b)) (c .before .before .before .before .before .args .text .now) (c .before .before .before .before .before .args .at) (c .before .before .before .before .before .pre .1 .0 .here) in
-    word-goes (c .before .before .before .before .before .args .words .now) (c .before .before .before .before .before .args .text .now) (c .before .before .before .before .before .args .left) (c .before .before .before .before .before .args .word) (c .before .before .before .before .before .args .at) (c .before .before .before .before .before .args .table .now) (c .before .before .before .before .before .args .count .now) (λ z. let l = c .before .before .before .before .before .pre .1 .1 in omega arith) (word-is (c .before .before .before .before .before .args .word) (c .before .before .node-of .ensures) {k = 2} (omega arith)) (gives-value (terminalAt (range (c .before .before .node-of .result .a) (c .before .before .node-of .result .b)) (c .before .before .before .before .before .args .text .now) (c .before .before .before .before .before .args .at)) refl (c .byte-between .ensures)
+    let a = c .before .before .before .before .before .args in
+    let pre = c .before .before .before .before .before .pre in
+    let node-of = c .before .before .before .node-of in
+    let s = shape (range (node-of .result .a) (node-of .result .b)) (a .text .now .now) (a .at) (pre .1 .0 .here) in
+    word-goes (a .words .now) (a .text .now .now) (a .left) (a .word) (a .at) (a .table .now) (a .count .now) (λ z. let l = pre .1 .1 in omega arith) (word-is (a .word) (node-of .ensures) {k = 2} (omega arith)) (gives-value (terminalAt (range (node-of .result .a) (node-of .result .b)) (a .text .now .now) (a .at)) refl (c .byte-between .ensures)
     (record { in-text = s .in-text; up-to-end = s .up-to-end; in-examined = s .in-examined; failure = s .failure; nested = omega (arith, s .flat) })
     (omega (arith, s .flat)))
 
@@ -614,7 +715,8 @@ eval-word-same-length t c = search needs
 eval-word-returns-4 : (t : ℕ) → eval-word-lts.Need-returns-4 (eval-word-claims t) (eval-word-at t) eval-word.Post
 unfolding kindM nodeOfKind
 eval-word-returns-4 t c =
-    word-goes (c .before .before .before .before .before .before .before .before .before .args .words .now) (c .before .before .before .before .before .before .before .before .before .args .text .now) (c .before .before .before .before .before .before .before .before .before .args .left) (c .before .before .before .before .before .before .before .before .before .args .word) (c .before .before .before .before .before .before .before .before .before .args .at) (c .before .before .before .before .before .before .before .before .before .args .table .now) (c .before .before .before .before .before .before .before .before .before .args .count .now) (λ z. let l = c .before .before .before .before .before .before .before .before .before .pre .1 .1 in omega arith) (word-is (c .before .before .before .before .before .before .before .before .before .args .word) (c .before .before .before .before .before .before .node-of .ensures) {k = 3} (omega arith)) (c .before .before .eval-sequence .ensures)
+    let a = c .before .before .before .before .before .before .before .before .args in
+    word-goes (a .words .now) (a .text .now .now) (a .left) (a .word) (a .at) (a .table .now) (a .count .now) (λ z. let l = c .before .before .before .before .before .before .before .before .pre .1 .1 in omega arith) (word-is (a .word) (c .before .before .before .before .before .before .node-of .ensures) {k = 3} (omega arith)) (c .before .before .eval-sequence .ensures)
 
 eval-word-same-length-2 : (t : ℕ) → eval-word-lts.Need-same-length-2 (eval-word-claims t) (eval-word-at t) eval-word.Post
 eval-word-same-length-2 t c = search needs
@@ -622,7 +724,8 @@ eval-word-same-length-2 t c = search needs
 eval-word-returns-5 : (t : ℕ) → eval-word-lts.Need-returns-5 (eval-word-claims t) (eval-word-at t) eval-word.Post
 unfolding kindM nodeOfKind
 eval-word-returns-5 t c =
-    word-goes (c .before .before .before .before .before .before .before .before .before .args .words .now) (c .before .before .before .before .before .before .before .before .before .args .text .now) (c .before .before .before .before .before .before .before .before .before .args .left) (c .before .before .before .before .before .before .before .before .before .args .word) (c .before .before .before .before .before .before .before .before .before .args .at) (c .before .before .before .before .before .before .before .before .before .args .table .now) (c .before .before .before .before .before .before .before .before .before .args .count .now) (λ z. let l = c .before .before .before .before .before .before .before .before .before .pre .1 .1 in omega arith) (word-is (c .before .before .before .before .before .before .before .before .before .args .word) (c .before .before .before .before .before .before .node-of .ensures) {k = 4} (omega arith)) (c .before .before .eval-choice .ensures)
+    let a = c .before .before .before .before .before .before .before .before .args in
+    word-goes (a .words .now) (a .text .now .now) (a .left) (a .word) (a .at) (a .table .now) (a .count .now) (λ z. let l = c .before .before .before .before .before .before .before .before .pre .1 .1 in omega arith) (word-is (a .word) (c .before .before .before .before .before .before .node-of .ensures) {k = 4} (omega arith)) (c .before .before .eval-choice .ensures)
 
 eval-word-same-length-3 : (t : ℕ) → eval-word-lts.Need-same-length-3 (eval-word-claims t) (eval-word-at t) eval-word.Post
 eval-word-same-length-3 t c = search needs
@@ -630,7 +733,8 @@ eval-word-same-length-3 t c = search needs
 eval-word-returns-6 : (t : ℕ) → eval-word-lts.Need-returns-6 (eval-word-claims t) (eval-word-at t) eval-word.Post
 unfolding kindM nodeOfKind
 eval-word-returns-6 t c =
-    word-goes (c .before .before .before .before .before .before .before .before .before .args .words .now) (c .before .before .before .before .before .before .before .before .before .args .text .now) (c .before .before .before .before .before .before .before .before .before .args .left) (c .before .before .before .before .before .before .before .before .before .args .word) (c .before .before .before .before .before .before .before .before .before .args .at) (c .before .before .before .before .before .before .before .before .before .args .table .now) (c .before .before .before .before .before .before .before .before .before .args .count .now) (λ z. let l = c .before .before .before .before .before .before .before .before .before .pre .1 .1 in omega arith) (word-is (c .before .before .before .before .before .before .before .before .before .args .word) (c .before .before .before .before .before .before .node-of .ensures) {k = 5} (omega arith)) (c .before .before .eval-star .ensures)
+    let a = c .before .before .before .before .before .before .before .before .args in
+    word-goes (a .words .now) (a .text .now .now) (a .left) (a .word) (a .at) (a .table .now) (a .count .now) (λ z. let l = c .before .before .before .before .before .before .before .before .pre .1 .1 in omega arith) (word-is (a .word) (c .before .before .before .before .before .before .node-of .ensures) {k = 5} (omega arith)) (c .before .before .eval-star .ensures)
 
 eval-word-same-length-4 : (t : ℕ) → eval-word-lts.Need-same-length-4 (eval-word-claims t) (eval-word-at t) eval-word.Post
 eval-word-same-length-4 t c = search needs
@@ -638,7 +742,8 @@ eval-word-same-length-4 t c = search needs
 eval-word-returns-7 : (t : ℕ) → eval-word-lts.Need-returns-7 (eval-word-claims t) (eval-word-at t) eval-word.Post
 unfolding kindM nodeOfKind
 eval-word-returns-7 t c =
-    word-goes (c .before .before .before .before .before .before .before .before .before .args .words .now) (c .before .before .before .before .before .before .before .before .before .args .text .now) (c .before .before .before .before .before .before .before .before .before .args .left) (c .before .before .before .before .before .before .before .before .before .args .word) (c .before .before .before .before .before .before .before .before .before .args .at) (c .before .before .before .before .before .before .before .before .before .args .table .now) (c .before .before .before .before .before .before .before .before .before .args .count .now) (λ z. let l = c .before .before .before .before .before .before .before .before .before .pre .1 .1 in omega arith) (word-is (c .before .before .before .before .before .before .before .before .before .args .word) (c .before .before .before .before .before .before .node-of .ensures) {k = 6} (omega arith)) (c .before .before .eval-not .ensures)
+    let a = c .before .before .before .before .before .before .before .before .args in
+    word-goes (a .words .now) (a .text .now .now) (a .left) (a .word) (a .at) (a .table .now) (a .count .now) (λ z. let l = c .before .before .before .before .before .before .before .before .pre .1 .1 in omega arith) (word-is (a .word) (c .before .before .before .before .before .before .node-of .ensures) {k = 6} (omega arith)) (c .before .before .eval-not .ensures)
 
 eval-word-same-length-5 : (t : ℕ) → eval-word-lts.Need-same-length-5 (eval-word-claims t) (eval-word-at t) eval-word.Post
 eval-word-same-length-5 t c = search needs
@@ -646,19 +751,25 @@ eval-word-same-length-5 t c = search needs
 eval-word-returns-8 : (t : ℕ) → eval-word-lts.Need-returns-8 (eval-word-claims t) (eval-word-at t) eval-word.Post
 unfolding kindM nodeOfKind
 eval-word-returns-8 t c =
-    word-goes (c .before .before .before .before .before .before .before .before .before .args .words .now) (c .before .before .before .before .before .before .before .before .before .args .text .now) (c .before .before .before .before .before .before .before .before .before .args .left) (c .before .before .before .before .before .before .before .before .before .args .word) (c .before .before .before .before .before .before .before .before .before .args .at) (c .before .before .before .before .before .before .before .before .before .args .table .now) (c .before .before .before .before .before .before .before .before .before .args .count .now) (λ z. let l = c .before .before .before .before .before .before .before .before .before .pre .1 .1 in omega arith) (word-is (c .before .before .before .before .before .before .before .before .before .args .word) (c .before .before .before .before .before .before .node-of .ensures) {k = 7} (omega arith)) (rw (c .before .before .before .before .before .before .node-of .ensures .its-b) at (c .before .before .eval-call .ensures))
+    let a = c .before .before .before .before .before .before .before .before .args in
+    let node-of = c .before .before .before .before .before .before .node-of in
+    call-goes (a .words .now) (a .text .now .now) (a .left) (a .word) (a .at) (a .table .now) (a .count .now) (λ z. let l = c .before .before .before .before .before .before .before .before .pre .1 .1 in omega arith) (node-of .ensures .its-b) (word-is (a .word) (node-of .ensures) {k = 7} (omega arith)) (c .before .before .eval-call .ensures)
 
 eval-word-returns-9 : (t : ℕ) → eval-word-lts.Need-returns-9 (eval-word-claims t) (eval-word-at t) eval-word.Post
 unfolding kindM
 eval-word-returns-9 t c =
-    let k = past-7 (c .before .before .node-of .result .kind) (c .before .match .rest .0 .0 .0 .0 .0 .0 .0 .1) (c .before .match .rest .0 .0 .0 .0 .0 .0 .1) (c .before .match .rest .0 .0 .0 .0 .0 .1) (c .before .match .rest .0 .0 .0 .0 .1) (c .before .match .rest .0 .0 .0 .1) (c .before .match .rest .0 .0 .1) (c .before .match .rest .0 .1) (c .before .match .rest .1) in
-    word-goes (c .before .before .before .before .before .args .words .now) (c .before .before .before .before .before .args .text .now) (c .before .before .before .before .before .args .left) (c .before .before .before .before .before .args .word) (c .before .before .before .before .before .args .at) (c .before .before .before .before .before .args .table .now) (c .before .before .before .before .before .args .count .now) (λ z. let l = c .before .before .before .before .before .pre .1 .1 in omega arith) (word-unlawful (c .before .before .before .before .before .args .word) (c .before .before .node-of .ensures) k) (gives-refusal refl (omega arith))
+    let a = c .before .before .before .before .args in
+    let node-of = c .before .before .node-of in
+    let k = past-7 (node-of .result .kind) (c .before .match .rest .0 .0 .0 .0 .0 .0 .0 .1) (c .before .match .rest .0 .0 .0 .0 .0 .0 .1) (c .before .match .rest .0 .0 .0 .0 .0 .1) (c .before .match .rest .0 .0 .0 .0 .1) (c .before .match .rest .0 .0 .0 .1) (c .before .match .rest .0 .0 .1) (c .before .match .rest .0 .1) (c .before .match .rest .1) in
+    word-goes (a .words .now) (a .text .now .now) (a .left) (a .word) (a .at) (a .table .now) (a .count .now) (λ z. let l = c .before .before .before .before .pre .1 .1 in omega arith) (word-unlawful (a .word) (node-of .ensures) k) (gives-refusal refl (omega arith))
 
 eval-word-returns-10 : (t : ℕ) → eval-word-lts.Need-returns-10 (eval-word-claims t) (eval-word-at t) eval-word.Post
 unfolding kindM
 eval-word-returns-10 t c =
-    let k = past-7 (c .before .before .node-of .result .kind) (c .before .match .rest .0 .0 .0 .0 .0 .0 .0 .1) (c .before .match .rest .0 .0 .0 .0 .0 .0 .1) (c .before .match .rest .0 .0 .0 .0 .0 .1) (c .before .match .rest .0 .0 .0 .0 .1) (c .before .match .rest .0 .0 .0 .1) (c .before .match .rest .0 .0 .1) (c .before .match .rest .0 .1) (c .before .match .rest .1) in
-    word-goes (c .before .before .before .before .before .args .words .now) (c .before .before .before .before .before .args .text .now) (c .before .before .before .before .before .args .left) (c .before .before .before .before .before .args .word) (c .before .before .before .before .before .args .at) (c .before .before .before .before .before .args .table .now) (c .before .before .before .before .before .args .count .now) (λ z. let l = c .before .before .before .before .before .pre .1 .1 in omega arith) (word-unlawful (c .before .before .before .before .before .args .word) (c .before .before .node-of .ensures) k) (gives-refusal refl (omega arith))
+    let a = c .before .before .before .before .args in
+    let node-of = c .before .before .node-of in
+    let k = past-7 (node-of .result .kind) (c .before .match .rest .0 .0 .0 .0 .0 .0 .0 .1) (c .before .match .rest .0 .0 .0 .0 .0 .0 .1) (c .before .match .rest .0 .0 .0 .0 .0 .1) (c .before .match .rest .0 .0 .0 .0 .1) (c .before .match .rest .0 .0 .0 .1) (c .before .match .rest .0 .0 .1) (c .before .match .rest .0 .1) (c .before .match .rest .1) in
+    word-goes (a .words .now) (a .text .now .now) (a .left) (a .word) (a .at) (a .table .now) (a .count .now) (λ z. let l = c .before .before .before .before .pre .1 .1 in omega arith) (word-unlawful (a .word) (node-of .ensures) k) (gives-refusal refl (omega arith))
 
 pub +eval-call+eval-choice+eval-node+eval-not+eval-rule+eval-sequence+eval-star+eval-word-spec :
     {M : Type 1} → statement M

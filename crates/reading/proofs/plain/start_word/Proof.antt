@@ -2,7 +2,7 @@ use native.Mathlib.Omega.{arith}
 use mathlib.Core.Path.{_≡_, ap, _∙_}
 use Rattle.grammar.specs.Image.{root, start}
 use Rattle.reading.proofs.LoadedWords.{root-small}
-use Rattle.reading.proofs.FreshSame.{start-given}
+use Rattle.reading.proofs.LoadedRuns.{start-given}
 use borrow.Author.Needs.{needs}
 use Rattle.reading.proofs.plain.start_word.Statement.{statement}
 use Rattle.reading.proofs.plain.start_word.Tie as tie
@@ -26,14 +26,17 @@ array-read-word c =
     let small = root-small (c .before .before .before .before .before .args .image .now) (c .before .header-of .result .start) in
     omega (arith, c .rule-at .ensures .its-root)
 
-fresh-word-requires : tie.Need-fresh-word-requires
-fresh-word-requires c κs = search needs
+slice-aggregate-eval-word : tie.Need-slice-aggregate-eval-word
+slice-aggregate-eval-word c = search needs
+
+eval-word-requires : tie.Need-eval-word-requires
+eval-word-requires c κs = search needs
 
 returns : tie.Need-returns
 returns c =
-    let e : c .before .before .rule-at .result .root ≡ root (c .before .before .before .before .before .before .before .args .image .now) (start (c .before .before .before .before .before .before .before .args .image .now)) =
-    c .before .before .rule-at .ensures .its-root ∙ ap (root (c .before .before .before .before .before .before .before .args .image .now)) (c .before .before .before .header-of .ensures .its-start) in
-    start-given (c .before .before .before .before .before .before .before .args .image .now) (c .before .before .before .before .before .before .before .args .text .now) (c .before .before .before .before .load .ensures) (c .before .before .before .before .before .before .before .pre .1) (rw e at (c .fresh-word .ensures))
+    let e : c .before .before .before .before .before .before .rule-at .result .root ≡ root (c .before .before .before .before .before .before .before .before .before .before .before .args .image .now) (start (c .before .before .before .before .before .before .before .before .before .before .before .args .image .now)) =
+    c .before .before .before .before .before .before .rule-at .ensures .its-root ∙ ap (root (c .before .before .before .before .before .before .before .before .before .before .before .args .image .now)) (c .before .before .before .before .before .before .before .header-of .ensures .its-start) in
+    start-given (c .before .before .before .before .before .before .before .before .before .before .before .args .image .now) (c .before .before .before .before .before .before .before .before .before .before .before .args .t2 .now) (c .before .before .before .before .before .before .before .before .load .ensures) (c .before .before .before .before .before .before .before .before .before .before .before .pre .1) (rw e at (c .before .eval-word .ensures))
 
 pub start-word-spec : {M : Type 1} → statement M
 start-word-spec =
@@ -44,5 +47,6 @@ start-word-spec =
     rule-at-requires
     mul-word
     array-read-word
-    fresh-word-requires
+    slice-aggregate-eval-word
+    eval-word-requires
     returns)

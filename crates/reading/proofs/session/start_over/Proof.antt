@@ -18,10 +18,10 @@ rule-at-requires c κs = search needs
 
 eval-rule-requires : tie.Need-eval-rule-requires
 eval-rule-requires c κs =
-    let small = root-small (c .before .before .before .before .before .before .before .before .before .args .image .now) (c .before .before .before .before .header-of .result .start) in (
-      record { short = c .before .before .before .before .before .before .before .before .before .pre .1; here = omega arith; most = omega arith },
-      omega (arith, c .before .before .before .before .header-of .ensures .its-start, c .before .before .before .before .before .before .before .before .before .pre .0 .lawful .counts .start-rule, c .before .before .before .before .before .before .before .before .before .pre .0 .lawful .counts .few-rules),
-      omega (arith, c .before .before .before .rule-at .ensures .its-root),
+    let small = root-small (c .before .before .before .before .before .before .before .before .before .before .args .image .now) (c .before .before .before .before .before .header-of .result .start) in (
+      record { short = c .before .before .before .before .before .before .before .before .before .before .pre .1; here = omega arith; most = omega arith },
+      omega (arith, c .before .before .before .before .before .header-of .ensures .its-start, c .before .before .before .before .before .before .before .before .before .before .pre .0 .lawful .counts .start-rule, c .before .before .before .before .before .before .before .before .before .before .pre .0 .lawful .counts .few-rules),
+      omega (arith, c .before .before .before .before .rule-at .ensures .its-root),
     )
 
 same-length : tie.Need-same-length
@@ -29,10 +29,10 @@ same-length c = search needs
 
 returns : tie.Need-returns
 returns c =
-    let e : c .before .before .before .before .before .before .rule-at .result .root ≡ root (c .before .before .before .before .before .before .before .before .before .before .before .before .args .image .now) (start (c .before .before .before .before .before .before .before .before .before .before .before .before .args .image .now)) =
-    c .before .before .before .before .before .before .rule-at .ensures .its-root ∙ ap (root (c .before .before .before .before .before .before .before .before .before .before .before .before .args .image .now)) (c .before .before .before .before .before .before .before .header-of .ensures .its-start) in
-    start-over-given (c .before .before .before .before .before .before .before .before .before .before .before .before .args .image .now) (c .before .before .before .before .before .before .before .before .before .before .before .before .args .text .now) (c .before .before .before .before .before .before .before .before .load .ensures) (c .before .before .before .before .before .before .before .before .before .before .before .before .args .table .now) (c .before .before .before .before .before .before .before .before .before .before .before .before .args .count .now)
-    (rw (e, c .before .before .before .before .before .before .before .header-of .ensures .its-start) at (c .before .before .eval-rule .ensures))
+    let e : c .before .before .before .before .before .before .before .rule-at .result .root ≡ root (c .before .before .before .before .before .before .before .before .before .before .before .before .before .args .image .now) (start (c .before .before .before .before .before .before .before .before .before .before .before .before .before .args .image .now)) =
+    c .before .before .before .before .before .before .before .rule-at .ensures .its-root ∙ ap (root (c .before .before .before .before .before .before .before .before .before .before .before .before .before .args .image .now)) (c .before .before .before .before .before .before .before .before .header-of .ensures .its-start) in
+    start-over-given (c .before .before .before .before .before .before .before .before .before .before .before .before .before .args .image .now) (c .before .before .before .before .before .before .before .before .before .before .before .before .before .args .t2 .now) (c .before .before .before .before .before .before .before .before .before .load .ensures) (c .before .before .before .before .before .before .before .before .before .before .before .before .before .args .table .now) (c .before .before .before .before .before .before .before .before .before .before .before .before .before .args .count .now)
+    (rw (e, c .before .before .before .before .before .before .before .before .header-of .ensures .its-start) at (c .before .before .eval-rule .ensures))
 
 pub start-over-spec : {M : Type 1} → statement M
 start-over-spec =
