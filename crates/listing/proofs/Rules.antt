@@ -1,5 +1,5 @@
 -- The ways through a rule and a node of the walk. Assumes nothing.
-use Prim.Native.Nat.{ℕ, zero, suc, _+_, _*_, _-_, _/_, _%_, _≤_, _<_}
+use Prim.Native.Nat.{ℕ, zero, suc, _+_, _*_, _-_, _%_, _≤_, _<_}
 use native.Mathlib.Omega.{arith}
 use mathlib.Core.Path.{_≡_, refl, sym, ap, _∙_, subst}
 use mathlib.Core.Bool.{Bool, true, false, _&&_, and-false}
@@ -20,13 +20,6 @@ use Rattle.rows.proofs.Bounds.{Stays}
 use Rattle.listing.specs.Gives.{Gives, toldLength}
 use Rattle.listing.proofs.Gives.{found, failed, halted, at-once, just, and-then, and-stop}
 use Rattle.listing.proofs.Paths.{prefixed}
-
--- Rule and root as one number.
-pub packed-root : (rule root : ℕ) → root < 4096 → (rule * 4096 + root) % 4096 ≡ root
-packed-root rule root h = omega arith
-
-pub packed-rule : (rule root : ℕ) → root < 4096 → (rule * 4096 + root) / 4096 ≡ rule
-packed-rule rule root h = omega arith
 
 module _ (rules root room : ℕ) (text table : List ℕ) (ev : Walker) (r at lo hi k : ℕ) {word : ℕ} (word-is : word ≡ getD table (at * rules + r) 0)
     (c : ℕ) (l : List ℕ)

@@ -33,12 +33,13 @@ fn walk_all(
     let left = Record::MAX_NESTING;
     walk::walk_rule(
         words,
-        text,
-        table,
+        &text,
+        &table,
         rows,
         count,
         room,
-        start * 4096 + root,
+        start,
+        root,
         0,
         0,
         n,

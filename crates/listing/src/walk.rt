@@ -1,13 +1,14 @@
 // The walk that lists rows. "the calls that made the match, parents first, left to right": a call is entered where its record says
 // that it matched and the window touches it. `left` is the remaining allowance of nesting, as in a reading. An answer is the length of
-// a match, 65,536 for a failure, or 65,536 and the number of a refusal.
+// a match, 65,536 for a failure, or 65,536 and the number of a refusal. Text and table are lent as references to their slices, as in the
+// evaluator: a listing of nesting 4,096 then fits in a thread of 2 MiB.
 use crate::bytes;
 use crate::bytes::FAILED;
 use crate::slots;
 use reading::memo;
 use records::Decoded;
 use records::Record;
-ghost use Prim.Native.Nat.{_+_, _/_, _%_, _<_, _^_};
+ghost use Prim.Native.Nat.{_+_, _<_, _^_};
 ghost use mathlib.Core.Path.{_≡_};
 ghost use lib.ListN.{length};
 ghost use Rattle.grammar.specs.Image.{sequence, choice, star, not-predicate};
@@ -17,8 +18,8 @@ ghost use Rattle.listing.specs.Gives.{Gives, Steady};
 // A node at a position.
 fn walk_node(
     words: &[u32; 4097],
-    text: &[u8],
-    table: &[u64],
+    text: &&[u8],
+    table: &&[u64],
     rows: &mut [u64],
     count: &mut usize,
     room: usize,
@@ -29,8 +30,8 @@ fn walk_node(
     depth: usize,
     left: usize,
 ) -> usize
-    requires { ⌜ Steady (now text) room (now count) at depth left × (node < 4096) ⌝ }
-    ensures { λ r. ⌜ Gives (now (count .entry)) (now (rows .entry)) r (now (rows .exit)) (now (count .exit)) (nodeV room (now (words .entry)) (now (text .entry)) (now (table .entry)) left node at lo hi depth (now (count .entry))) ⌝ }
+    requires { ⌜ Steady (now (now text)) room (now count) at depth left × (node < 4096) ⌝ }
+    ensures { λ r. ⌜ Gives (now (count .entry)) (now (rows .entry)) r (now (rows .exit)) (now (count .exit)) (nodeV room (now (words .entry)) (now (now (text .entry))) (now (now (table .entry))) left node at lo hi depth (now (count .entry))) ⌝ }
 {
     if left == 0 {
         return FAILED + 14;
@@ -41,8 +42,8 @@ fn walk_node(
     let b = fields.b;
     match kind {
         0 => 0,
-        1 => bytes::any_byte(text, at),
-        2 => bytes::byte_between(text, a, b, at),
+        1 => bytes::any_byte(*text, at),
+        2 => bytes::byte_between(*text, a, b, at),
         3 => walk_sequence(
             words,
             text,
@@ -106,7 +107,8 @@ fn walk_node(
             rows,
             count,
             room,
-            a * 4096 + b,
+            a,
+            b,
             at,
             lo,
             hi,
@@ -122,8 +124,8 @@ fn walk_node(
 // A then B. What fails or is refused ends it.
 fn walk_sequence(
     words: &[u32; 4097],
-    text: &[u8],
-    table: &[u64],
+    text: &&[u8],
+    table: &&[u64],
     rows: &mut [u64],
     count: &mut usize,
     room: usize,
@@ -135,8 +137,8 @@ fn walk_sequence(
     depth: usize,
     left: usize,
 ) -> usize
-    requires { ⌜ Steady (now text) room (now count) at depth (left + 1) × (a < 4096) × (b < 4096) ⌝ }
-    ensures { λ r. ⌜ Gives (now (count .entry)) (now (rows .entry)) r (now (rows .exit)) (now (count .exit)) (insideV room (now (words .entry)) (now (text .entry)) (now (table .entry)) left b (sequence a b) at lo hi depth (now (count .entry))) ⌝ }
+    requires { ⌜ Steady (now (now text)) room (now count) at depth (left + 1) × (a < 4096) × (b < 4096) ⌝ }
+    ensures { λ r. ⌜ Gives (now (count .entry)) (now (rows .entry)) r (now (rows .exit)) (now (count .exit)) (insideV room (now (words .entry)) (now (now (text .entry))) (now (now (table .entry))) left b (sequence a b) at lo hi depth (now (count .entry))) ⌝ }
 {
     let x = walk_node(
         words,
@@ -178,8 +180,8 @@ fn walk_sequence(
 // A else B.
 fn walk_choice(
     words: &[u32; 4097],
-    text: &[u8],
-    table: &[u64],
+    text: &&[u8],
+    table: &&[u64],
     rows: &mut [u64],
     count: &mut usize,
     room: usize,
@@ -191,8 +193,8 @@ fn walk_choice(
     depth: usize,
     left: usize,
 ) -> usize
-    requires { ⌜ Steady (now text) room (now count) at depth (left + 1) × (a < 4096) × (b < 4096) ⌝ }
-    ensures { λ r. ⌜ Gives (now (count .entry)) (now (rows .entry)) r (now (rows .exit)) (now (count .exit)) (insideV room (now (words .entry)) (now (text .entry)) (now (table .entry)) left b (choice a b) at lo hi depth (now (count .entry))) ⌝ }
+    requires { ⌜ Steady (now (now text)) room (now count) at depth (left + 1) × (a < 4096) × (b < 4096) ⌝ }
+    ensures { λ r. ⌜ Gives (now (count .entry)) (now (rows .entry)) r (now (rows .exit)) (now (count .exit)) (insideV room (now (words .entry)) (now (now (text .entry))) (now (now (table .entry))) left b (choice a b) at lo hi depth (now (count .entry))) ⌝ }
 {
     let x = walk_part(
         words,
@@ -230,8 +232,8 @@ fn walk_choice(
 // Not A: only looked at.
 fn walk_not(
     words: &[u32; 4097],
-    text: &[u8],
-    table: &[u64],
+    text: &&[u8],
+    table: &&[u64],
     rows: &mut [u64],
     count: &mut usize,
     room: usize,
@@ -240,8 +242,8 @@ fn walk_not(
     depth: usize,
     left: usize,
 ) -> usize
-    requires { ⌜ Steady (now text) room (now count) at depth (left + 1) × (a < 4096) ⌝ }
-    ensures { λ r. ⌜ Gives (now (count .entry)) (now (rows .entry)) r (now (rows .exit)) (now (count .exit)) (insideV room (now (words .entry)) (now (text .entry)) (now (table .entry)) left 0 (not-predicate a) at 0 0 depth (now (count .entry))) ⌝ }
+    requires { ⌜ Steady (now (now text)) room (now count) at depth (left + 1) × (a < 4096) ⌝ }
+    ensures { λ r. ⌜ Gives (now (count .entry)) (now (rows .entry)) r (now (rows .exit)) (now (count .exit)) (insideV room (now (words .entry)) (now (now (text .entry))) (now (now (table .entry))) left 0 (not-predicate a) at 0 0 depth (now (count .entry))) ⌝ }
 {
     let x = walk_node(
         words,
@@ -269,8 +271,8 @@ fn walk_not(
 // A zero or more times: rounds until one fails.
 fn walk_star(
     words: &[u32; 4097],
-    text: &[u8],
-    table: &[u64],
+    text: &&[u8],
+    table: &&[u64],
     rows: &mut [u64],
     count: &mut usize,
     room: usize,
@@ -281,8 +283,8 @@ fn walk_star(
     depth: usize,
     left: usize,
 ) -> usize
-    requires { ⌜ Steady (now text) room (now count) at depth (left + 1) × (a < 4096) ⌝ }
-    ensures { λ r. ⌜ Gives (now (count .entry)) (now (rows .entry)) r (now (rows .exit)) (now (count .exit)) (insideV room (now (words .entry)) (now (text .entry)) (now (table .entry)) left 0 (star a) at lo hi depth (now (count .entry))) ⌝ }
+    requires { ⌜ Steady (now (now text)) room (now count) at depth (left + 1) × (a < 4096) ⌝ }
+    ensures { λ r. ⌜ Gives (now (count .entry)) (now (rows .entry)) r (now (rows .exit)) (now (count .exit)) (insideV room (now (words .entry)) (now (now (text .entry))) (now (now (table .entry))) left 0 (star a) at lo hi depth (now (count .entry))) ⌝ }
 {
     let mut before = 0usize;
     loop {
@@ -316,8 +318,8 @@ fn walk_star(
 // A node that may fail: looked at first, then walked where it matched and the window touches it.
 fn walk_part(
     words: &[u32; 4097],
-    text: &[u8],
-    table: &[u64],
+    text: &&[u8],
+    table: &&[u64],
     rows: &mut [u64],
     count: &mut usize,
     room: usize,
@@ -328,8 +330,8 @@ fn walk_part(
     depth: usize,
     left: usize,
 ) -> usize
-    requires { ⌜ Steady (now text) room (now count) at depth left × (a < 4096) ⌝ }
-    ensures { λ r. ⌜ Gives (now (count .entry)) (now (rows .entry)) r (now (rows .exit)) (now (count .exit)) (partV (length (now (text .entry))) (nodeV room (now (words .entry)) (now (text .entry)) (now (table .entry)) left) a at lo hi depth (now (count .entry))) ⌝ }
+    requires { ⌜ Steady (now (now text)) room (now count) at depth left × (a < 4096) ⌝ }
+    ensures { λ r. ⌜ Gives (now (count .entry)) (now (rows .entry)) r (now (rows .exit)) (now (count .exit)) (partV (length (now (now (text .entry)))) (nodeV room (now (words .entry)) (now (now (text .entry))) (now (now (table .entry))) left) a at lo hi depth (now (count .entry))) ⌝ }
 {
     let x = walk_node(
         words,
@@ -373,30 +375,27 @@ fn wide(word: u32) -> usize
     word as usize
 }
 
-// The word in a slot of the table; a slot past it reads as 0.
-// A rule at a position: its record, its row, and the rows of its body. Rule and root are one argument, `call`, which has 12 bits for each:
-// with one more a thread of 2 MiB would not hold a listing of nesting 4,096.
+// A rule at a position: its record, its row, and the rows of its body, which has that root.
 pub fn walk_rule(
     words: &[u32; 4097],
-    text: &[u8],
-    table: &[u64],
+    text: &&[u8],
+    table: &&[u64],
     rows: &mut [u64],
     count: &mut usize,
     room: usize,
-    call: usize,
+    rule: usize,
+    root: usize,
     at: usize,
     lo: usize,
     hi: usize,
     depth: usize,
     left: usize,
 ) -> usize
-    requires { ⌜ Steady (now text) room (now count) at depth (left + 1) × (call < 2 ^ 24) ⌝ }
-    ensures { λ r. ⌜ Gives (now (count .entry)) (now (rows .entry)) r (now (rows .exit)) (now (count .exit)) (ruleV room (now (words .entry)) (now (text .entry)) (now (table .entry)) left (call % 4096) (call / 4096) at lo hi depth (now (count .entry))) ⌝ }
+    requires { ⌜ Steady (now (now text)) room (now count) at depth (left + 1) × (rule < 4096) × (root < 4096) ⌝ }
+    ensures { λ r. ⌜ Gives (now (count .entry)) (now (rows .entry)) r (now (rows .exit)) (now (count .exit)) (ruleV room (now (words .entry)) (now (now (text .entry))) (now (now (table .entry))) left root rule at lo hi depth (now (count .entry))) ⌝ }
 {
-    let rule = call / 4096;
-    let root = call % 4096;
     let rules = wide(words[4096]);
-    let word = memo::look(table, rules, rule, at);
+    let word = memo::look(*table, rules, rule, at);
     if !records::is_held(word) {
         return FAILED + 12;
     }

@@ -1,7 +1,7 @@
 -- The cycle of the walk: each function answers, writes and counts as the walk of crate rows does. Each answer is a way of proofs/Paths
 -- or proofs/Rules. The measure is three times the allowance, a node below a part, a part below the kinds. Assumes nothing.
 use Rattle.listing.proofs.Paths.{sequence-first, sequence-ends, sequence-second-ends, sequence-second, sequence-both, not-stops, not-fails, not-matches, part-found, part-ends, part-missed, part-goes, choice-first, choice-failed, choice-second, Rounds, star-start, star-stops, star-last, star-found, star-still, star-more}
-use Rattle.listing.proofs.Rules.{packed-root, packed-rule, rule-empty, rule-impossible, rule-failed, rule-in-text, rule-missed, rule-full, rule-stops, rule-goes, node-too-deep, node-goes, empty-goes, unlawful-goes, terminal-goes}
+use Rattle.listing.proofs.Rules.{rule-empty, rule-impossible, rule-failed, rule-in-text, rule-missed, rule-full, rule-stops, rule-goes, node-too-deep, node-goes, empty-goes, unlawful-goes, terminal-goes}
 use Rattle.reading.proofs.Rules.{was-possible, was-impossible, past-7}
 use Rattle.reading.proofs.LoadedRuns.{word-is, word-unlawful}
 use Rattle.reading.specs.Loaded.{rulesIn}
@@ -56,81 +56,81 @@ use Rattle.listing.proofs.walk.+walk_choice+walk_node+walk_not+walk_par
   close,
 }
 
-abbrev μ-walk-choice : Measures 5 walk-choice-kinds.ps ℕ
+abbrev μ-walk-choice : Measures 7 walk-choice-kinds.ps ℕ
 μ-walk-choice κs a = 3 * (a .1 .1 .1 .1 .1 .1 .1 .1 .1 .1 .1 .1 .0) + 2
 
-abbrev μ-walk-node : Measures 5 walk-node-kinds.ps ℕ
+abbrev μ-walk-node : Measures 7 walk-node-kinds.ps ℕ
 μ-walk-node κs a = 3 * (a .1 .1 .1 .1 .1 .1 .1 .1 .1 .1 .1 .0) + 0
 
-abbrev μ-walk-not : Measures 5 walk-not-kinds.ps ℕ
+abbrev μ-walk-not : Measures 7 walk-not-kinds.ps ℕ
 μ-walk-not κs a = 3 * (a .1 .1 .1 .1 .1 .1 .1 .1 .1 .0) + 2
 
-abbrev μ-walk-part : Measures 5 walk-part-kinds.ps ℕ
+abbrev μ-walk-part : Measures 7 walk-part-kinds.ps ℕ
 μ-walk-part κs a = 3 * (a .1 .1 .1 .1 .1 .1 .1 .1 .1 .1 .1 .0) + 1
 
-abbrev μ-walk-rule : Measures 5 walk-rule-kinds.ps ℕ
-μ-walk-rule κs a = 3 * (a .1 .1 .1 .1 .1 .1 .1 .1 .1 .1 .1 .0) + 2
+abbrev μ-walk-rule : Measures 7 walk-rule-kinds.ps ℕ
+μ-walk-rule κs a = 3 * (a .1 .1 .1 .1 .1 .1 .1 .1 .1 .1 .1 .1 .0) + 2
 
-abbrev μ-walk-sequence : Measures 5 walk-sequence-kinds.ps ℕ
+abbrev μ-walk-sequence : Measures 7 walk-sequence-kinds.ps ℕ
 μ-walk-sequence κs a = 3 * (a .1 .1 .1 .1 .1 .1 .1 .1 .1 .1 .1 .1 .0) + 2
 
-abbrev μ-walk-star : Measures 5 walk-star-kinds.ps ℕ
+abbrev μ-walk-star : Measures 7 walk-star-kinds.ps ℕ
 μ-walk-star κs a = 3 * (a .1 .1 .1 .1 .1 .1 .1 .1 .1 .1 .1 .0) + 2
 
-abbrev walk-choice-at : ℕ → In 5 walk-choice-kinds.ps
+abbrev walk-choice-at : ℕ → In 7 walk-choice-kinds.ps
 walk-choice-at t =
-    and 5 walk-choice-kinds.ps (is 5 walk-choice-kinds.ps μ-walk-choice t) walk-choice.Pre
+    and 7 walk-choice-kinds.ps (is 7 walk-choice-kinds.ps μ-walk-choice t) walk-choice.Pre
 
-abbrev walk-choice-below : ℕ → In 5 walk-choice-kinds.ps
+abbrev walk-choice-below : ℕ → In 7 walk-choice-kinds.ps
 walk-choice-below t =
-    and 5 walk-choice-kinds.ps (falls 5 walk-choice-kinds.ps _<_ μ-walk-choice t) walk-choice.Pre
+    and 7 walk-choice-kinds.ps (falls 7 walk-choice-kinds.ps _<_ μ-walk-choice t) walk-choice.Pre
 
-abbrev walk-node-at : ℕ → In 5 walk-node-kinds.ps
-walk-node-at t = and 5 walk-node-kinds.ps (is 5 walk-node-kinds.ps μ-walk-node t) walk-node.Pre
+abbrev walk-node-at : ℕ → In 7 walk-node-kinds.ps
+walk-node-at t = and 7 walk-node-kinds.ps (is 7 walk-node-kinds.ps μ-walk-node t) walk-node.Pre
 
-abbrev walk-node-below : ℕ → In 5 walk-node-kinds.ps
+abbrev walk-node-below : ℕ → In 7 walk-node-kinds.ps
 walk-node-below t =
-    and 5 walk-node-kinds.ps (falls 5 walk-node-kinds.ps _<_ μ-walk-node t) walk-node.Pre
+    and 7 walk-node-kinds.ps (falls 7 walk-node-kinds.ps _<_ μ-walk-node t) walk-node.Pre
 
-abbrev walk-not-at : ℕ → In 5 walk-not-kinds.ps
-walk-not-at t = and 5 walk-not-kinds.ps (is 5 walk-not-kinds.ps μ-walk-not t) walk-not.Pre
+abbrev walk-not-at : ℕ → In 7 walk-not-kinds.ps
+walk-not-at t = and 7 walk-not-kinds.ps (is 7 walk-not-kinds.ps μ-walk-not t) walk-not.Pre
 
-abbrev walk-not-below : ℕ → In 5 walk-not-kinds.ps
+abbrev walk-not-below : ℕ → In 7 walk-not-kinds.ps
 walk-not-below t =
-    and 5 walk-not-kinds.ps (falls 5 walk-not-kinds.ps _<_ μ-walk-not t) walk-not.Pre
+    and 7 walk-not-kinds.ps (falls 7 walk-not-kinds.ps _<_ μ-walk-not t) walk-not.Pre
 
-abbrev walk-part-at : ℕ → In 5 walk-part-kinds.ps
-walk-part-at t = and 5 walk-part-kinds.ps (is 5 walk-part-kinds.ps μ-walk-part t) walk-part.Pre
+abbrev walk-part-at : ℕ → In 7 walk-part-kinds.ps
+walk-part-at t = and 7 walk-part-kinds.ps (is 7 walk-part-kinds.ps μ-walk-part t) walk-part.Pre
 
-abbrev walk-part-below : ℕ → In 5 walk-part-kinds.ps
+abbrev walk-part-below : ℕ → In 7 walk-part-kinds.ps
 walk-part-below t =
-    and 5 walk-part-kinds.ps (falls 5 walk-part-kinds.ps _<_ μ-walk-part t) walk-part.Pre
+    and 7 walk-part-kinds.ps (falls 7 walk-part-kinds.ps _<_ μ-walk-part t) walk-part.Pre
 
-abbrev walk-rule-at : ℕ → In 5 walk-rule-kinds.ps
-walk-rule-at t = and 5 walk-rule-kinds.ps (is 5 walk-rule-kinds.ps μ-walk-rule t) walk-rule.Pre
+abbrev walk-rule-at : ℕ → In 7 walk-rule-kinds.ps
+walk-rule-at t = and 7 walk-rule-kinds.ps (is 7 walk-rule-kinds.ps μ-walk-rule t) walk-rule.Pre
 
-abbrev walk-rule-below : ℕ → In 5 walk-rule-kinds.ps
+abbrev walk-rule-below : ℕ → In 7 walk-rule-kinds.ps
 walk-rule-below t =
-    and 5 walk-rule-kinds.ps (falls 5 walk-rule-kinds.ps _<_ μ-walk-rule t) walk-rule.Pre
+    and 7 walk-rule-kinds.ps (falls 7 walk-rule-kinds.ps _<_ μ-walk-rule t) walk-rule.Pre
 
-abbrev walk-sequence-at : ℕ → In 5 walk-sequence-kinds.ps
+abbrev walk-sequence-at : ℕ → In 7 walk-sequence-kinds.ps
 walk-sequence-at t =
-    and 5 walk-sequence-kinds.ps (is 5 walk-sequence-kinds.ps μ-walk-sequence t) walk-sequence.Pre
+    and 7 walk-sequence-kinds.ps (is 7 walk-sequence-kinds.ps μ-walk-sequence t) walk-sequence.Pre
 
-abbrev walk-sequence-below : ℕ → In 5 walk-sequence-kinds.ps
+abbrev walk-sequence-below : ℕ → In 7 walk-sequence-kinds.ps
 walk-sequence-below t =
     and
-    5
+    7
     walk-sequence-kinds.ps
-    (falls 5 walk-sequence-kinds.ps _<_ μ-walk-sequence t)
+    (falls 7 walk-sequence-kinds.ps _<_ μ-walk-sequence t)
     walk-sequence.Pre
 
-abbrev walk-star-at : ℕ → In 5 walk-star-kinds.ps
-walk-star-at t = and 5 walk-star-kinds.ps (is 5 walk-star-kinds.ps μ-walk-star t) walk-star.Pre
+abbrev walk-star-at : ℕ → In 7 walk-star-kinds.ps
+walk-star-at t = and 7 walk-star-kinds.ps (is 7 walk-star-kinds.ps μ-walk-star t) walk-star.Pre
 
-abbrev walk-star-below : ℕ → In 5 walk-star-kinds.ps
+abbrev walk-star-below : ℕ → In 7 walk-star-kinds.ps
 walk-star-below t =
-    and 5 walk-star-kinds.ps (falls 5 walk-star-kinds.ps _<_ μ-walk-star t) walk-star.Pre
+    and 7 walk-star-kinds.ps (falls 7 walk-star-kinds.ps _<_ μ-walk-star t) walk-star.Pre
 
 abbrev walk-choice-claims : ℕ → walk-choice-lts.Claims
 walk-choice-claims t = (walk-part-below t, walk-part.Post, walk-node-below t, walk-node.Post)
@@ -155,51 +155,54 @@ walk-star-claims t = (walk-part-below t, walk-part.Post)
 
 walk-choice-walk-part-requires : (t : ℕ) → walk-choice-lts.Need-walk-part-requires (walk-choice-claims t) (walk-choice-at t) walk-choice.Post
 walk-choice-walk-part-requires t c κs =
-    let entry = c .before .before .before .before .before in
-    (omega (arith, entry .pre .0), (record { short = (entry .pre .1 .0 .short); here = (entry .pre .1 .0 .here); few = (entry .pre .1 .0 .few); shallow = omega (arith, entry .pre .1 .0 .shallow) }, entry .pre .1 .1))
+    let pre = c .before .before .before .pre in
+    (omega (arith, pre .0), (record { short = (pre .1 .0 .short); here = (pre .1 .0 .here); few = (pre .1 .0 .few); shallow = omega (arith, pre .1 .0 .shallow) }, pre .1 .1))
 
 walk-choice-same-length : (t : ℕ) → walk-choice-lts.Need-same-length (walk-choice-claims t) (walk-choice-at t) walk-choice.Post
 walk-choice-same-length t c = search needs
 
 walk-choice-returns : (t : ℕ) → walk-choice-lts.Need-returns (walk-choice-claims t) (walk-choice-at t) walk-choice.Post
 walk-choice-returns t c =
-    let entry = c .before .before .before .before .before .before .before .before .before in
-    let given = entry .args in
-    let inner = nodeV (given .room) (given .words .now) (given .text .now) (given .table .now) (given .left) in
-    choice-first (given .text .now) (given .room) inner (entry .pre .1 .0 .short) (node-bounded (given .room) (given .words .now) (given .text .now) (given .table .now) (given .left)) (pairV (rulesIn (given .words .now)) (given .b) (given .room) (given .text .now) (given .table .now) inner) (given .a) (given .b) (given .at) (given .lo) (given .hi) (given .depth) (entry .pre .1 .0 .here) (entry .pre .1 .0 .few) (c .before .before .before .walk-part .ensures) (c .if1 .taken)
+    let given = c .before .before .before .before .before .before .before .args in
+    let pre = c .before .before .before .before .before .before .before .pre in
+    let inner = nodeV (given .room) (given .words .now) (given .text .now .now) (given .table .now .now) (given .left) in
+    choice-first (given .text .now .now) (given .room) inner (pre .1 .0 .short) (node-bounded (given .room) (given .words .now) (given .text .now .now) (given .table .now .now) (given .left)) (pairV (rulesIn (given .words .now)) (given .b) (given .room) (given .text .now .now) (given .table .now .now) inner) (given .a) (given .b) (given .at) (given .lo) (given .hi) (given .depth) (pre .1 .0 .here) (pre .1 .0 .few) (c .before .before .before .walk-part .ensures) (c .if1 .taken)
 
 walk-choice-walk-node-requires : (t : ℕ) → walk-choice-lts.Need-walk-node-requires (walk-choice-claims t) (walk-choice-at t) walk-choice.Post
 walk-choice-walk-node-requires t c κs =
-    let entry = c .before .before .before .before .before .before .before .before .before .before .before in
-    let given = entry .args in
-    let inner = nodeV (given .room) (given .words .now) (given .text .now) (given .table .now) (given .left) in
-    (omega (arith, entry .pre .0), (record { short = (entry .pre .1 .0 .short); here = (entry .pre .1 .0 .here); few = choice-failed (given .text .now) (given .room) inner (entry .pre .1 .0 .short) (node-bounded (given .room) (given .words .now) (given .text .now) (given .table .now) (given .left)) (pairV (rulesIn (given .words .now)) (given .b) (given .room) (given .text .now) (given .table .now) inner) (given .a) (given .b) (given .at) (given .lo) (given .hi) (given .depth) (entry .pre .1 .0 .here) (entry .pre .1 .0 .few) (c .before .before .before .before .before .walk-part .ensures) (c .before .before .if1 .left); shallow = omega (arith, entry .pre .1 .0 .shallow) }, entry .pre .1 .2))
+    let given = c .before .before .before .before .before .before .before .before .before .args in
+    let pre = c .before .before .before .before .before .before .before .before .before .pre in
+    let x = c .before .before .before .before .before .walk-part in
+    let inner = nodeV (given .room) (given .words .now) (given .text .now .now) (given .table .now .now) (given .left) in
+    (omega (arith, pre .0), (record { short = (pre .1 .0 .short); here = (pre .1 .0 .here); few = choice-failed (given .text .now .now) (given .room) inner (pre .1 .0 .short) (node-bounded (given .room) (given .words .now) (given .text .now .now) (given .table .now .now) (given .left)) (pairV (rulesIn (given .words .now)) (given .b) (given .room) (given .text .now .now) (given .table .now .now) inner) (given .a) (given .b) (given .at) (given .lo) (given .hi) (given .depth) (pre .1 .0 .here) (pre .1 .0 .few) (x .ensures) (c .before .before .if1 .left); shallow = omega (arith, pre .1 .0 .shallow) }, pre .1 .2))
 
 walk-choice-same-length-2 : (t : ℕ) → walk-choice-lts.Need-same-length-2 (walk-choice-claims t) (walk-choice-at t) walk-choice.Post
 walk-choice-same-length-2 t c = search needs
 
 walk-choice-returns-2 : (t : ℕ) → walk-choice-lts.Need-returns-2 (walk-choice-claims t) (walk-choice-at t) walk-choice.Post
 walk-choice-returns-2 t c =
-    let entry = c .before .before .before .before .before .before .before .before .before .before .before .before .before .before in
-    let given = entry .args in
-    let inner = nodeV (given .room) (given .words .now) (given .text .now) (given .table .now) (given .left) in
-    choice-second (given .text .now) (given .room) inner (entry .pre .1 .0 .short) (node-bounded (given .room) (given .words .now) (given .text .now) (given .table .now) (given .left)) (pairV (rulesIn (given .words .now)) (given .b) (given .room) (given .text .now) (given .table .now) inner) (given .a) (given .b) (given .at) (given .lo) (given .hi) (given .depth) (entry .pre .1 .0 .here) (entry .pre .1 .0 .few) (c .before .before .before .before .before .before .before .before .walk-part .ensures) (c .before .before .before .before .before .if1 .left) (c .before .before .walk-node .ensures)
+    let given = c .before .before .before .before .before .before .before .before .before .before .before .before .args in
+    let pre = c .before .before .before .before .before .before .before .before .before .before .before .before .pre in
+    let x = c .before .before .before .before .before .before .before .before .walk-part in
+    let if1 = c .before .before .before .before .before .if1 in
+    let inner = nodeV (given .room) (given .words .now) (given .text .now .now) (given .table .now .now) (given .left) in
+    choice-second (given .text .now .now) (given .room) inner (pre .1 .0 .short) (node-bounded (given .room) (given .words .now) (given .text .now .now) (given .table .now .now) (given .left)) (pairV (rulesIn (given .words .now)) (given .b) (given .room) (given .text .now .now) (given .table .now .now) inner) (given .a) (given .b) (given .at) (given .lo) (given .hi) (given .depth) (pre .1 .0 .here) (pre .1 .0 .few) (x .ensures) (if1 .left) (c .before .before .walk-node .ensures)
 
 walk-node-add-result : (t : ℕ) → walk-node-lts.Need-add-result (walk-node-claims t) (walk-node-at t) walk-node.Post
 walk-node-add-result t c = search needs
 
 walk-node-returns : (t : ℕ) → walk-node-lts.Need-returns (walk-node-claims t) (walk-node-at t) walk-node.Post
 walk-node-returns t c =
-    let given = c .before .before .before .before .args in
-    node-too-deep (given .room) (given .words .now) (given .text .now) (given .table .now) (given .node) (given .at) (given .lo) (given .hi) (given .depth) (given .count .now) (given .rows .now) (given .left) (c .if1 .taken)
+    let given = c .before .before .args in
+    node-too-deep (given .room) (given .words .now) (given .text .now .now) (given .table .now .now) (given .node) (given .at) (given .lo) (given .hi) (given .depth) (given .count .now) (given .rows .now) (given .left) (c .if1 .taken)
 
 walk-node-mul-node-of : (t : ℕ) → walk-node-lts.Need-mul-node-of (walk-node-claims t) (walk-node-at t) walk-node.Post
 walk-node-mul-node-of t c =
-    omega (arith, c .before .before .before .before .pre .1 .1)
+    omega (arith, c .before .before .pre .1 .1)
 
 walk-node-element-copy-out-node-of : (t : ℕ) → walk-node-lts.Need-element-copy-out-node-of (walk-node-claims t) (walk-node-at t) walk-node.Post
 walk-node-element-copy-out-node-of t c =
-    omega (arith, c .before .before .before .before .pre .1 .1)
+    omega (arith, c .before .before .pre .1 .1)
 
 walk-node-node-of-requires : (t : ℕ) → walk-node-lts.Need-node-of-requires (walk-node-claims t) (walk-node-at t) walk-node.Post
 walk-node-node-of-requires t c κs = search needs
@@ -212,54 +215,61 @@ walk-node-byte-between-requires t c κs = search needs
 
 walk-node-sub-walk-sequence : (t : ℕ) → walk-node-lts.Need-sub-walk-sequence (walk-node-claims t) (walk-node-at t) walk-node.Post
 walk-node-sub-walk-sequence t c =
-    let ne = c .before .before .before .before .before .if1 .left in omega (arith, ne)
+    let if1 = c .before .before .before .before .before .if1 in
+    let ne = if1 .left in omega (arith, ne)
 
 walk-node-walk-sequence-requires : (t : ℕ) → walk-node-lts.Need-walk-sequence-requires (walk-node-claims t) (walk-node-at t) walk-node.Post
 walk-node-walk-sequence-requires t c κs =
-    let entry = c .before .before .before .before .before .before .before .before .before in
-    let ne = c .before .before .before .before .before .if1 .left in (omega (arith, ne, entry .pre .0), (record { short = (entry .pre .1 .0 .short); here = (entry .pre .1 .0 .here); few = (entry .pre .1 .0 .few); shallow = omega (arith, ne, entry .pre .1 .0 .shallow) }, omega (arith, c .before .before .before .node-of .ensures .its-a), omega (arith, c .before .before .before .node-of .ensures .its-b)))
+    let pre = c .before .before .before .before .before .before .before .pre in
+    let if1 = c .before .before .before .before .before .if1 in
+    let node-of = c .before .before .before .node-of in
+    let ne = if1 .left in (omega (arith, ne, pre .0), (record { short = (pre .1 .0 .short); here = (pre .1 .0 .here); few = (pre .1 .0 .few); shallow = omega (arith, ne, pre .1 .0 .shallow) }, omega (arith, node-of .ensures .its-a), omega (arith, node-of .ensures .its-b)))
 
 walk-node-sub-walk-choice : (t : ℕ) → walk-node-lts.Need-sub-walk-choice (walk-node-claims t) (walk-node-at t) walk-node.Post
 walk-node-sub-walk-choice t c =
-    let ne = c .before .before .before .before .before .if1 .left in omega (arith, ne)
+    let if1 = c .before .before .before .before .before .if1 in
+    let ne = if1 .left in omega (arith, ne)
 
 walk-node-walk-choice-requires : (t : ℕ) → walk-node-lts.Need-walk-choice-requires (walk-node-claims t) (walk-node-at t) walk-node.Post
 walk-node-walk-choice-requires t c κs =
-    let entry = c .before .before .before .before .before .before .before .before .before in
-    let ne = c .before .before .before .before .before .if1 .left in (omega (arith, ne, entry .pre .0), (record { short = (entry .pre .1 .0 .short); here = (entry .pre .1 .0 .here); few = (entry .pre .1 .0 .few); shallow = omega (arith, ne, entry .pre .1 .0 .shallow) }, omega (arith, c .before .before .before .node-of .ensures .its-a), omega (arith, c .before .before .before .node-of .ensures .its-b)))
+    let pre = c .before .before .before .before .before .before .before .pre in
+    let if1 = c .before .before .before .before .before .if1 in
+    let node-of = c .before .before .before .node-of in
+    let ne = if1 .left in (omega (arith, ne, pre .0), (record { short = (pre .1 .0 .short); here = (pre .1 .0 .here); few = (pre .1 .0 .few); shallow = omega (arith, ne, pre .1 .0 .shallow) }, omega (arith, node-of .ensures .its-a), omega (arith, node-of .ensures .its-b)))
 
 walk-node-sub-walk-star : (t : ℕ) → walk-node-lts.Need-sub-walk-star (walk-node-claims t) (walk-node-at t) walk-node.Post
 walk-node-sub-walk-star t c =
-    let ne = c .before .before .before .before .before .if1 .left in omega (arith, ne)
+    let if1 = c .before .before .before .before .before .if1 in
+    let ne = if1 .left in omega (arith, ne)
 
 walk-node-walk-star-requires : (t : ℕ) → walk-node-lts.Need-walk-star-requires (walk-node-claims t) (walk-node-at t) walk-node.Post
 walk-node-walk-star-requires t c κs =
-    let entry = c .before .before .before .before .before .before .before .before .before in
-    let ne = c .before .before .before .before .before .if1 .left in (omega (arith, ne, entry .pre .0), (record { short = (entry .pre .1 .0 .short); here = (entry .pre .1 .0 .here); few = (entry .pre .1 .0 .few); shallow = omega (arith, ne, entry .pre .1 .0 .shallow) }, omega (arith, c .before .before .before .node-of .ensures .its-a)))
+    let pre = c .before .before .before .before .before .before .before .pre in
+    let if1 = c .before .before .before .before .before .if1 in
+    let ne = if1 .left in (omega (arith, ne, pre .0), (record { short = (pre .1 .0 .short); here = (pre .1 .0 .here); few = (pre .1 .0 .few); shallow = omega (arith, ne, pre .1 .0 .shallow) }, omega (arith, c .before .before .before .node-of .ensures .its-a)))
 
 walk-node-sub-walk-not : (t : ℕ) → walk-node-lts.Need-sub-walk-not (walk-node-claims t) (walk-node-at t) walk-node.Post
 walk-node-sub-walk-not t c =
-    let ne = c .before .before .before .before .before .if1 .left in omega (arith, ne)
+    let if1 = c .before .before .before .before .before .if1 in
+    let ne = if1 .left in omega (arith, ne)
 
 walk-node-walk-not-requires : (t : ℕ) → walk-node-lts.Need-walk-not-requires (walk-node-claims t) (walk-node-at t) walk-node.Post
 walk-node-walk-not-requires t c κs =
-    let entry = c .before .before .before .before .before .before .before .before .before in
-    let ne = c .before .before .before .before .before .if1 .left in (omega (arith, ne, entry .pre .0), (record { short = (entry .pre .1 .0 .short); here = (entry .pre .1 .0 .here); few = (entry .pre .1 .0 .few); shallow = omega (arith, ne, entry .pre .1 .0 .shallow) }, omega (arith, c .before .before .before .node-of .ensures .its-a)))
-
-walk-node-mul-walk-rule : (t : ℕ) → walk-node-lts.Need-mul-walk-rule (walk-node-claims t) (walk-node-at t) walk-node.Post
-walk-node-mul-walk-rule t c = omega (arith, c .before .before .before .node-of .ensures .its-a)
-
-walk-node-add-walk-rule : (t : ℕ) → walk-node-lts.Need-add-walk-rule (walk-node-claims t) (walk-node-at t) walk-node.Post
-walk-node-add-walk-rule t c = omega (arith, c .before .before .before .node-of .ensures .its-a, c .before .before .before .node-of .ensures .its-b)
+    let pre = c .before .before .before .before .before .before .before .pre in
+    let if1 = c .before .before .before .before .before .if1 in
+    let ne = if1 .left in (omega (arith, ne, pre .0), (record { short = (pre .1 .0 .short); here = (pre .1 .0 .here); few = (pre .1 .0 .few); shallow = omega (arith, ne, pre .1 .0 .shallow) }, omega (arith, c .before .before .before .node-of .ensures .its-a)))
 
 walk-node-sub-walk-rule : (t : ℕ) → walk-node-lts.Need-sub-walk-rule (walk-node-claims t) (walk-node-at t) walk-node.Post
 walk-node-sub-walk-rule t c =
-    let ne = c .before .before .before .before .before .if1 .left in omega (arith, ne)
+    let if1 = c .before .before .before .before .before .if1 in
+    let ne = if1 .left in omega (arith, ne)
 
 walk-node-walk-rule-requires : (t : ℕ) → walk-node-lts.Need-walk-rule-requires (walk-node-claims t) (walk-node-at t) walk-node.Post
 walk-node-walk-rule-requires t c κs =
-    let entry = c .before .before .before .before .before .before .before .before .before in
-    let ne = c .before .before .before .before .before .if1 .left in (omega (arith, ne, entry .pre .0), (record { short = (entry .pre .1 .0 .short); here = (entry .pre .1 .0 .here); few = (entry .pre .1 .0 .few); shallow = omega (arith, ne, entry .pre .1 .0 .shallow) }, omega (arith, c .before .before .before .node-of .ensures .its-a, c .before .before .before .node-of .ensures .its-b)))
+    let pre = c .before .before .before .before .before .before .before .pre in
+    let if1 = c .before .before .before .before .before .if1 in
+    let node-of = c .before .before .before .node-of in
+    let ne = if1 .left in (omega (arith, ne, pre .0), (record { short = (pre .1 .0 .short); here = (pre .1 .0 .here); few = (pre .1 .0 .few); shallow = omega (arith, ne, pre .1 .0 .shallow) }, omega (arith, node-of .ensures .its-a), omega (arith, node-of .ensures .its-b)))
 
 walk-node-add-result-2 : (t : ℕ) → walk-node-lts.Need-add-result-2 (walk-node-claims t) (walk-node-at t) walk-node.Post
 walk-node-add-result-2 t c = search needs
@@ -270,20 +280,23 @@ walk-node-add-result-3 t c = search needs
 walk-node-returns-2 : (t : ℕ) → walk-node-lts.Need-returns-2 (walk-node-claims t) (walk-node-at t) walk-node.Post
 unfolding nodeOfKind
 walk-node-returns-2 t c =
-    let given = c .before .before .before .before .before .before .before .args in
-    node-goes (given .room) (given .words .now) (given .text .now) (given .table .now) (given .node) (given .at) (given .lo) (given .hi) (given .depth) (given .count .now) (given .rows .now) (given .left) (c .before .before .before .if1 .left) (word-is (getD (given .words .now) (given .node) 0) (c .before .node-of .ensures) {k = 0} (omega arith)) (empty-goes (given .room) (given .words .now) (given .text .now) (given .table .now) (given .node) (given .at) (given .lo) (given .hi) (given .depth) (given .count .now) (given .rows .now) (given .left - 1))
+    let given = c .before .before .before .before .before .args in
+    node-goes (given .room) (given .words .now) (given .text .now .now) (given .table .now .now) (given .node) (given .at) (given .lo) (given .hi) (given .depth) (given .count .now) (given .rows .now) (given .left) (c .before .before .before .if1 .left) (word-is (getD (given .words .now) (given .node) 0) (c .before .node-of .ensures) {k = 0} (omega arith)) (empty-goes (given .room) (given .words .now) (given .text .now .now) (given .table .now .now) (given .node) (given .at) (given .lo) (given .hi) (given .depth) (given .count .now) (given .rows .now) (given .left - 1))
 
 walk-node-returns-3 : (t : ℕ) → walk-node-lts.Need-returns-3 (walk-node-claims t) (walk-node-at t) walk-node.Post
 unfolding nodeOfKind
 walk-node-returns-3 t c =
-    let given = c .before .before .before .before .before .before .before .before .args in
-    node-goes (given .room) (given .words .now) (given .text .now) (given .table .now) (given .node) (given .at) (given .lo) (given .hi) (given .depth) (given .count .now) (given .rows .now) (given .left) (c .before .before .before .before .if1 .left) (word-is (getD (given .words .now) (given .node) 0) (c .before .before .node-of .ensures) {k = 1} (omega arith)) (terminal-goes (given .room) (given .words .now) (given .text .now) (given .table .now) (given .node) (given .at) (given .lo) (given .hi) (given .depth) (given .count .now) (given .rows .now) (given .left - 1) any (c .any-byte .ensures))
+    let given = c .before .before .before .before .before .before .before .args in
+    let if1 = c .before .before .before .before .before .if1 in
+    node-goes (given .room) (given .words .now) (given .text .now .now) (given .table .now .now) (given .node) (given .at) (given .lo) (given .hi) (given .depth) (given .count .now) (given .rows .now) (given .left) (if1 .left) (word-is (getD (given .words .now) (given .node) 0) (c .before .before .before .node-of .ensures) {k = 1} (omega arith)) (terminal-goes (given .room) (given .words .now) (given .text .now .now) (given .table .now .now) (given .node) (given .at) (given .lo) (given .hi) (given .depth) (given .count .now) (given .rows .now) (given .left - 1) any (c .any-byte .ensures))
 
 walk-node-returns-4 : (t : ℕ) → walk-node-lts.Need-returns-4 (walk-node-claims t) (walk-node-at t) walk-node.Post
 unfolding nodeOfKind
 walk-node-returns-4 t c =
-    let given = c .before .before .before .before .before .before .before .before .args in
-    node-goes (given .room) (given .words .now) (given .text .now) (given .table .now) (given .node) (given .at) (given .lo) (given .hi) (given .depth) (given .count .now) (given .rows .now) (given .left) (c .before .before .before .before .if1 .left) (word-is (getD (given .words .now) (given .node) 0) (c .before .before .node-of .ensures) {k = 2} (omega arith)) (terminal-goes (given .room) (given .words .now) (given .text .now) (given .table .now) (given .node) (given .at) (given .lo) (given .hi) (given .depth) (given .count .now) (given .rows .now) (given .left - 1) (range (c .before .before .node-of .result .a) (c .before .before .node-of .result .b)) (c .byte-between .ensures))
+    let given = c .before .before .before .before .before .before .before .args in
+    let if1 = c .before .before .before .before .before .if1 in
+    let node-of = c .before .before .before .node-of in
+    node-goes (given .room) (given .words .now) (given .text .now .now) (given .table .now .now) (given .node) (given .at) (given .lo) (given .hi) (given .depth) (given .count .now) (given .rows .now) (given .left) (if1 .left) (word-is (getD (given .words .now) (given .node) 0) (node-of .ensures) {k = 2} (omega arith)) (terminal-goes (given .room) (given .words .now) (given .text .now .now) (given .table .now .now) (given .node) (given .at) (given .lo) (given .hi) (given .depth) (given .count .now) (given .rows .now) (given .left - 1) (range (node-of .result .a) (node-of .result .b)) (c .byte-between .ensures))
 
 walk-node-same-length : (t : ℕ) → walk-node-lts.Need-same-length (walk-node-claims t) (walk-node-at t) walk-node.Post
 walk-node-same-length t c = search needs
@@ -291,8 +304,10 @@ walk-node-same-length t c = search needs
 walk-node-returns-5 : (t : ℕ) → walk-node-lts.Need-returns-5 (walk-node-claims t) (walk-node-at t) walk-node.Post
 unfolding nodeOfKind kindV
 walk-node-returns-5 t c =
-    let given = c .before .before .before .before .before .before .before .before .before .before .before .before .args in
-    node-goes (given .room) (given .words .now) (given .text .now) (given .table .now) (given .node) (given .at) (given .lo) (given .hi) (given .depth) (given .count .now) (given .rows .now) (given .left) (c .before .before .before .before .before .before .before .before .if1 .left) (word-is (getD (given .words .now) (given .node) 0) (c .before .before .before .before .before .before .node-of .ensures) {k = 3} (omega arith)) (c .before .before .walk-sequence .ensures)
+    let given = c .before .before .before .before .before .before .before .before .before .before .args in
+    let if1 = c .before .before .before .before .before .before .before .before .if1 in
+    let node-of = c .before .before .before .before .before .before .node-of in
+    node-goes (given .room) (given .words .now) (given .text .now .now) (given .table .now .now) (given .node) (given .at) (given .lo) (given .hi) (given .depth) (given .count .now) (given .rows .now) (given .left) (if1 .left) (word-is (getD (given .words .now) (given .node) 0) (node-of .ensures) {k = 3} (omega arith)) (c .before .before .walk-sequence .ensures)
 
 walk-node-same-length-2 : (t : ℕ) → walk-node-lts.Need-same-length-2 (walk-node-claims t) (walk-node-at t) walk-node.Post
 walk-node-same-length-2 t c = search needs
@@ -300,8 +315,10 @@ walk-node-same-length-2 t c = search needs
 walk-node-returns-6 : (t : ℕ) → walk-node-lts.Need-returns-6 (walk-node-claims t) (walk-node-at t) walk-node.Post
 unfolding nodeOfKind kindV
 walk-node-returns-6 t c =
-    let given = c .before .before .before .before .before .before .before .before .before .before .before .before .args in
-    node-goes (given .room) (given .words .now) (given .text .now) (given .table .now) (given .node) (given .at) (given .lo) (given .hi) (given .depth) (given .count .now) (given .rows .now) (given .left) (c .before .before .before .before .before .before .before .before .if1 .left) (word-is (getD (given .words .now) (given .node) 0) (c .before .before .before .before .before .before .node-of .ensures) {k = 4} (omega arith)) (c .before .before .walk-choice .ensures)
+    let given = c .before .before .before .before .before .before .before .before .before .before .args in
+    let if1 = c .before .before .before .before .before .before .before .before .if1 in
+    let node-of = c .before .before .before .before .before .before .node-of in
+    node-goes (given .room) (given .words .now) (given .text .now .now) (given .table .now .now) (given .node) (given .at) (given .lo) (given .hi) (given .depth) (given .count .now) (given .rows .now) (given .left) (if1 .left) (word-is (getD (given .words .now) (given .node) 0) (node-of .ensures) {k = 4} (omega arith)) (c .before .before .walk-choice .ensures)
 
 walk-node-same-length-3 : (t : ℕ) → walk-node-lts.Need-same-length-3 (walk-node-claims t) (walk-node-at t) walk-node.Post
 walk-node-same-length-3 t c = search needs
@@ -309,8 +326,10 @@ walk-node-same-length-3 t c = search needs
 walk-node-returns-7 : (t : ℕ) → walk-node-lts.Need-returns-7 (walk-node-claims t) (walk-node-at t) walk-node.Post
 unfolding nodeOfKind kindV
 walk-node-returns-7 t c =
-    let given = c .before .before .before .before .before .before .before .before .before .before .before .before .args in
-    node-goes (given .room) (given .words .now) (given .text .now) (given .table .now) (given .node) (given .at) (given .lo) (given .hi) (given .depth) (given .count .now) (given .rows .now) (given .left) (c .before .before .before .before .before .before .before .before .if1 .left) (word-is (getD (given .words .now) (given .node) 0) (c .before .before .before .before .before .before .node-of .ensures) {k = 5} (omega arith)) (c .before .before .walk-star .ensures)
+    let given = c .before .before .before .before .before .before .before .before .before .before .args in
+    let if1 = c .before .before .before .before .before .before .before .before .if1 in
+    let node-of = c .before .before .before .before .before .before .node-of in
+    node-goes (given .room) (given .words .now) (given .text .now .now) (given .table .now .now) (given .node) (given .at) (given .lo) (given .hi) (given .depth) (given .count .now) (given .rows .now) (given .left) (if1 .left) (word-is (getD (given .words .now) (given .node) 0) (node-of .ensures) {k = 5} (omega arith)) (c .before .before .walk-star .ensures)
 
 walk-node-same-length-4 : (t : ℕ) → walk-node-lts.Need-same-length-4 (walk-node-claims t) (walk-node-at t) walk-node.Post
 walk-node-same-length-4 t c = search needs
@@ -318,8 +337,10 @@ walk-node-same-length-4 t c = search needs
 walk-node-returns-8 : (t : ℕ) → walk-node-lts.Need-returns-8 (walk-node-claims t) (walk-node-at t) walk-node.Post
 unfolding nodeOfKind kindV
 walk-node-returns-8 t c =
-    let given = c .before .before .before .before .before .before .before .before .before .before .before .before .args in
-    node-goes (given .room) (given .words .now) (given .text .now) (given .table .now) (given .node) (given .at) (given .lo) (given .hi) (given .depth) (given .count .now) (given .rows .now) (given .left) (c .before .before .before .before .before .before .before .before .if1 .left) (word-is (getD (given .words .now) (given .node) 0) (c .before .before .before .before .before .before .node-of .ensures) {k = 6} (omega arith)) (c .before .before .walk-not .ensures)
+    let given = c .before .before .before .before .before .before .before .before .before .before .args in
+    let if1 = c .before .before .before .before .before .before .before .before .if1 in
+    let node-of = c .before .before .before .before .before .before .node-of in
+    node-goes (given .room) (given .words .now) (given .text .now .now) (given .table .now .now) (given .node) (given .at) (given .lo) (given .hi) (given .depth) (given .count .now) (given .rows .now) (given .left) (if1 .left) (word-is (getD (given .words .now) (given .node) 0) (node-of .ensures) {k = 6} (omega arith)) (c .before .before .walk-not .ensures)
 
 walk-node-same-length-5 : (t : ℕ) → walk-node-lts.Need-same-length-5 (walk-node-claims t) (walk-node-at t) walk-node.Post
 walk-node-same-length-5 t c = search needs
@@ -327,33 +348,35 @@ walk-node-same-length-5 t c = search needs
 walk-node-returns-9 : (t : ℕ) → walk-node-lts.Need-returns-9 (walk-node-claims t) (walk-node-at t) walk-node.Post
 unfolding nodeOfKind kindV
 walk-node-returns-9 t c =
-    let given = c .before .before .before .before .before .before .before .before .before .before .before .before .args in
-    let seen = c .before .before .before .before .before .before .node-of in
-    let small : seen .result .b < 4096 = omega (arith, seen .ensures .its-b) in
-    let root-is = packed-root (seen .result .a) (seen .result .b) small in
-    let rule-is = packed-rule (seen .result .a) (seen .result .b) small in
-    node-goes (given .room) (given .words .now) (given .text .now) (given .table .now) (given .node) (given .at) (given .lo) (given .hi) (given .depth) (given .count .now) (given .rows .now) (given .left) (c .before .before .before .before .before .before .before .before .if1 .left) (word-is (getD (given .words .now) (given .node) 0) (c .before .before .before .before .before .before .node-of .ensures) {k = 7} (omega arith)) (rw (root-is, rule-is, seen .ensures .its-b) at (c .before .before .walk-rule .ensures))
+    let given = c .before .before .before .before .before .before .before .before .before .before .args in
+    let if1 = c .before .before .before .before .before .before .before .before .if1 in
+    let node-of = c .before .before .before .before .before .before .node-of in
+    node-goes (given .room) (given .words .now) (given .text .now .now) (given .table .now .now) (given .node) (given .at) (given .lo) (given .hi) (given .depth) (given .count .now) (given .rows .now) (given .left) (if1 .left) (word-is (getD (given .words .now) (given .node) 0) (node-of .ensures) {k = 7} (omega arith)) (rw (node-of .ensures .its-b) at (c .before .before .walk-rule .ensures))
 
 walk-node-returns-10 : (t : ℕ) → walk-node-lts.Need-returns-10 (walk-node-claims t) (walk-node-at t) walk-node.Post
 walk-node-returns-10 t c =
-    let given = c .before .before .before .before .before .before .before .before .args in
-    let k = past-7 (c .before .before .node-of .result .kind) (c .before .match .rest .0 .0 .0 .0 .0 .0 .0 .1) (c .before .match .rest .0 .0 .0 .0 .0 .0 .1) (c .before .match .rest .0 .0 .0 .0 .0 .1) (c .before .match .rest .0 .0 .0 .0 .1) (c .before .match .rest .0 .0 .0 .1) (c .before .match .rest .0 .0 .1) (c .before .match .rest .0 .1) (c .before .match .rest .1) in
-    node-goes (given .room) (given .words .now) (given .text .now) (given .table .now) (given .node) (given .at) (given .lo) (given .hi) (given .depth) (given .count .now) (given .rows .now) (given .left) (c .before .before .before .before .if1 .left) (word-unlawful (getD (given .words .now) (given .node) 0) (c .before .before .node-of .ensures) k) (unlawful-goes (given .room) (given .words .now) (given .text .now) (given .table .now) (given .node) (given .at) (given .lo) (given .hi) (given .depth) (given .count .now) (given .rows .now) (given .left - 1))
+    let given = c .before .before .before .before .before .before .args in
+    let if1 = c .before .before .before .before .if1 in
+    let node-of = c .before .before .node-of in
+    let k = past-7 (node-of .result .kind) (c .before .match .rest .0 .0 .0 .0 .0 .0 .0 .1) (c .before .match .rest .0 .0 .0 .0 .0 .0 .1) (c .before .match .rest .0 .0 .0 .0 .0 .1) (c .before .match .rest .0 .0 .0 .0 .1) (c .before .match .rest .0 .0 .0 .1) (c .before .match .rest .0 .0 .1) (c .before .match .rest .0 .1) (c .before .match .rest .1) in
+    node-goes (given .room) (given .words .now) (given .text .now .now) (given .table .now .now) (given .node) (given .at) (given .lo) (given .hi) (given .depth) (given .count .now) (given .rows .now) (given .left) (if1 .left) (word-unlawful (getD (given .words .now) (given .node) 0) (node-of .ensures) k) (unlawful-goes (given .room) (given .words .now) (given .text .now .now) (given .table .now .now) (given .node) (given .at) (given .lo) (given .hi) (given .depth) (given .count .now) (given .rows .now) (given .left - 1))
 
 walk-node-returns-11 : (t : ℕ) → walk-node-lts.Need-returns-11 (walk-node-claims t) (walk-node-at t) walk-node.Post
 walk-node-returns-11 t c =
-    let given = c .before .before .before .before .before .before .before .before .args in
-    let k = past-7 (c .before .before .node-of .result .kind) (c .before .match .rest .0 .0 .0 .0 .0 .0 .0 .1) (c .before .match .rest .0 .0 .0 .0 .0 .0 .1) (c .before .match .rest .0 .0 .0 .0 .0 .1) (c .before .match .rest .0 .0 .0 .0 .1) (c .before .match .rest .0 .0 .0 .1) (c .before .match .rest .0 .0 .1) (c .before .match .rest .0 .1) (c .before .match .rest .1) in
-    node-goes (given .room) (given .words .now) (given .text .now) (given .table .now) (given .node) (given .at) (given .lo) (given .hi) (given .depth) (given .count .now) (given .rows .now) (given .left) (c .before .before .before .before .if1 .left) (word-unlawful (getD (given .words .now) (given .node) 0) (c .before .before .node-of .ensures) k) (unlawful-goes (given .room) (given .words .now) (given .text .now) (given .table .now) (given .node) (given .at) (given .lo) (given .hi) (given .depth) (given .count .now) (given .rows .now) (given .left - 1))
+    let given = c .before .before .before .before .before .before .args in
+    let if1 = c .before .before .before .before .if1 in
+    let node-of = c .before .before .node-of in
+    let k = past-7 (node-of .result .kind) (c .before .match .rest .0 .0 .0 .0 .0 .0 .0 .1) (c .before .match .rest .0 .0 .0 .0 .0 .0 .1) (c .before .match .rest .0 .0 .0 .0 .0 .1) (c .before .match .rest .0 .0 .0 .0 .1) (c .before .match .rest .0 .0 .0 .1) (c .before .match .rest .0 .0 .1) (c .before .match .rest .0 .1) (c .before .match .rest .1) in
+    node-goes (given .room) (given .words .now) (given .text .now .now) (given .table .now .now) (given .node) (given .at) (given .lo) (given .hi) (given .depth) (given .count .now) (given .rows .now) (given .left) (if1 .left) (word-unlawful (getD (given .words .now) (given .node) 0) (node-of .ensures) k) (unlawful-goes (given .room) (given .words .now) (given .text .now .now) (given .table .now .now) (given .node) (given .at) (given .lo) (given .hi) (given .depth) (given .count .now) (given .rows .now) (given .left - 1))
 
 walk-not-add-walk-node : (t : ℕ) → walk-not-lts.Need-add-walk-node (walk-not-claims t) (walk-not-at t) walk-not.Post
 walk-not-add-walk-node t c =
-    omega (arith, (c .before .before .before .before .before .pre .1 .0 .short))
+    omega (arith, (c .before .before .before .pre .1 .0 .short))
 
 walk-not-walk-node-requires : (t : ℕ) → walk-not-lts.Need-walk-node-requires (walk-not-claims t) (walk-not-at t) walk-not.Post
 walk-not-walk-node-requires t c κs =
-    let entry = c .before .before .before .before .before in
-    (omega (arith, entry .pre .0), (record { short = (entry .pre .1 .0 .short); here = (entry .pre .1 .0 .here); few = (entry .pre .1 .0 .few); shallow = omega (arith, entry .pre .1 .0 .shallow) }, entry .pre .1 .1))
+    let pre = c .before .before .before .pre in
+    (omega (arith, pre .0), (record { short = (pre .1 .0 .short); here = (pre .1 .0 .here); few = (pre .1 .0 .few); shallow = omega (arith, pre .1 .0 .shallow) }, pre .1 .1))
 
 walk-not-same-length : (t : ℕ) → walk-not-lts.Need-same-length (walk-not-claims t)
     (walk-not-at t)
@@ -362,83 +385,92 @@ walk-not-same-length t c = search needs
 
 walk-not-returns : (t : ℕ) → walk-not-lts.Need-returns (walk-not-claims t) (walk-not-at t) walk-not.Post
 walk-not-returns t c =
-    let entry = c .before .before .before .before .before .before .before .before .before in
-    let given = entry .args in
-    let inner = nodeV (given .room) (given .words .now) (given .text .now) (given .table .now) (given .left) in
-    not-stops (given .text .now) (given .room) inner (entry .pre .1 .0 .short) (node-bounded (given .room) (given .words .now) (given .text .now) (given .table .now) (given .left)) (pairV (rulesIn (given .words .now)) 0 (given .room) (given .text .now) (given .table .now) inner) (given .a) (given .at) 0 0 (given .depth) (entry .pre .1 .0 .here) (entry .pre .1 .0 .few) (c .before .before .before .walk-node .ensures) (c .if1 .taken)
+    let given = c .before .before .before .before .before .before .before .args in
+    let pre = c .before .before .before .before .before .before .before .pre in
+    let inner = nodeV (given .room) (given .words .now) (given .text .now .now) (given .table .now .now) (given .left) in
+    not-stops (given .text .now .now) (given .room) inner (pre .1 .0 .short) (node-bounded (given .room) (given .words .now) (given .text .now .now) (given .table .now .now) (given .left)) (pairV (rulesIn (given .words .now)) 0 (given .room) (given .text .now .now) (given .table .now .now) inner) (given .a) (given .at) 0 0 (given .depth) (pre .1 .0 .here) (pre .1 .0 .few) (c .before .before .before .walk-node .ensures) (c .if1 .taken)
 
 walk-not-same-length-2 : (t : ℕ) → walk-not-lts.Need-same-length-2 (walk-not-claims t) (walk-not-at t) walk-not.Post
 walk-not-same-length-2 t c = search needs
 
 walk-not-returns-2 : (t : ℕ) → walk-not-lts.Need-returns-2 (walk-not-claims t) (walk-not-at t) walk-not.Post
 walk-not-returns-2 t c =
-    let entry = c .before .before .before .before .before .before .before .before .before .before in
-    let given = entry .args in
-    let inner = nodeV (given .room) (given .words .now) (given .text .now) (given .table .now) (given .left) in
-    not-fails (given .text .now) (given .room) inner (entry .pre .1 .0 .short) (node-bounded (given .room) (given .words .now) (given .text .now) (given .table .now) (given .left)) (pairV (rulesIn (given .words .now)) 0 (given .room) (given .text .now) (given .table .now) inner) (given .a) (given .at) 0 0 (given .depth) (entry .pre .1 .0 .here) (entry .pre .1 .0 .few) (c .before .before .before .before .walk-node .ensures) (c .if2 .taken)
+    let given = c .before .before .before .before .before .before .before .before .args in
+    let pre = c .before .before .before .before .before .before .before .before .pre in
+    let x = c .before .before .before .before .walk-node in
+    let inner = nodeV (given .room) (given .words .now) (given .text .now .now) (given .table .now .now) (given .left) in
+    not-fails (given .text .now .now) (given .room) inner (pre .1 .0 .short) (node-bounded (given .room) (given .words .now) (given .text .now .now) (given .table .now .now) (given .left)) (pairV (rulesIn (given .words .now)) 0 (given .room) (given .text .now .now) (given .table .now .now) inner) (given .a) (given .at) 0 0 (given .depth) (pre .1 .0 .here) (pre .1 .0 .few) (x .ensures) (c .if2 .taken)
 
 walk-not-same-length-3 : (t : ℕ) → walk-not-lts.Need-same-length-3 (walk-not-claims t) (walk-not-at t) walk-not.Post
 walk-not-same-length-3 t c = search needs
 
 walk-not-returns-3 : (t : ℕ) → walk-not-lts.Need-returns-3 (walk-not-claims t) (walk-not-at t) walk-not.Post
 walk-not-returns-3 t c =
-    let entry = c .before .before .before .before .before .before .before .before .before .before in
-    let given = entry .args in
-    let inner = nodeV (given .room) (given .words .now) (given .text .now) (given .table .now) (given .left) in
-    not-matches (given .text .now) (given .room) inner (entry .pre .1 .0 .short) (node-bounded (given .room) (given .words .now) (given .text .now) (given .table .now) (given .left)) (pairV (rulesIn (given .words .now)) 0 (given .room) (given .text .now) (given .table .now) inner) (given .a) (given .at) 0 0 (given .depth) (entry .pre .1 .0 .here) (entry .pre .1 .0 .few) (c .before .before .before .before .walk-node .ensures) (let a = c .before .if1 .left in let b = c .if2 .left in omega arith)
+    let given = c .before .before .before .before .before .before .before .before .args in
+    let pre = c .before .before .before .before .before .before .before .before .pre in
+    let x = c .before .before .before .before .walk-node in
+    let inner = nodeV (given .room) (given .words .now) (given .text .now .now) (given .table .now .now) (given .left) in
+    not-matches (given .text .now .now) (given .room) inner (pre .1 .0 .short) (node-bounded (given .room) (given .words .now) (given .text .now .now) (given .table .now .now) (given .left)) (pairV (rulesIn (given .words .now)) 0 (given .room) (given .text .now .now) (given .table .now .now) inner) (given .a) (given .at) 0 0 (given .depth) (pre .1 .0 .here) (pre .1 .0 .few) (x .ensures) (let a = c .before .if1 .left in let b = c .if2 .left in omega arith)
 
 walk-part-add-walk-node : (t : ℕ) → walk-part-lts.Need-add-walk-node (walk-part-claims t) (walk-part-at t) walk-part.Post
 walk-part-add-walk-node t c =
-    omega (arith, (c .before .before .before .before .before .pre .1 .0 .short))
+    omega (arith, (c .before .before .before .pre .1 .0 .short))
 
 walk-part-walk-node-requires : (t : ℕ) → walk-part-lts.Need-walk-node-requires (walk-part-claims t) (walk-part-at t) walk-part.Post
 walk-part-walk-node-requires t c κs =
-    let entry = c .before .before .before .before .before in
-    (omega (arith, entry .pre .0), (record { short = (entry .pre .1 .0 .short); here = (entry .pre .1 .0 .here); few = (entry .pre .1 .0 .few); shallow = omega (arith, entry .pre .1 .0 .shallow) }, entry .pre .1 .1))
+    let pre = c .before .before .before .pre in
+    (omega (arith, pre .0), (record { short = (pre .1 .0 .short); here = (pre .1 .0 .here); few = (pre .1 .0 .few); shallow = omega (arith, pre .1 .0 .shallow) }, pre .1 .1))
 
 walk-part-same-length : (t : ℕ) → walk-part-lts.Need-same-length (walk-part-claims t) (walk-part-at t) walk-part.Post
 walk-part-same-length t c = search needs
 
 walk-part-returns : (t : ℕ) → walk-part-lts.Need-returns (walk-part-claims t) (walk-part-at t) walk-part.Post
 walk-part-returns t c =
-    let entry = c .before .before .before .before .before .before .before .before .before in
-    let given = entry .args in
-    let inner = nodeV (given .room) (given .words .now) (given .text .now) (given .table .now) (given .left) in
-    part-ends (given .text .now) (given .room) inner (entry .pre .1 .0 .short) (node-bounded (given .room) (given .words .now) (given .text .now) (given .table .now) (given .left)) (pairV (rulesIn (given .words .now)) 0 (given .room) (given .text .now) (given .table .now) inner) (given .a) (given .at) (given .lo) (given .hi) (given .depth) (entry .pre .1 .0 .here) (entry .pre .1 .0 .few) (c .before .before .before .walk-node .ensures) (c .if1 .taken)
+    let given = c .before .before .before .before .before .before .before .args in
+    let pre = c .before .before .before .before .before .before .before .pre in
+    let inner = nodeV (given .room) (given .words .now) (given .text .now .now) (given .table .now .now) (given .left) in
+    part-ends (given .text .now .now) (given .room) inner (pre .1 .0 .short) (node-bounded (given .room) (given .words .now) (given .text .now .now) (given .table .now .now) (given .left)) (pairV (rulesIn (given .words .now)) 0 (given .room) (given .text .now .now) (given .table .now .now) inner) (given .a) (given .at) (given .lo) (given .hi) (given .depth) (pre .1 .0 .here) (pre .1 .0 .few) (c .before .before .before .walk-node .ensures) (c .if1 .taken)
 
 walk-part-touched-requires : (t : ℕ) → walk-part-lts.Need-touched-requires (walk-part-claims t) (walk-part-at t) walk-part.Post
 walk-part-touched-requires t c κs =
-    let entry = c .before .before .before .before .before .before .before .before .before in
-    let given = entry .args in
-    let inner = nodeV (given .room) (given .words .now) (given .text .now) (given .table .now) (given .left) in
-    omega (arith, (part-found (given .text .now) (given .room) inner (entry .pre .1 .0 .short) (node-bounded (given .room) (given .words .now) (given .text .now) (given .table .now) (given .left)) (pairV (rulesIn (given .words .now)) 0 (given .room) (given .text .now) (given .table .now) inner) (given .a) (given .at) (given .lo) (given .hi) (given .depth) (entry .pre .1 .0 .here) (entry .pre .1 .0 .few) (c .before .before .before .walk-node .ensures) (c .if1 .left)) .in-text, (entry .pre .1 .0 .short))
+    let given = c .before .before .before .before .before .before .before .args in
+    let pre = c .before .before .before .before .before .before .before .pre in
+    let inner = nodeV (given .room) (given .words .now) (given .text .now .now) (given .table .now .now) (given .left) in
+    omega (arith, (part-found (given .text .now .now) (given .room) inner (pre .1 .0 .short) (node-bounded (given .room) (given .words .now) (given .text .now .now) (given .table .now .now) (given .left)) (pairV (rulesIn (given .words .now)) 0 (given .room) (given .text .now .now) (given .table .now .now) inner) (given .a) (given .at) (given .lo) (given .hi) (given .depth) (pre .1 .0 .here) (pre .1 .0 .few) (c .before .before .before .walk-node .ensures) (c .if1 .left)) .in-text, (pre .1 .0 .short))
 
 walk-part-same-length-2 : (t : ℕ) → walk-part-lts.Need-same-length-2 (walk-part-claims t) (walk-part-at t) walk-part.Post
 walk-part-same-length-2 t c = search needs
 
 walk-part-returns-2 : (t : ℕ) → walk-part-lts.Need-returns-2 (walk-part-claims t) (walk-part-at t) walk-part.Post
 walk-part-returns-2 t c =
-    let entry = c .before .before .before .before .before .before .before .before .before .before .before in
-    let given = entry .args in
-    let inner = nodeV (given .room) (given .words .now) (given .text .now) (given .table .now) (given .left) in
-    part-missed (given .text .now) (given .room) inner (entry .pre .1 .0 .short) (node-bounded (given .room) (given .words .now) (given .text .now) (given .table .now) (given .left)) (pairV (rulesIn (given .words .now)) 0 (given .room) (given .text .now) (given .table .now) inner) (given .a) (given .at) (given .lo) (given .hi) (given .depth) (entry .pre .1 .0 .here) (entry .pre .1 .0 .few) (c .before .before .before .before .before .walk-node .ensures) (c .before .before .if1 .left) (sym (c .before .touched .ensures) ∙ not-true (c .before .touched .result) (c .if2 .taken))
+    let given = c .before .before .before .before .before .before .before .before .before .args in
+    let pre = c .before .before .before .before .before .before .before .before .before .pre in
+    let x = c .before .before .before .before .before .walk-node in
+    let inner = nodeV (given .room) (given .words .now) (given .text .now .now) (given .table .now .now) (given .left) in
+    part-missed (given .text .now .now) (given .room) inner (pre .1 .0 .short) (node-bounded (given .room) (given .words .now) (given .text .now .now) (given .table .now .now) (given .left)) (pairV (rulesIn (given .words .now)) 0 (given .room) (given .text .now .now) (given .table .now .now) inner) (given .a) (given .at) (given .lo) (given .hi) (given .depth) (pre .1 .0 .here) (pre .1 .0 .few) (x .ensures) (c .before .before .if1 .left) (sym (c .before .touched .ensures) ∙ not-true (c .before .touched .result) (c .if2 .taken))
 
 walk-part-walk-node-requires-2 : (t : ℕ) → walk-part-lts.Need-walk-node-requires-2 (walk-part-claims t) (walk-part-at t) walk-part.Post
 walk-part-walk-node-requires-2 t c κs =
-    let entry = c .before .before .before .before .before .before .before .before .before .before .before .before .before in
-    let given = entry .args in
-    let inner = nodeV (given .room) (given .words .now) (given .text .now) (given .table .now) (given .left) in
-    (omega (arith, entry .pre .0), (record { short = (entry .pre .1 .0 .short); here = (entry .pre .1 .0 .here); few = (part-found (given .text .now) (given .room) inner (entry .pre .1 .0 .short) (node-bounded (given .room) (given .words .now) (given .text .now) (given .table .now) (given .left)) (pairV (rulesIn (given .words .now)) 0 (given .room) (given .text .now) (given .table .now) inner) (given .a) (given .at) (given .lo) (given .hi) (given .depth) (entry .pre .1 .0 .here) (entry .pre .1 .0 .few) (c .before .before .before .before .before .before .before .walk-node .ensures) (c .before .before .before .before .if1 .left)) .few; shallow = omega (arith, entry .pre .1 .0 .shallow) }, entry .pre .1 .1))
+    let given = c .before .before .before .before .before .before .before .before .before .before .before .args in
+    let pre = c .before .before .before .before .before .before .before .before .before .before .before .pre in
+    let x = c .before .before .before .before .before .before .before .walk-node in
+    let if1 = c .before .before .before .before .if1 in
+    let inner = nodeV (given .room) (given .words .now) (given .text .now .now) (given .table .now .now) (given .left) in
+    (omega (arith, pre .0), (record { short = (pre .1 .0 .short); here = (pre .1 .0 .here); few = (part-found (given .text .now .now) (given .room) inner (pre .1 .0 .short) (node-bounded (given .room) (given .words .now) (given .text .now .now) (given .table .now .now) (given .left)) (pairV (rulesIn (given .words .now)) 0 (given .room) (given .text .now .now) (given .table .now .now) inner) (given .a) (given .at) (given .lo) (given .hi) (given .depth) (pre .1 .0 .here) (pre .1 .0 .few) (x .ensures) (if1 .left)) .few; shallow = omega (arith, pre .1 .0 .shallow) }, pre .1 .1))
 
 walk-part-same-length-3 : (t : ℕ) → walk-part-lts.Need-same-length-3 (walk-part-claims t) (walk-part-at t) walk-part.Post
 walk-part-same-length-3 t c = search needs
 
 walk-part-returns-3 : (t : ℕ) → walk-part-lts.Need-returns-3 (walk-part-claims t) (walk-part-at t) walk-part.Post
 walk-part-returns-3 t c =
-    let entry = c .before .before .before .before .before .before .before .before .before .before .before .before .before .before .before .before in
-    let given = entry .args in
-    let inner = nodeV (given .room) (given .words .now) (given .text .now) (given .table .now) (given .left) in
-    part-goes (given .text .now) (given .room) inner (entry .pre .1 .0 .short) (node-bounded (given .room) (given .words .now) (given .text .now) (given .table .now) (given .left)) (pairV (rulesIn (given .words .now)) 0 (given .room) (given .text .now) (given .table .now) inner) (given .a) (given .at) (given .lo) (given .hi) (given .depth) (entry .pre .1 .0 .here) (entry .pre .1 .0 .few) (c .before .before .before .before .before .before .before .before .before .before .walk-node .ensures) (c .before .before .before .before .before .before .before .if1 .left) (sym (c .before .before .before .before .before .before .touched .ensures) ∙ not-false (c .before .before .before .before .before .before .touched .result) (c .before .before .before .before .before .if2 .left)) (c .before .before .walk-node2 .ensures)
+    let given = c .before .before .before .before .before .before .before .before .before .before .before .before .before .before .args in
+    let pre = c .before .before .before .before .before .before .before .before .before .before .before .before .before .before .pre in
+    let x = c .before .before .before .before .before .before .before .before .before .before .walk-node in
+    let if1 = c .before .before .before .before .before .before .before .if1 in
+    let touched = c .before .before .before .before .before .before .touched in
+    let if2 = c .before .before .before .before .before .if2 in
+    let inner = nodeV (given .room) (given .words .now) (given .text .now .now) (given .table .now .now) (given .left) in
+    part-goes (given .text .now .now) (given .room) inner (pre .1 .0 .short) (node-bounded (given .room) (given .words .now) (given .text .now .now) (given .table .now .now) (given .left)) (pairV (rulesIn (given .words .now)) 0 (given .room) (given .text .now .now) (given .table .now .now) inner) (given .a) (given .at) (given .lo) (given .hi) (given .depth) (pre .1 .0 .here) (pre .1 .0 .few) (x .ensures) (if1 .left) (sym (touched .ensures) ∙ not-false (touched .result) (if2 .left)) (c .before .before .walk-node2 .ensures)
 
 walk-rule-element-copy-out-wide : (t : ℕ) → walk-rule-lts.Need-element-copy-out-wide (walk-rule-claims t) (walk-rule-at t) walk-rule.Post
 walk-rule-element-copy-out-wide t c = search needs
@@ -457,8 +489,9 @@ walk-rule-add-result t c = search needs
 
 walk-rule-returns : (t : ℕ) → walk-rule-lts.Need-returns (walk-rule-claims t) (walk-rule-at t) walk-rule.Post
 walk-rule-returns t c =
-    let given = c .before .before .before .before .before .before .before .before .args in
-    rule-empty (rulesIn (given .words .now)) (given .call % 4096) (given .room) (given .text .now) (given .table .now) (nodeV (given .room) (given .words .now) (given .text .now) (given .table .now) (given .left)) (given .call / 4096) (given .at) (given .lo) (given .hi) (given .depth) (c .before .before .look .ensures ∙ ap (λ (n : ℕ). getD (given .table .now) ((given .at) * n + (given .call / 4096)) 0) (c .before .before .before .wide .ensures .0)) (given .count .now) (given .rows .now) (sym (c .before .is-held .ensures) ∙ not-true (c .before .is-held .result) (c .if1 .taken))
+    let given = c .before .before .before .before .before .before .before .args in
+    let wide = c .before .before .before .before .wide in
+    rule-empty (rulesIn (given .words .now)) (given .root) (given .room) (given .text .now .now) (given .table .now .now) (nodeV (given .room) (given .words .now) (given .text .now .now) (given .table .now .now) (given .left)) (given .rule) (given .at) (given .lo) (given .hi) (given .depth) (c .before .before .look .ensures ∙ ap (λ (n : ℕ). getD (given .table .now .now) ((given .at) * n + (given .rule)) 0) (wide .ensures .0)) (given .count .now) (given .rows .now) (sym (c .before .is-held .ensures) ∙ not-true (c .before .is-held .result) (c .if1 .taken))
 
 walk-rule-from-word-requires : (t : ℕ) → walk-rule-lts.Need-from-word-requires (walk-rule-claims t) (walk-rule-at t) walk-rule.Post
 walk-rule-from-word-requires t c κs = search needs
@@ -474,157 +507,228 @@ walk-rule-add-result-2 t c = search needs
 
 walk-rule-returns-2 : (t : ℕ) → walk-rule-lts.Need-returns-2 (walk-rule-claims t) (walk-rule-at t) walk-rule.Post
 walk-rule-returns-2 t c =
-    let given = c .before .before .before .before .before .before .before .before .before .before .before .args in
-    rule-impossible (rulesIn (given .words .now)) (given .call % 4096) (given .room) (given .text .now) (given .table .now) (nodeV (given .room) (given .words .now) (given .text .now) (given .table .now) (given .left)) (given .call / 4096) (given .at) (given .lo) (given .hi) (given .depth) (c .before .before .before .before .before .look .ensures ∙ ap (λ (n : ℕ). getD (given .table .now) ((given .at) * n + (given .call / 4096)) 0) (c .before .before .before .before .before .before .wide .ensures .0)) (given .count .now) (given .rows .now) (was-impossible (recordOf (c .before .before .before .before .before .look .result)) (possible (c .before .before .before .before .before .look .result) (given .at) (length (given .text .now))) (sym (c .enum-told .given .1) ∙ c .before .before .from-word .ensures))
+    let given = c .before .before .before .before .before .before .before .before .before .before .args in
+    let wide = c .before .before .before .before .before .before .before .wide in
+    let look = c .before .before .before .before .before .look in
+    rule-impossible (rulesIn (given .words .now)) (given .root) (given .room) (given .text .now .now) (given .table .now .now) (nodeV (given .room) (given .words .now) (given .text .now .now) (given .table .now .now) (given .left)) (given .rule) (given .at) (given .lo) (given .hi) (given .depth) (look .ensures ∙ ap (λ (n : ℕ). getD (given .table .now .now) ((given .at) * n + (given .rule)) 0) (wide .ensures .0)) (given .count .now) (given .rows .now) (was-impossible (recordOf (look .result)) (possible (look .result) (given .at) (length (given .text .now .now))) (sym (c .enum-told .given .1) ∙ c .before .before .from-word .ensures))
 
 walk-rule-returns-3 : (t : ℕ) → walk-rule-lts.Need-returns-3 (walk-rule-claims t) (walk-rule-at t) walk-rule.Post
 walk-rule-returns-3 t c =
-    let given = c .before .before .before .before .before .before .before .before .before .before .before .before .before .before .args in
-    let w = was-possible (c .before .before .before .held .given .0 .0) (recordOf (c .before .before .before .before .before .before .before .before .look .result)) (possible (c .before .before .before .before .before .before .before .before .look .result) (given .at) (length (given .text .now))) (sym (c .before .before .before .held .given .1) ∙ c .before .before .before .before .before .from-word .ensures) in
+    let given = c .before .before .before .before .before .before .before .before .before .before .before .before .before .args in
+    let wide = c .before .before .before .before .before .before .before .before .before .before .wide in
+    let look = c .before .before .before .before .before .before .before .before .look in
+    let is-held = c .before .before .before .before .before .before .before .is-held in
+    let if1 = c .before .before .before .before .before .before .if1 in
+    let from-word = c .before .before .before .before .before .from-word in
+    let held = c .before .before .before .held in
+    let w = was-possible (held .given .0 .0) (recordOf (look .result)) (possible (look .result) (given .at) (length (given .text .now .now))) (sym (held .given .1) ∙ from-word .ensures) in
     let m = ap (λ (r : Record). r .matched) (w .1) in
     let n = ap (λ (r : Record). r .length) (w .1) in
-    rule-failed (rulesIn (given .words .now)) (given .call % 4096) (given .room) (given .text .now) (given .table .now) (nodeV (given .room) (given .words .now) (given .text .now) (given .table .now) (given .left)) (given .call / 4096) (given .at) (given .lo) (given .hi) (given .depth) (c .before .before .before .before .before .before .before .before .look .ensures ∙ ap (λ (n : ℕ). getD (given .table .now) ((given .at) * n + (given .call / 4096)) 0) (c .before .before .before .before .before .before .before .before .before .wide .ensures .0)) (given .count .now) (given .rows .now) (sym (c .before .before .before .before .before .before .before .is-held .ensures) ∙ not-false (c .before .before .before .before .before .before .before .is-held .result) (c .before .before .before .before .before .before .if1 .left)) (w .0) (sym m ∙ not-true (c .before .before .before .held .given .0 .0 .matched) (c .if2 .taken))
+    rule-failed (rulesIn (given .words .now)) (given .root) (given .room) (given .text .now .now) (given .table .now .now) (nodeV (given .room) (given .words .now) (given .text .now .now) (given .table .now .now) (given .left)) (given .rule) (given .at) (given .lo) (given .hi) (given .depth) (look .ensures ∙ ap (λ (n : ℕ). getD (given .table .now .now) ((given .at) * n + (given .rule)) 0) (wide .ensures .0)) (given .count .now) (given .rows .now) (sym (is-held .ensures) ∙ not-false (is-held .result) (if1 .left)) (w .0) (sym m ∙ not-true (held .given .0 .0 .matched) (c .if2 .taken))
 
 walk-rule-touched-requires : (t : ℕ) → walk-rule-lts.Need-touched-requires (walk-rule-claims t) (walk-rule-at t) walk-rule.Post
 walk-rule-touched-requires t c κs =
-    let entry = c .before .before .before .before .before .before .before .before .before .before .before .before .before .before in
-    let given = entry .args in
-    let w = was-possible (c .before .before .before .held .given .0 .0) (recordOf (c .before .before .before .before .before .before .before .before .look .result)) (possible (c .before .before .before .before .before .before .before .before .look .result) (given .at) (length (given .text .now))) (sym (c .before .before .before .held .given .1) ∙ c .before .before .before .before .before .from-word .ensures) in
+    let given = c .before .before .before .before .before .before .before .before .before .before .before .before .before .args in
+    let pre = c .before .before .before .before .before .before .before .before .before .before .before .before .before .pre in
+    let wide = c .before .before .before .before .before .before .before .before .before .before .wide in
+    let look = c .before .before .before .before .before .before .before .before .look in
+    let is-held = c .before .before .before .before .before .before .before .is-held in
+    let if1 = c .before .before .before .before .before .before .if1 in
+    let from-word = c .before .before .before .before .before .from-word in
+    let held = c .before .before .before .held in
+    let w = was-possible (held .given .0 .0) (recordOf (look .result)) (possible (look .result) (given .at) (length (given .text .now .now))) (sym (held .given .1) ∙ from-word .ensures) in
     let m = ap (λ (r : Record). r .matched) (w .1) in
     let n = ap (λ (r : Record). r .length) (w .1) in
-    omega (arith, n, rule-in-text (rulesIn (given .words .now)) (given .call % 4096) (given .room) (given .text .now) (given .table .now) (nodeV (given .room) (given .words .now) (given .text .now) (given .table .now) (given .left)) (given .call / 4096) (given .at) (given .lo) (given .hi) (given .depth) (c .before .before .before .before .before .before .before .before .look .ensures ∙ ap (λ (n : ℕ). getD (given .table .now) ((given .at) * n + (given .call / 4096)) 0) (c .before .before .before .before .before .before .before .before .before .wide .ensures .0)) (given .count .now) (given .rows .now) (sym (c .before .before .before .before .before .before .before .is-held .ensures) ∙ not-false (c .before .before .before .before .before .before .before .is-held .result) (c .before .before .before .before .before .before .if1 .left)) (w .0), (entry .pre .1 .0 .short))
+    omega (arith, n, rule-in-text (rulesIn (given .words .now)) (given .root) (given .room) (given .text .now .now) (given .table .now .now) (nodeV (given .room) (given .words .now) (given .text .now .now) (given .table .now .now) (given .left)) (given .rule) (given .at) (given .lo) (given .hi) (given .depth) (look .ensures ∙ ap (λ (n : ℕ). getD (given .table .now .now) ((given .at) * n + (given .rule)) 0) (wide .ensures .0)) (given .count .now) (given .rows .now) (sym (is-held .ensures) ∙ not-false (is-held .result) (if1 .left)) (w .0), (pre .1 .0 .short))
 
 walk-rule-returns-4 : (t : ℕ) → walk-rule-lts.Need-returns-4 (walk-rule-claims t) (walk-rule-at t) walk-rule.Post
 walk-rule-returns-4 t c =
-    let given = c .before .before .before .before .before .before .before .before .before .before .before .before .before .before .before .before .args in
-    let w = was-possible (c .before .before .before .before .before .held .given .0 .0) (recordOf (c .before .before .before .before .before .before .before .before .before .before .look .result)) (possible (c .before .before .before .before .before .before .before .before .before .before .look .result) (given .at) (length (given .text .now))) (sym (c .before .before .before .before .before .held .given .1) ∙ c .before .before .before .before .before .before .before .from-word .ensures) in
+    let given = c .before .before .before .before .before .before .before .before .before .before .before .before .before .before .before .args in
+    let wide = c .before .before .before .before .before .before .before .before .before .before .before .before .wide in
+    let look = c .before .before .before .before .before .before .before .before .before .before .look in
+    let is-held = c .before .before .before .before .before .before .before .before .before .is-held in
+    let if1 = c .before .before .before .before .before .before .before .before .if1 in
+    let from-word = c .before .before .before .before .before .before .before .from-word in
+    let held = c .before .before .before .before .before .held in
+    let w = was-possible (held .given .0 .0) (recordOf (look .result)) (possible (look .result) (given .at) (length (given .text .now .now))) (sym (held .given .1) ∙ from-word .ensures) in
     let m = ap (λ (r : Record). r .matched) (w .1) in
     let n = ap (λ (r : Record). r .length) (w .1) in
-    rule-missed (rulesIn (given .words .now)) (given .call % 4096) (given .room) (given .text .now) (given .table .now) (nodeV (given .room) (given .words .now) (given .text .now) (given .table .now) (given .left)) (given .call / 4096) (given .at) (given .lo) (given .hi) (given .depth) (c .before .before .before .before .before .before .before .before .before .before .look .ensures ∙ ap (λ (n : ℕ). getD (given .table .now) ((given .at) * n + (given .call / 4096)) 0) (c .before .before .before .before .before .before .before .before .before .before .before .wide .ensures .0)) (given .count .now) (given .rows .now) (sym (c .before .before .before .before .before .before .before .before .before .is-held .ensures) ∙ not-false (c .before .before .before .before .before .before .before .before .before .is-held .result) (c .before .before .before .before .before .before .before .before .if1 .left)) (w .0) (sym m ∙ not-false (c .before .before .before .before .before .held .given .0 .0 .matched) (c .before .before .if2 .left)) n (sym (c .before .touched .ensures) ∙ not-true (c .before .touched .result) (c .if3 .taken))
+    rule-missed (rulesIn (given .words .now)) (given .root) (given .room) (given .text .now .now) (given .table .now .now) (nodeV (given .room) (given .words .now) (given .text .now .now) (given .table .now .now) (given .left)) (given .rule) (given .at) (given .lo) (given .hi) (given .depth) (look .ensures ∙ ap (λ (n : ℕ). getD (given .table .now .now) ((given .at) * n + (given .rule)) 0) (wide .ensures .0)) (given .count .now) (given .rows .now) (sym (is-held .ensures) ∙ not-false (is-held .result) (if1 .left)) (w .0) (sym m ∙ not-false (held .given .0 .0 .matched) (c .before .before .if2 .left)) n (sym (c .before .touched .ensures) ∙ not-true (c .before .touched .result) (c .if3 .taken))
 
 walk-rule-add-result-3 : (t : ℕ) → walk-rule-lts.Need-add-result-3 (walk-rule-claims t) (walk-rule-at t) walk-rule.Post
 walk-rule-add-result-3 t c = search needs
 
 walk-rule-returns-5 : (t : ℕ) → walk-rule-lts.Need-returns-5 (walk-rule-claims t) (walk-rule-at t) walk-rule.Post
 walk-rule-returns-5 t c =
-    let given = c .before .before .before .before .before .before .before .before .before .before .before .before .before .before .before .before .before .before .args in
-    let w = was-possible (c .before .before .before .before .before .before .before .held .given .0 .0) (recordOf (c .before .before .before .before .before .before .before .before .before .before .before .before .look .result)) (possible (c .before .before .before .before .before .before .before .before .before .before .before .before .look .result) (given .at) (length (given .text .now))) (sym (c .before .before .before .before .before .before .before .held .given .1) ∙ c .before .before .before .before .before .before .before .before .before .from-word .ensures) in
+    let given = c .before .before .before .before .before .before .before .before .before .before .before .before .before .before .before .before .before .args in
+    let wide = c .before .before .before .before .before .before .before .before .before .before .before .before .before .before .wide in
+    let look = c .before .before .before .before .before .before .before .before .before .before .before .before .look in
+    let is-held = c .before .before .before .before .before .before .before .before .before .before .before .is-held in
+    let if1 = c .before .before .before .before .before .before .before .before .before .before .if1 in
+    let from-word = c .before .before .before .before .before .before .before .before .before .from-word in
+    let held = c .before .before .before .before .before .before .before .held in
+    let if2 = c .before .before .before .before .if2 in
+    let touched = c .before .before .before .touched in
+    let w = was-possible (held .given .0 .0) (recordOf (look .result)) (possible (look .result) (given .at) (length (given .text .now .now))) (sym (held .given .1) ∙ from-word .ensures) in
     let m = ap (λ (r : Record). r .matched) (w .1) in
     let n = ap (λ (r : Record). r .length) (w .1) in
-    rule-full (rulesIn (given .words .now)) (given .call % 4096) (given .room) (given .text .now) (given .table .now) (nodeV (given .room) (given .words .now) (given .text .now) (given .table .now) (given .left)) (given .call / 4096) (given .at) (given .lo) (given .hi) (given .depth) (c .before .before .before .before .before .before .before .before .before .before .before .before .look .ensures ∙ ap (λ (n : ℕ). getD (given .table .now) ((given .at) * n + (given .call / 4096)) 0) (c .before .before .before .before .before .before .before .before .before .before .before .before .before .wide .ensures .0)) (given .count .now) (given .rows .now) (sym (c .before .before .before .before .before .before .before .before .before .before .before .is-held .ensures) ∙ not-false (c .before .before .before .before .before .before .before .before .before .before .before .is-held .result) (c .before .before .before .before .before .before .before .before .before .before .if1 .left)) (w .0) (sym m ∙ not-false (c .before .before .before .before .before .before .before .held .given .0 .0 .matched) (c .before .before .before .before .if2 .left)) n (sym (c .before .before .before .touched .ensures) ∙ not-false (c .before .before .before .touched .result) (c .before .before .if3 .left)) (c .if4 .taken)
+    rule-full (rulesIn (given .words .now)) (given .root) (given .room) (given .text .now .now) (given .table .now .now) (nodeV (given .room) (given .words .now) (given .text .now .now) (given .table .now .now) (given .left)) (given .rule) (given .at) (given .lo) (given .hi) (given .depth) (look .ensures ∙ ap (λ (n : ℕ). getD (given .table .now .now) ((given .at) * n + (given .rule)) 0) (wide .ensures .0)) (given .count .now) (given .rows .now) (sym (is-held .ensures) ∙ not-false (is-held .result) (if1 .left)) (w .0) (sym m ∙ not-false (held .given .0 .0 .matched) (if2 .left)) n (sym (touched .ensures) ∙ not-false (touched .result) (c .before .before .if3 .left)) (c .if4 .taken)
 
 walk-rule-row-word-requires : (t : ℕ) → walk-rule-lts.Need-row-word-requires (walk-rule-claims t) (walk-rule-at t) walk-rule.Post
 walk-rule-row-word-requires t c κs =
-    let entry = c .before .before .before .before .before .before .before .before .before .before .before .before .before .before .before .before .before .before .before in
-    let given = entry .args in
-    let w = was-possible (c .before .before .before .before .before .before .before .before .held .given .0 .0) (recordOf (c .before .before .before .before .before .before .before .before .before .before .before .before .before .look .result)) (possible (c .before .before .before .before .before .before .before .before .before .before .before .before .before .look .result) (given .at) (length (given .text .now))) (sym (c .before .before .before .before .before .before .before .before .held .given .1) ∙ c .before .before .before .before .before .before .before .before .before .before .from-word .ensures) in
+    let given = c .before .before .before .before .before .before .before .before .before .before .before .before .before .before .before .before .before .before .args in
+    let pre = c .before .before .before .before .before .before .before .before .before .before .before .before .before .before .before .before .before .before .pre in
+    let wide = c .before .before .before .before .before .before .before .before .before .before .before .before .before .before .before .wide in
+    let look = c .before .before .before .before .before .before .before .before .before .before .before .before .before .look in
+    let is-held = c .before .before .before .before .before .before .before .before .before .before .before .before .is-held in
+    let if1 = c .before .before .before .before .before .before .before .before .before .before .before .if1 in
+    let from-word = c .before .before .before .before .before .before .before .before .before .before .from-word in
+    let held = c .before .before .before .before .before .before .before .before .held in
+    let w = was-possible (held .given .0 .0) (recordOf (look .result)) (possible (look .result) (given .at) (length (given .text .now .now))) (sym (held .given .1) ∙ from-word .ensures) in
     let m = ap (λ (r : Record). r .matched) (w .1) in
     let n = ap (λ (r : Record). r .length) (w .1) in
-    (omega (arith, entry .pre .1 .0 .shallow), omega (arith, (entry .pre .1 .0 .here), (entry .pre .1 .0 .short)), omega (arith, n, rule-in-text (rulesIn (given .words .now)) (given .call % 4096) (given .room) (given .text .now) (given .table .now) (nodeV (given .room) (given .words .now) (given .text .now) (given .table .now) (given .left)) (given .call / 4096) (given .at) (given .lo) (given .hi) (given .depth) (c .before .before .before .before .before .before .before .before .before .before .before .before .before .look .ensures ∙ ap (λ (n : ℕ). getD (given .table .now) ((given .at) * n + (given .call / 4096)) 0) (c .before .before .before .before .before .before .before .before .before .before .before .before .before .before .wide .ensures .0)) (given .count .now) (given .rows .now) (sym (c .before .before .before .before .before .before .before .before .before .before .before .before .is-held .ensures) ∙ not-false (c .before .before .before .before .before .before .before .before .before .before .before .before .is-held .result) (c .before .before .before .before .before .before .before .before .before .before .before .if1 .left)) (w .0), (entry .pre .1 .0 .short)))
+    (omega (arith, pre .1 .0 .shallow), omega (arith, (pre .1 .0 .here), (pre .1 .0 .short)), omega (arith, n, rule-in-text (rulesIn (given .words .now)) (given .root) (given .room) (given .text .now .now) (given .table .now .now) (nodeV (given .room) (given .words .now) (given .text .now .now) (given .table .now .now) (given .left)) (given .rule) (given .at) (given .lo) (given .hi) (given .depth) (look .ensures ∙ ap (λ (n : ℕ). getD (given .table .now .now) ((given .at) * n + (given .rule)) 0) (wide .ensures .0)) (given .count .now) (given .rows .now) (sym (is-held .ensures) ∙ not-false (is-held .result) (if1 .left)) (w .0), (pre .1 .0 .short)))
 
 walk-rule-put-requires : (t : ℕ) → walk-rule-lts.Need-put-requires (walk-rule-claims t) (walk-rule-at t) walk-rule.Post
 walk-rule-put-requires t c κs = search needs
 
 walk-rule-add-count : (t : ℕ) → walk-rule-lts.Need-add-count (walk-rule-claims t) (walk-rule-at t) walk-rule.Post
 walk-rule-add-count t c =
-    let f = c .before .before .before .before .before .before .before .before .before .before .before .before .before .before .before .before .before .before .before .before .before .before .before .fits in let a = c .before .before .before .before .before .if4 .left in omega (arith, a, f)
+    let fits = c .before .before .before .before .before .before .before .before .before .before .before .before .before .before .before .before .before .before .before .before .before .before .fits in
+    let if4 = c .before .before .before .before .before .if4 in
+    let f = fits in let a = if4 .left in omega (arith, a, f)
 
 walk-rule-add-walk-node : (t : ℕ) → walk-rule-lts.Need-add-walk-node (walk-rule-claims t) (walk-rule-at t) walk-rule.Post
 walk-rule-add-walk-node t c =
-    omega (arith, c .before .before .before .before .before .before .before .before .before .before .before .before .before .before .before .before .before .before .before .before .before .before .before .before .before .pre .1 .0 .shallow)
+    let pre = c .before .before .before .before .before .before .before .before .before .before .before .before .before .before .before .before .before .before .before .before .before .before .before .before .pre in
+    omega (arith, pre .1 .0 .shallow)
 
 walk-rule-walk-node-requires : (t : ℕ) → walk-rule-lts.Need-walk-node-requires (walk-rule-claims t) (walk-rule-at t) walk-rule.Post
 walk-rule-walk-node-requires t c κs =
-    let entry = c .before .before .before .before .before .before .before .before .before .before .before .before .before .before .before .before .before .before .before .before .before .before .before .before .before in
-    (omega (arith, entry .pre .0), (record { short = (entry .pre .1 .0 .short); here = (entry .pre .1 .0 .here); few = (let a = c .before .before .before .before .before .before .before .if4 .left in omega (arith, a)); shallow = omega (arith, entry .pre .1 .0 .shallow) }, omega arith))
+    let pre = c .before .before .before .before .before .before .before .before .before .before .before .before .before .before .before .before .before .before .before .before .before .before .before .before .pre in
+    let if4 = c .before .before .before .before .before .before .before .if4 in
+    (omega (arith, pre .0), (record { short = (pre .1 .0 .short); here = (pre .1 .0 .here); few = (let a = if4 .left in omega (arith, a)); shallow = omega (arith, pre .1 .0 .shallow) }, pre .1 .2))
 
 walk-rule-same-length : (t : ℕ) → walk-rule-lts.Need-same-length (walk-rule-claims t) (walk-rule-at t) walk-rule.Post
 walk-rule-same-length t c = search needs
 
 walk-rule-returns-6 : (t : ℕ) → walk-rule-lts.Need-returns-6 (walk-rule-claims t) (walk-rule-at t) walk-rule.Post
 walk-rule-returns-6 t c =
-    let entry = c .before .before .before .before .before .before .before .before .before .before .before .before .before .before .before .before .before .before .before .before .before .before .before .before .before .before .before .before .before in
-    let given = entry .args in
-    let w = was-possible (c .before .before .before .before .before .before .before .before .before .before .before .before .before .before .before .before .before .before .held .given .0 .0) (recordOf (c .before .before .before .before .before .before .before .before .before .before .before .before .before .before .before .before .before .before .before .before .before .before .before .look .result)) (possible (c .before .before .before .before .before .before .before .before .before .before .before .before .before .before .before .before .before .before .before .before .before .before .before .look .result) (given .at) (length (given .text .now))) (sym (c .before .before .before .before .before .before .before .before .before .before .before .before .before .before .before .before .before .before .held .given .1) ∙ c .before .before .before .before .before .before .before .before .before .before .before .before .before .before .before .before .before .before .before .before .from-word .ensures) in
+    let given = c .before .before .before .before .before .before .before .before .before .before .before .before .before .before .before .before .before .before .before .before .before .before .before .before .before .before .before .before .args in
+    let pre = c .before .before .before .before .before .before .before .before .before .before .before .before .before .before .before .before .before .before .before .before .before .before .before .before .before .before .before .before .pre in
+    let wide = c .before .before .before .before .before .before .before .before .before .before .before .before .before .before .before .before .before .before .before .before .before .before .before .before .before .wide in
+    let look = c .before .before .before .before .before .before .before .before .before .before .before .before .before .before .before .before .before .before .before .before .before .before .before .look in
+    let is-held = c .before .before .before .before .before .before .before .before .before .before .before .before .before .before .before .before .before .before .before .before .before .before .is-held in
+    let if1 = c .before .before .before .before .before .before .before .before .before .before .before .before .before .before .before .before .before .before .before .before .before .if1 in
+    let from-word = c .before .before .before .before .before .before .before .before .before .before .before .before .before .before .before .before .before .before .before .before .from-word in
+    let held = c .before .before .before .before .before .before .before .before .before .before .before .before .before .before .before .before .before .before .held in
+    let if2 = c .before .before .before .before .before .before .before .before .before .before .before .before .before .before .before .if2 in
+    let touched = c .before .before .before .before .before .before .before .before .before .before .before .before .before .before .touched in
+    let if3 = c .before .before .before .before .before .before .before .before .before .before .before .before .before .if3 in
+    let if4 = c .before .before .before .before .before .before .before .before .before .before .before .if4 in
+    let row-word = c .before .before .before .before .before .before .before .before .before .row-word in
+    let put = c .before .before .before .before .before .before .before .before .put in
+    let w = was-possible (held .given .0 .0) (recordOf (look .result)) (possible (look .result) (given .at) (length (given .text .now .now))) (sym (held .given .1) ∙ from-word .ensures) in
     let m = ap (λ (r : Record). r .matched) (w .1) in
     let n = ap (λ (r : Record). r .length) (w .1) in
-    rule-stops (rulesIn (given .words .now)) (given .call % 4096) (given .room) (given .text .now) (given .table .now) (nodeV (given .room) (given .words .now) (given .text .now) (given .table .now) (given .left)) (given .call / 4096) (given .at) (given .lo) (given .hi) (given .depth) (c .before .before .before .before .before .before .before .before .before .before .before .before .before .before .before .before .before .before .before .before .before .before .before .look .ensures ∙ ap (λ (n : ℕ). getD (given .table .now) ((given .at) * n + (given .call / 4096)) 0) (c .before .before .before .before .before .before .before .before .before .before .before .before .before .before .before .before .before .before .before .before .before .before .before .before .wide .ensures .0)) (given .count .now) (given .rows .now) (sym (c .before .before .before .before .before .before .before .before .before .before .before .before .before .before .before .before .before .before .before .before .before .before .is-held .ensures) ∙ not-false (c .before .before .before .before .before .before .before .before .before .before .before .before .before .before .before .before .before .before .before .before .before .before .is-held .result) (c .before .before .before .before .before .before .before .before .before .before .before .before .before .before .before .before .before .before .before .before .before .if1 .left)) (w .0) (sym m ∙ not-false (c .before .before .before .before .before .before .before .before .before .before .before .before .before .before .before .before .before .before .held .given .0 .0 .matched) (c .before .before .before .before .before .before .before .before .before .before .before .before .before .before .before .if2 .left)) n (sym (c .before .before .before .before .before .before .before .before .before .before .before .before .before .before .touched .ensures) ∙ not-false (c .before .before .before .before .before .before .before .before .before .before .before .before .before .before .touched .result) (c .before .before .before .before .before .before .before .before .before .before .before .before .before .if3 .left)) (c .before .before .before .before .before .before .before .before .before .before .before .if4 .left) (c .before .before .before .before .before .before .before .before .before .row-word .ensures) (entry .pre .1 .0 .short) (entry .pre .1 .0 .here) (node-bounded (given .room) (given .words .now) (given .text .now) (given .table .now) (given .left)) _ _ _ (rw (c .before .before .before .before .before .before .before .before .put .ensures) at (c .before .before .before .walk-node .ensures)) (c .if5 .taken)
+    rule-stops (rulesIn (given .words .now)) (given .root) (given .room) (given .text .now .now) (given .table .now .now) (nodeV (given .room) (given .words .now) (given .text .now .now) (given .table .now .now) (given .left)) (given .rule) (given .at) (given .lo) (given .hi) (given .depth) (look .ensures ∙ ap (λ (n : ℕ). getD (given .table .now .now) ((given .at) * n + (given .rule)) 0) (wide .ensures .0)) (given .count .now) (given .rows .now) (sym (is-held .ensures) ∙ not-false (is-held .result) (if1 .left)) (w .0) (sym m ∙ not-false (held .given .0 .0 .matched) (if2 .left)) n (sym (touched .ensures) ∙ not-false (touched .result) (if3 .left)) (if4 .left) (row-word .ensures) (pre .1 .0 .short) (pre .1 .0 .here) (node-bounded (given .room) (given .words .now) (given .text .now .now) (given .table .now .now) (given .left)) _ _ _ (rw (put .ensures) at (c .before .before .before .walk-node .ensures)) (c .if5 .taken)
 
 walk-rule-same-length-2 : (t : ℕ) → walk-rule-lts.Need-same-length-2 (walk-rule-claims t) (walk-rule-at t) walk-rule.Post
 walk-rule-same-length-2 t c = search needs
 
 walk-rule-returns-7 : (t : ℕ) → walk-rule-lts.Need-returns-7 (walk-rule-claims t) (walk-rule-at t) walk-rule.Post
 walk-rule-returns-7 t c =
-    let entry = c .before .before .before .before .before .before .before .before .before .before .before .before .before .before .before .before .before .before .before .before .before .before .before .before .before .before .before .before .before in
-    let given = entry .args in
-    let w = was-possible (c .before .before .before .before .before .before .before .before .before .before .before .before .before .before .before .before .before .before .held .given .0 .0) (recordOf (c .before .before .before .before .before .before .before .before .before .before .before .before .before .before .before .before .before .before .before .before .before .before .before .look .result)) (possible (c .before .before .before .before .before .before .before .before .before .before .before .before .before .before .before .before .before .before .before .before .before .before .before .look .result) (given .at) (length (given .text .now))) (sym (c .before .before .before .before .before .before .before .before .before .before .before .before .before .before .before .before .before .before .held .given .1) ∙ c .before .before .before .before .before .before .before .before .before .before .before .before .before .before .before .before .before .before .before .before .from-word .ensures) in
+    let given = c .before .before .before .before .before .before .before .before .before .before .before .before .before .before .before .before .before .before .before .before .before .before .before .before .before .before .before .before .args in
+    let pre = c .before .before .before .before .before .before .before .before .before .before .before .before .before .before .before .before .before .before .before .before .before .before .before .before .before .before .before .before .pre in
+    let wide = c .before .before .before .before .before .before .before .before .before .before .before .before .before .before .before .before .before .before .before .before .before .before .before .before .before .wide in
+    let look = c .before .before .before .before .before .before .before .before .before .before .before .before .before .before .before .before .before .before .before .before .before .before .before .look in
+    let is-held = c .before .before .before .before .before .before .before .before .before .before .before .before .before .before .before .before .before .before .before .before .before .before .is-held in
+    let if1 = c .before .before .before .before .before .before .before .before .before .before .before .before .before .before .before .before .before .before .before .before .before .if1 in
+    let from-word = c .before .before .before .before .before .before .before .before .before .before .before .before .before .before .before .before .before .before .before .before .from-word in
+    let held = c .before .before .before .before .before .before .before .before .before .before .before .before .before .before .before .before .before .before .held in
+    let if2 = c .before .before .before .before .before .before .before .before .before .before .before .before .before .before .before .if2 in
+    let touched = c .before .before .before .before .before .before .before .before .before .before .before .before .before .before .touched in
+    let if3 = c .before .before .before .before .before .before .before .before .before .before .before .before .before .if3 in
+    let if4 = c .before .before .before .before .before .before .before .before .before .before .before .if4 in
+    let row-word = c .before .before .before .before .before .before .before .before .before .row-word in
+    let put = c .before .before .before .before .before .before .before .before .put in
+    let w = was-possible (held .given .0 .0) (recordOf (look .result)) (possible (look .result) (given .at) (length (given .text .now .now))) (sym (held .given .1) ∙ from-word .ensures) in
     let m = ap (λ (r : Record). r .matched) (w .1) in
     let n = ap (λ (r : Record). r .length) (w .1) in
-    rule-goes (rulesIn (given .words .now)) (given .call % 4096) (given .room) (given .text .now) (given .table .now) (nodeV (given .room) (given .words .now) (given .text .now) (given .table .now) (given .left)) (given .call / 4096) (given .at) (given .lo) (given .hi) (given .depth) (c .before .before .before .before .before .before .before .before .before .before .before .before .before .before .before .before .before .before .before .before .before .before .before .look .ensures ∙ ap (λ (n : ℕ). getD (given .table .now) ((given .at) * n + (given .call / 4096)) 0) (c .before .before .before .before .before .before .before .before .before .before .before .before .before .before .before .before .before .before .before .before .before .before .before .before .wide .ensures .0)) (given .count .now) (given .rows .now) (sym (c .before .before .before .before .before .before .before .before .before .before .before .before .before .before .before .before .before .before .before .before .before .before .is-held .ensures) ∙ not-false (c .before .before .before .before .before .before .before .before .before .before .before .before .before .before .before .before .before .before .before .before .before .before .is-held .result) (c .before .before .before .before .before .before .before .before .before .before .before .before .before .before .before .before .before .before .before .before .before .if1 .left)) (w .0) (sym m ∙ not-false (c .before .before .before .before .before .before .before .before .before .before .before .before .before .before .before .before .before .before .held .given .0 .0 .matched) (c .before .before .before .before .before .before .before .before .before .before .before .before .before .before .before .if2 .left)) n (sym (c .before .before .before .before .before .before .before .before .before .before .before .before .before .before .touched .ensures) ∙ not-false (c .before .before .before .before .before .before .before .before .before .before .before .before .before .before .touched .result) (c .before .before .before .before .before .before .before .before .before .before .before .before .before .if3 .left)) (c .before .before .before .before .before .before .before .before .before .before .before .if4 .left) (c .before .before .before .before .before .before .before .before .before .row-word .ensures) (entry .pre .1 .0 .short) (entry .pre .1 .0 .here) (node-bounded (given .room) (given .words .now) (given .text .now) (given .table .now) (given .left)) _ _ _ (rw (c .before .before .before .before .before .before .before .before .put .ensures) at (c .before .before .before .walk-node .ensures)) (c .if5 .left)
+    rule-goes (rulesIn (given .words .now)) (given .root) (given .room) (given .text .now .now) (given .table .now .now) (nodeV (given .room) (given .words .now) (given .text .now .now) (given .table .now .now) (given .left)) (given .rule) (given .at) (given .lo) (given .hi) (given .depth) (look .ensures ∙ ap (λ (n : ℕ). getD (given .table .now .now) ((given .at) * n + (given .rule)) 0) (wide .ensures .0)) (given .count .now) (given .rows .now) (sym (is-held .ensures) ∙ not-false (is-held .result) (if1 .left)) (w .0) (sym m ∙ not-false (held .given .0 .0 .matched) (if2 .left)) n (sym (touched .ensures) ∙ not-false (touched .result) (if3 .left)) (if4 .left) (row-word .ensures) (pre .1 .0 .short) (pre .1 .0 .here) (node-bounded (given .room) (given .words .now) (given .text .now .now) (given .table .now .now) (given .left)) _ _ _ (rw (put .ensures) at (c .before .before .before .walk-node .ensures)) (c .if5 .left)
 
 walk-sequence-walk-node-requires : (t : ℕ) → walk-sequence-lts.Need-walk-node-requires (walk-sequence-claims t) (walk-sequence-at t) walk-sequence.Post
 walk-sequence-walk-node-requires t c κs =
-    let entry = c .before .before .before .before .before in
-    (omega (arith, entry .pre .0), (record { short = (entry .pre .1 .0 .short); here = (entry .pre .1 .0 .here); few = (entry .pre .1 .0 .few); shallow = omega (arith, entry .pre .1 .0 .shallow) }, entry .pre .1 .1))
+    let pre = c .before .before .before .pre in
+    (omega (arith, pre .0), (record { short = (pre .1 .0 .short); here = (pre .1 .0 .here); few = (pre .1 .0 .few); shallow = omega (arith, pre .1 .0 .shallow) }, pre .1 .1))
 
 walk-sequence-same-length : (t : ℕ) → walk-sequence-lts.Need-same-length (walk-sequence-claims t) (walk-sequence-at t) walk-sequence.Post
 walk-sequence-same-length t c = search needs
 
 walk-sequence-returns : (t : ℕ) → walk-sequence-lts.Need-returns (walk-sequence-claims t) (walk-sequence-at t) walk-sequence.Post
 walk-sequence-returns t c =
-    let entry = c .before .before .before .before .before .before .before .before .before in
-    let given = entry .args in
-    let inner = nodeV (given .room) (given .words .now) (given .text .now) (given .table .now) (given .left) in
-    sequence-ends (given .text .now) (given .room) inner (entry .pre .1 .0 .short) (node-bounded (given .room) (given .words .now) (given .text .now) (given .table .now) (given .left)) (pairV (rulesIn (given .words .now)) (given .b) (given .room) (given .text .now) (given .table .now) inner) (given .a) (given .b) (given .at) (given .lo) (given .hi) (given .depth) (entry .pre .1 .0 .here) (entry .pre .1 .0 .few) (c .before .before .before .walk-node .ensures) (c .if1 .taken)
+    let given = c .before .before .before .before .before .before .before .args in
+    let pre = c .before .before .before .before .before .before .before .pre in
+    let inner = nodeV (given .room) (given .words .now) (given .text .now .now) (given .table .now .now) (given .left) in
+    sequence-ends (given .text .now .now) (given .room) inner (pre .1 .0 .short) (node-bounded (given .room) (given .words .now) (given .text .now .now) (given .table .now .now) (given .left)) (pairV (rulesIn (given .words .now)) (given .b) (given .room) (given .text .now .now) (given .table .now .now) inner) (given .a) (given .b) (given .at) (given .lo) (given .hi) (given .depth) (pre .1 .0 .here) (pre .1 .0 .few) (c .before .before .before .walk-node .ensures) (c .if1 .taken)
 
 walk-sequence-add-walk-node : (t : ℕ) → walk-sequence-lts.Need-add-walk-node (walk-sequence-claims t) (walk-sequence-at t) walk-sequence.Post
 walk-sequence-add-walk-node t c =
-    let entry = c .before .before .before .before .before .before .before .before .before .before .before in
-    let given = entry .args in
-    let inner = nodeV (given .room) (given .words .now) (given .text .now) (given .table .now) (given .left) in
-    omega (arith, (sequence-first (given .text .now) (given .room) inner (entry .pre .1 .0 .short) (node-bounded (given .room) (given .words .now) (given .text .now) (given .table .now) (given .left)) (pairV (rulesIn (given .words .now)) (given .b) (given .room) (given .text .now) (given .table .now) inner) (given .a) (given .b) (given .at) (given .lo) (given .hi) (given .depth) (entry .pre .1 .0 .here) (entry .pre .1 .0 .few) (c .before .before .before .before .before .walk-node .ensures) (c .before .before .if1 .left)) .in-text, (entry .pre .1 .0 .short))
+    let given = c .before .before .before .before .before .before .before .before .before .args in
+    let pre = c .before .before .before .before .before .before .before .before .before .pre in
+    let x = c .before .before .before .before .before .walk-node in
+    let inner = nodeV (given .room) (given .words .now) (given .text .now .now) (given .table .now .now) (given .left) in
+    omega (arith, (sequence-first (given .text .now .now) (given .room) inner (pre .1 .0 .short) (node-bounded (given .room) (given .words .now) (given .text .now .now) (given .table .now .now) (given .left)) (pairV (rulesIn (given .words .now)) (given .b) (given .room) (given .text .now .now) (given .table .now .now) inner) (given .a) (given .b) (given .at) (given .lo) (given .hi) (given .depth) (pre .1 .0 .here) (pre .1 .0 .few) (x .ensures) (c .before .before .if1 .left)) .in-text, (pre .1 .0 .short))
 
 walk-sequence-walk-node-requires-2 : (t : ℕ) → walk-sequence-lts.Need-walk-node-requires-2 (walk-sequence-claims t) (walk-sequence-at t) walk-sequence.Post
 walk-sequence-walk-node-requires-2 t c κs =
-    let entry = c .before .before .before .before .before .before .before .before .before .before .before in
-    let given = entry .args in
-    let inner = nodeV (given .room) (given .words .now) (given .text .now) (given .table .now) (given .left) in
-    (omega (arith, entry .pre .0), (record { short = (entry .pre .1 .0 .short); here = (sequence-first (given .text .now) (given .room) inner (entry .pre .1 .0 .short) (node-bounded (given .room) (given .words .now) (given .text .now) (given .table .now) (given .left)) (pairV (rulesIn (given .words .now)) (given .b) (given .room) (given .text .now) (given .table .now) inner) (given .a) (given .b) (given .at) (given .lo) (given .hi) (given .depth) (entry .pre .1 .0 .here) (entry .pre .1 .0 .few) (c .before .before .before .before .before .walk-node .ensures) (c .before .before .if1 .left)) .in-text; few = (sequence-first (given .text .now) (given .room) inner (entry .pre .1 .0 .short) (node-bounded (given .room) (given .words .now) (given .text .now) (given .table .now) (given .left)) (pairV (rulesIn (given .words .now)) (given .b) (given .room) (given .text .now) (given .table .now) inner) (given .a) (given .b) (given .at) (given .lo) (given .hi) (given .depth) (entry .pre .1 .0 .here) (entry .pre .1 .0 .few) (c .before .before .before .before .before .walk-node .ensures) (c .before .before .if1 .left)) .few; shallow = omega (arith, entry .pre .1 .0 .shallow) }, entry .pre .1 .2))
+    let given = c .before .before .before .before .before .before .before .before .before .args in
+    let pre = c .before .before .before .before .before .before .before .before .before .pre in
+    let x = c .before .before .before .before .before .walk-node in
+    let if1 = c .before .before .if1 in
+    let inner = nodeV (given .room) (given .words .now) (given .text .now .now) (given .table .now .now) (given .left) in
+    (omega (arith, pre .0), (record { short = (pre .1 .0 .short); here = (sequence-first (given .text .now .now) (given .room) inner (pre .1 .0 .short) (node-bounded (given .room) (given .words .now) (given .text .now .now) (given .table .now .now) (given .left)) (pairV (rulesIn (given .words .now)) (given .b) (given .room) (given .text .now .now) (given .table .now .now) inner) (given .a) (given .b) (given .at) (given .lo) (given .hi) (given .depth) (pre .1 .0 .here) (pre .1 .0 .few) (x .ensures) (if1 .left)) .in-text; few = (sequence-first (given .text .now .now) (given .room) inner (pre .1 .0 .short) (node-bounded (given .room) (given .words .now) (given .text .now .now) (given .table .now .now) (given .left)) (pairV (rulesIn (given .words .now)) (given .b) (given .room) (given .text .now .now) (given .table .now .now) inner) (given .a) (given .b) (given .at) (given .lo) (given .hi) (given .depth) (pre .1 .0 .here) (pre .1 .0 .few) (x .ensures) (if1 .left)) .few; shallow = omega (arith, pre .1 .0 .shallow) }, pre .1 .2))
 
 walk-sequence-same-length-2 : (t : ℕ) → walk-sequence-lts.Need-same-length-2 (walk-sequence-claims t) (walk-sequence-at t) walk-sequence.Post
 walk-sequence-same-length-2 t c = search needs
 
 walk-sequence-returns-2 : (t : ℕ) → walk-sequence-lts.Need-returns-2 (walk-sequence-claims t) (walk-sequence-at t) walk-sequence.Post
 walk-sequence-returns-2 t c =
-    let entry = c .before .before .before .before .before .before .before .before .before .before .before .before .before .before .before in
-    let given = entry .args in
-    let inner = nodeV (given .room) (given .words .now) (given .text .now) (given .table .now) (given .left) in
-    sequence-second-ends (given .text .now) (given .room) inner (entry .pre .1 .0 .short) (node-bounded (given .room) (given .words .now) (given .text .now) (given .table .now) (given .left)) (pairV (rulesIn (given .words .now)) (given .b) (given .room) (given .text .now) (given .table .now) inner) (given .a) (given .b) (given .at) (given .lo) (given .hi) (given .depth) (entry .pre .1 .0 .here) (entry .pre .1 .0 .few) (c .before .before .before .before .before .before .before .before .before .walk-node .ensures) (c .before .before .before .before .before .before .if1 .left) (c .before .before .before .walk-node2 .ensures) (c .if2 .taken)
+    let given = c .before .before .before .before .before .before .before .before .before .before .before .before .before .args in
+    let pre = c .before .before .before .before .before .before .before .before .before .before .before .before .before .pre in
+    let x = c .before .before .before .before .before .before .before .before .before .walk-node in
+    let if1 = c .before .before .before .before .before .before .if1 in
+    let inner = nodeV (given .room) (given .words .now) (given .text .now .now) (given .table .now .now) (given .left) in
+    sequence-second-ends (given .text .now .now) (given .room) inner (pre .1 .0 .short) (node-bounded (given .room) (given .words .now) (given .text .now .now) (given .table .now .now) (given .left)) (pairV (rulesIn (given .words .now)) (given .b) (given .room) (given .text .now .now) (given .table .now .now) inner) (given .a) (given .b) (given .at) (given .lo) (given .hi) (given .depth) (pre .1 .0 .here) (pre .1 .0 .few) (x .ensures) (if1 .left) (c .before .before .before .walk-node2 .ensures) (c .if2 .taken)
 
 walk-sequence-add-result : (t : ℕ) → walk-sequence-lts.Need-add-result (walk-sequence-claims t) (walk-sequence-at t) walk-sequence.Post
 walk-sequence-add-result t c =
-    let entry = c .before .before .before .before .before .before .before .before .before .before .before .before .before .before .before in
-    let given = entry .args in
-    let inner = nodeV (given .room) (given .words .now) (given .text .now) (given .table .now) (given .left) in
-    omega (arith, (sequence-second (given .text .now) (given .room) inner (entry .pre .1 .0 .short) (node-bounded (given .room) (given .words .now) (given .text .now) (given .table .now) (given .left)) (pairV (rulesIn (given .words .now)) (given .b) (given .room) (given .text .now) (given .table .now) inner) (given .a) (given .b) (given .at) (given .lo) (given .hi) (given .depth) (entry .pre .1 .0 .here) (entry .pre .1 .0 .few) (c .before .before .before .before .before .before .before .before .before .walk-node .ensures) (c .before .before .before .before .before .before .if1 .left) (c .before .before .before .walk-node2 .ensures) (c .if2 .left)) .in-text, (entry .pre .1 .0 .short))
+    let given = c .before .before .before .before .before .before .before .before .before .before .before .before .before .args in
+    let pre = c .before .before .before .before .before .before .before .before .before .before .before .before .before .pre in
+    let x = c .before .before .before .before .before .before .before .before .before .walk-node in
+    let if1 = c .before .before .before .before .before .before .if1 in
+    let inner = nodeV (given .room) (given .words .now) (given .text .now .now) (given .table .now .now) (given .left) in
+    omega (arith, (sequence-second (given .text .now .now) (given .room) inner (pre .1 .0 .short) (node-bounded (given .room) (given .words .now) (given .text .now .now) (given .table .now .now) (given .left)) (pairV (rulesIn (given .words .now)) (given .b) (given .room) (given .text .now .now) (given .table .now .now) inner) (given .a) (given .b) (given .at) (given .lo) (given .hi) (given .depth) (pre .1 .0 .here) (pre .1 .0 .few) (x .ensures) (if1 .left) (c .before .before .before .walk-node2 .ensures) (c .if2 .left)) .in-text, (pre .1 .0 .short))
 
 walk-sequence-same-length-3 : (t : ℕ) → walk-sequence-lts.Need-same-length-3 (walk-sequence-claims t) (walk-sequence-at t) walk-sequence.Post
 walk-sequence-same-length-3 t c = search needs
 
 walk-sequence-returns-3 : (t : ℕ) → walk-sequence-lts.Need-returns-3 (walk-sequence-claims t) (walk-sequence-at t) walk-sequence.Post
 walk-sequence-returns-3 t c =
-    let entry = c .before .before .before .before .before .before .before .before .before .before .before .before .before .before .before in
-    let given = entry .args in
-    let inner = nodeV (given .room) (given .words .now) (given .text .now) (given .table .now) (given .left) in
-    sequence-both (given .text .now) (given .room) inner (entry .pre .1 .0 .short) (node-bounded (given .room) (given .words .now) (given .text .now) (given .table .now) (given .left)) (pairV (rulesIn (given .words .now)) (given .b) (given .room) (given .text .now) (given .table .now) inner) (given .a) (given .b) (given .at) (given .lo) (given .hi) (given .depth) (entry .pre .1 .0 .here) (entry .pre .1 .0 .few) (c .before .before .before .before .before .before .before .before .before .walk-node .ensures) (c .before .before .before .before .before .before .if1 .left) (c .before .before .before .walk-node2 .ensures) (c .if2 .left)
+    let given = c .before .before .before .before .before .before .before .before .before .before .before .before .before .args in
+    let pre = c .before .before .before .before .before .before .before .before .before .before .before .before .before .pre in
+    let x = c .before .before .before .before .before .before .before .before .before .walk-node in
+    let if1 = c .before .before .before .before .before .before .if1 in
+    let inner = nodeV (given .room) (given .words .now) (given .text .now .now) (given .table .now .now) (given .left) in
+    sequence-both (given .text .now .now) (given .room) inner (pre .1 .0 .short) (node-bounded (given .room) (given .words .now) (given .text .now .now) (given .table .now .now) (given .left)) (pairV (rulesIn (given .words .now)) (given .b) (given .room) (given .text .now .now) (given .table .now .now) inner) (given .a) (given .b) (given .at) (given .lo) (given .hi) (given .depth) (pre .1 .0 .here) (pre .1 .0 .few) (x .ensures) (if1 .left) (c .before .before .before .walk-node2 .ensures) (c .if2 .left)
 
 abbrev walk-star-Inv-loop : walk-star-lts.InvT-loop
 walk-star-Inv-loop words text table rows₀ count₀ room a at lo hi depth left before₀ rows count before =
-    (length rows ≡ length rows₀) × ((short : length text ≤ 65535) → Rounds text room (nodeV room words text table left) short (node-bounded room words text table left) a at lo hi depth count₀ rows₀ (kindV text (nodeV room words text table left) (pairV (rulesIn words) 0 room text table (nodeV room words text table left)) (star a) at lo hi depth count₀) before rows count)
+    (length rows ≡ length rows₀) × ((short : length (text .now) ≤ 65535) → Rounds (text .now) room (nodeV room words (text .now) (table .now) left) short (node-bounded room words (text .now) (table .now) left) a at lo hi depth count₀ rows₀ (kindV (text .now) (nodeV room words (text .now) (table .now) left) (pairV (rulesIn words) 0 room (text .now) (table .now) (nodeV room words (text .now) (table .now) left)) (star a) at lo hi depth count₀) before rows count)
 
 abbrev walk-star-μ-loop : walk-star-lts.MeasureT-loop
 walk-star-μ-loop words text table rows₀ count₀ room a at lo hi depth left before₀ rows count before =
-    length text - (at + before)
+    length (text .now) - (at + before)
 
 walk-star-loop-holds : (t : ℕ) → walk-star-lts.Need-loop-holds (walk-star-claims t)
     (walk-star-at t)
@@ -632,20 +736,19 @@ walk-star-loop-holds : (t : ℕ) → walk-star-lts.Need-loop-holds (walk-star-cl
     walk-star-Inv-loop
     walk-star-μ-loop
 walk-star-loop-holds t c =
-    let entry = c .before .before .before in
-    let given = entry .args in
-    let inner = nodeV (given .room) (given .words .now) (given .text .now) (given .table .now) (given .left) in
-    (refl, λ short. star-start (given .text .now) (given .room) inner short (node-bounded (given .room) (given .words .now) (given .text .now) (given .table .now) (given .left)) (given .a) (given .at) (given .lo) (given .hi) (given .depth) (pairV (rulesIn (given .words .now)) 0 (given .room) (given .text .now) (given .table .now) inner) (entry .pre .1 .0 .here) (entry .pre .1 .0 .few))
+    let inner = nodeV (c .before .args .room) (c .before .args .words .now) (c .before .args .text .now .now) (c .before .args .table .now .now) (c .before .args .left) in
+    (refl, λ short. star-start (c .before .args .text .now .now) (c .before .args .room) inner short (node-bounded (c .before .args .room) (c .before .args .words .now) (c .before .args .text .now .now) (c .before .args .table .now .now) (c .before .args .left)) (c .before .args .a) (c .before .args .at) (c .before .args .lo) (c .before .args .hi) (c .before .args .depth) (pairV (rulesIn (c .before .args .words .now)) 0 (c .before .args .room) (c .before .args .text .now .now) (c .before .args .table .now .now) inner) (c .before .pre .1 .0 .here) (c .before .pre .1 .0 .few))
 
 walk-star-add-walk-part : (t : ℕ) → walk-star-lts.Need-add-walk-part (walk-star-claims t) (walk-star-at t) walk-star.Post walk-star-Inv-loop walk-star-μ-loop
 walk-star-add-walk-part t c =
-    let entry = c .before .before .before .before .before .before in
-    omega (arith, (c .before .before .loop .inv .1 (entry .pre .1 .0 .short)) .in-text, (entry .pre .1 .0 .short))
+    let pre = c .before .before .before .before .pre in
+    omega (arith, (c .before .before .loop .inv .1 (pre .1 .0 .short)) .in-text, (pre .1 .0 .short))
 
 walk-star-walk-part-requires : (t : ℕ) → walk-star-lts.Need-walk-part-requires (walk-star-claims t) (walk-star-at t) walk-star.Post walk-star-Inv-loop walk-star-μ-loop
 walk-star-walk-part-requires t c κs =
-    let entry = c .before .before .before .before .before .before in
-    (omega (arith, entry .pre .0), (record { short = (entry .pre .1 .0 .short); here = (c .before .before .loop .inv .1 (entry .pre .1 .0 .short)) .in-text; few = (c .before .before .loop .inv .1 (entry .pre .1 .0 .short)) .few; shallow = omega (arith, entry .pre .1 .0 .shallow) }, entry .pre .1 .1))
+    let pre = c .before .before .before .before .pre in
+    let loop = c .before .before .loop in
+    (omega (arith, pre .0), (record { short = (pre .1 .0 .short); here = (loop .inv .1 (pre .1 .0 .short)) .in-text; few = (loop .inv .1 (pre .1 .0 .short)) .few; shallow = omega (arith, pre .1 .0 .shallow) }, pre .1 .1))
 
 walk-star-same-length : (t : ℕ) → walk-star-lts.Need-same-length (walk-star-claims t) (walk-star-at t) walk-star.Post walk-star-Inv-loop walk-star-μ-loop
 walk-star-same-length t c = search needs
@@ -656,9 +759,10 @@ walk-star-returns : (t : ℕ) → walk-star-lts.Need-returns (walk-star-claims t
     walk-star-Inv-loop
     walk-star-μ-loop
 walk-star-returns t c =
-    let entry = c .before .before .before .before .before .before .before .before .before .before in
-    let given = entry .args in
-    star-stops (given .text .now) (given .room) (nodeV (given .room) (given .words .now) (given .text .now) (given .table .now) (given .left)) (entry .pre .1 .0 .short) (node-bounded (given .room) (given .words .now) (given .text .now) (given .table .now) (given .left)) (given .a) (given .at) (given .lo) (given .hi) (given .depth) (c .before .before .before .before .before .before .loop .inv .1 (entry .pre .1 .0 .short)) (c .before .before .before .walk-part .ensures) (c .if1 .taken)
+    let given = c .before .before .before .before .before .before .before .before .args in
+    let pre = c .before .before .before .before .before .before .before .before .pre in
+    let loop = c .before .before .before .before .before .before .loop in
+    star-stops (given .text .now .now) (given .room) (nodeV (given .room) (given .words .now) (given .text .now .now) (given .table .now .now) (given .left)) (pre .1 .0 .short) (node-bounded (given .room) (given .words .now) (given .text .now .now) (given .table .now .now) (given .left)) (given .a) (given .at) (given .lo) (given .hi) (given .depth) (loop .inv .1 (pre .1 .0 .short)) (c .before .before .before .walk-part .ensures) (c .if1 .taken)
 
 walk-star-same-length-2 : (t : ℕ) → walk-star-lts.Need-same-length-2 (walk-star-claims t) (walk-star-at t) walk-star.Post walk-star-Inv-loop walk-star-μ-loop
 walk-star-same-length-2 t c = search needs
@@ -669,9 +773,11 @@ walk-star-returns-2 : (t : ℕ) → walk-star-lts.Need-returns-2 (walk-star-clai
     walk-star-Inv-loop
     walk-star-μ-loop
 walk-star-returns-2 t c =
-    let entry = c .before .before .before .before .before .before .before .before .before .before .before in
-    let given = entry .args in
-    star-last (given .text .now) (given .room) (nodeV (given .room) (given .words .now) (given .text .now) (given .table .now) (given .left)) (entry .pre .1 .0 .short) (node-bounded (given .room) (given .words .now) (given .text .now) (given .table .now) (given .left)) (given .a) (given .at) (given .lo) (given .hi) (given .depth) (c .before .before .before .before .before .before .before .loop .inv .1 (entry .pre .1 .0 .short)) (c .before .before .before .before .walk-part .ensures) (c .if2 .taken)
+    let given = c .before .before .before .before .before .before .before .before .before .args in
+    let pre = c .before .before .before .before .before .before .before .before .before .pre in
+    let loop = c .before .before .before .before .before .before .before .loop in
+    let x = c .before .before .before .before .walk-part in
+    star-last (given .text .now .now) (given .room) (nodeV (given .room) (given .words .now) (given .text .now .now) (given .table .now .now) (given .left)) (pre .1 .0 .short) (node-bounded (given .room) (given .words .now) (given .text .now .now) (given .table .now .now) (given .left)) (given .a) (given .at) (given .lo) (given .hi) (given .depth) (loop .inv .1 (pre .1 .0 .short)) (x .ensures) (c .if2 .taken)
 
 walk-star-add-result : (t : ℕ) → walk-star-lts.Need-add-result (walk-star-claims t)
     (walk-star-at t)
@@ -689,9 +795,11 @@ walk-star-returns-3 : (t : ℕ) → walk-star-lts.Need-returns-3 (walk-star-clai
     walk-star-Inv-loop
     walk-star-μ-loop
 walk-star-returns-3 t c =
-    let entry = c .before .before .before .before .before .before .before .before .before .before .before .before in
-    let given = entry .args in
-    star-still (given .text .now) (given .room) (nodeV (given .room) (given .words .now) (given .text .now) (given .table .now) (given .left)) (entry .pre .1 .0 .short) (node-bounded (given .room) (given .words .now) (given .text .now) (given .table .now) (given .left)) (given .a) (given .at) (given .lo) (given .hi) (given .depth) (c .before .before .before .before .before .before .before .before .loop .inv .1 (entry .pre .1 .0 .short)) (c .before .before .before .before .before .walk-part .ensures) (c .if3 .taken)
+    let given = c .before .before .before .before .before .before .before .before .before .before .args in
+    let pre = c .before .before .before .before .before .before .before .before .before .before .pre in
+    let loop = c .before .before .before .before .before .before .before .before .loop in
+    let x = c .before .before .before .before .before .walk-part in
+    star-still (given .text .now .now) (given .room) (nodeV (given .room) (given .words .now) (given .text .now .now) (given .table .now .now) (given .left)) (pre .1 .0 .short) (node-bounded (given .room) (given .words .now) (given .text .now .now) (given .table .now .now) (given .left)) (given .a) (given .at) (given .lo) (given .hi) (given .depth) (loop .inv .1 (pre .1 .0 .short)) (x .ensures) (c .if3 .taken)
 
 walk-star-add-before : (t : ℕ) → walk-star-lts.Need-add-before (walk-star-claims t)
     (walk-star-at t)
@@ -699,9 +807,11 @@ walk-star-add-before : (t : ℕ) → walk-star-lts.Need-add-before (walk-star-cl
     walk-star-Inv-loop
     walk-star-μ-loop
 walk-star-add-before t c =
-    let entry = c .before .before .before .before .before .before .before .before .before .before .before .before in
-    let given = entry .args in
-    omega (arith, (star-found (given .text .now) (given .room) (nodeV (given .room) (given .words .now) (given .text .now) (given .table .now) (given .left)) (entry .pre .1 .0 .short) (node-bounded (given .room) (given .words .now) (given .text .now) (given .table .now) (given .left)) (given .a) (given .at) (given .lo) (given .hi) (given .depth) (c .before .before .before .before .before .before .before .before .loop .inv .1 (entry .pre .1 .0 .short)) (c .before .before .before .before .before .walk-part .ensures) (let a = c .before .before .if1 .left in let b = c .before .if2 .left in omega (arith, b))) .in-text, (entry .pre .1 .0 .short))
+    let given = c .before .before .before .before .before .before .before .before .before .before .args in
+    let pre = c .before .before .before .before .before .before .before .before .before .before .pre in
+    let loop = c .before .before .before .before .before .before .before .before .loop in
+    let x = c .before .before .before .before .before .walk-part in
+    omega (arith, (star-found (given .text .now .now) (given .room) (nodeV (given .room) (given .words .now) (given .text .now .now) (given .table .now .now) (given .left)) (pre .1 .0 .short) (node-bounded (given .room) (given .words .now) (given .text .now .now) (given .table .now .now) (given .left)) (given .a) (given .at) (given .lo) (given .hi) (given .depth) (loop .inv .1 (pre .1 .0 .short)) (x .ensures) (let a = c .before .before .if1 .left in let b = c .before .if2 .left in omega (arith, b))) .in-text, (pre .1 .0 .short))
 
 walk-star-loop-less : (t : ℕ) → walk-star-lts.Need-loop-less (walk-star-claims t)
     (walk-star-at t)
@@ -709,9 +819,11 @@ walk-star-loop-less : (t : ℕ) → walk-star-lts.Need-loop-less (walk-star-clai
     walk-star-Inv-loop
     walk-star-μ-loop
 walk-star-loop-less t c =
-    let entry = c .before .before .before .before .before .before .before .before .before .before .before .before in
-    let given = entry .args in
-    let ne = c .if3 .left in omega (arith, ne, (star-found (given .text .now) (given .room) (nodeV (given .room) (given .words .now) (given .text .now) (given .table .now) (given .left)) (entry .pre .1 .0 .short) (node-bounded (given .room) (given .words .now) (given .text .now) (given .table .now) (given .left)) (given .a) (given .at) (given .lo) (given .hi) (given .depth) (c .before .before .before .before .before .before .before .before .loop .inv .1 (entry .pre .1 .0 .short)) (c .before .before .before .before .before .walk-part .ensures) (let a = c .before .before .if1 .left in let b = c .before .if2 .left in omega (arith, b))) .in-text)
+    let given = c .before .before .before .before .before .before .before .before .before .before .args in
+    let pre = c .before .before .before .before .before .before .before .before .before .before .pre in
+    let loop = c .before .before .before .before .before .before .before .before .loop in
+    let x = c .before .before .before .before .before .walk-part in
+    let ne = c .if3 .left in omega (arith, ne, (star-found (given .text .now .now) (given .room) (nodeV (given .room) (given .words .now) (given .text .now .now) (given .table .now .now) (given .left)) (pre .1 .0 .short) (node-bounded (given .room) (given .words .now) (given .text .now .now) (given .table .now .now) (given .left)) (given .a) (given .at) (given .lo) (given .hi) (given .depth) (loop .inv .1 (pre .1 .0 .short)) (x .ensures) (let a = c .before .before .if1 .left in let b = c .before .if2 .left in omega (arith, b))) .in-text)
 
 walk-star-loop-again : (t : ℕ) → walk-star-lts.Need-loop-again (walk-star-claims t)
     (walk-star-at t)
@@ -719,8 +831,10 @@ walk-star-loop-again : (t : ℕ) → walk-star-lts.Need-loop-again (walk-star-cl
     walk-star-Inv-loop
     walk-star-μ-loop
 walk-star-loop-again t c =
-    let given = c .before .before .before .before .before .before .before .before .before .before .before .before .args in
-    (c .before .before .before .before .before .walk-part .kept .1 .1 .1 .0 ∙ c .before .before .before .before .before .before .before .before .loop .inv .0, λ short. star-more (given .text .now) (given .room) (nodeV (given .room) (given .words .now) (given .text .now) (given .table .now) (given .left)) short (node-bounded (given .room) (given .words .now) (given .text .now) (given .table .now) (given .left)) (given .a) (given .at) (given .lo) (given .hi) (given .depth) (c .before .before .before .before .before .before .before .before .loop .inv .1 short) (c .before .before .before .before .before .walk-part .ensures) (let a = c .before .before .if1 .left in let b = c .before .if2 .left in omega (arith, b)) (c .if3 .left))
+    let given = c .before .before .before .before .before .before .before .before .before .before .args in
+    let loop = c .before .before .before .before .before .before .before .before .loop in
+    let x = c .before .before .before .before .before .walk-part in
+    (x .kept .1 .1 .1 .0 ∙ loop .inv .0, λ short. star-more (given .text .now .now) (given .room) (nodeV (given .room) (given .words .now) (given .text .now .now) (given .table .now .now) (given .left)) short (node-bounded (given .room) (given .words .now) (given .text .now .now) (given .table .now .now) (given .left)) (given .a) (given .at) (given .lo) (given .hi) (given .depth) (loop .inv .1 short) (x .ensures) (let a = c .before .before .if1 .left in let b = c .before .if2 .left in omega (arith, b)) (c .if3 .left))
 
 pub +walk-choice+walk-node+walk-not+walk-part+walk-rule+walk-sequence+walk-star-spec :
     {M : Type 1} → statement M
@@ -760,8 +874,6 @@ pub +walk-choice+walk-node+walk-not+walk-part+walk-rule+walk-sequence+walk-star-
     (walk-node-walk-star-requires t)
     (walk-node-sub-walk-not t)
     (walk-node-walk-not-requires t)
-    (walk-node-mul-walk-rule t)
-    (walk-node-add-walk-rule t)
     (walk-node-sub-walk-rule t)
     (walk-node-walk-rule-requires t)
     (walk-node-add-result-2 t)

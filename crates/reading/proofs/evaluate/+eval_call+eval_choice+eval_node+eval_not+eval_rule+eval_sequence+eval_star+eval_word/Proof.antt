@@ -220,7 +220,8 @@ eval-call-returns-2 : (t : ℕ) → eval-call-lts.Need-returns-2 (eval-call-clai
 eval-call-returns-2 t c =
     let a = c .before .before .before .before .before .before .before .before .args in
     let pre = c .before .before .before .before .before .before .before .before .pre in
-    call-answered (a .text .now .now) (nodeW (a .words .now) (a .text .now .now) (a .left)) (pairM (rulesIn (a .words .now)) (a .root) (a .text .now .now) (nodeW (a .words .now) (a .text .now .now) (a .left)) (a .left)) (a .table .now) (a .count .now) (pre .1 .0 .short) (pre .1 .0 .most) (a .rule) (c .before .before .before .before .eval-rule .ensures) (c .before .if1 .left) (c .taken-over .ensures)
+    let x = c .before .before .before .before .eval-rule in
+    call-answered (a .text .now .now) (nodeW (a .words .now) (a .text .now .now) (a .left)) (pairM (rulesIn (a .words .now)) (a .root) (a .text .now .now) (nodeW (a .words .now) (a .text .now .now) (a .left)) (a .left)) (a .table .now) (a .count .now) (pre .1 .0 .short) (pre .1 .0 .most) (a .rule) (x .ensures) (c .before .if1 .left) (c .taken-over .ensures)
 
 eval-choice-eval-node-requires : (t : ℕ) → eval-choice-lts.Need-eval-node-requires (eval-choice-claims t) (eval-choice-at t) eval-choice.Post
 eval-choice-eval-node-requires t c κs =
@@ -253,7 +254,8 @@ eval-choice-returns-2 : (t : ℕ) → eval-choice-lts.Need-returns-2 (eval-choic
 eval-choice-returns-2 t c =
     let a = c .before .before .before .before .before .before .before .before .before .before .args in
     let pre = c .before .before .before .before .before .before .before .before .before .before .pre in
-    choice-first (a .text .now .now) (nodeW (a .words .now) (a .text .now .now) (a .left)) (pairM (rulesIn (a .words .now)) (a .b) (a .text .now .now) (nodeW (a .words .now) (a .text .now .now) (a .left)) (a .left)) (a .table .now) (a .count .now) (pre .1 .0 .short) (pre .1 .0 .most) (a .a) (a .b) (c .before .before .before .before .before .before .eval-node .ensures) (c .before .before .before .if1 .left) (sym (c .before .before .matched-of .ensures) ∙ c .before .if2 .taken) (c .taken-over .ensures)
+    let x = c .before .before .before .before .before .before .eval-node in
+    choice-first (a .text .now .now) (nodeW (a .words .now) (a .text .now .now) (a .left)) (pairM (rulesIn (a .words .now)) (a .b) (a .text .now .now) (nodeW (a .words .now) (a .text .now .now) (a .left)) (a .left)) (a .table .now) (a .count .now) (pre .1 .0 .short) (pre .1 .0 .most) (a .a) (a .b) (x .ensures) (c .before .before .before .if1 .left) (sym (c .before .before .matched-of .ensures) ∙ c .before .if2 .taken) (c .taken-over .ensures)
 
 eval-choice-eval-node-requires-2 : (t : ℕ) → eval-choice-lts.Need-eval-node-requires-2 (eval-choice-claims t) (eval-choice-at t) eval-choice.Post
 eval-choice-eval-node-requires-2 t c κs =
@@ -267,12 +269,18 @@ eval-choice-returns-3 : (t : ℕ) → eval-choice-lts.Need-returns-3 (eval-choic
 eval-choice-returns-3 t c =
     let a = c .before .before .before .before .before .before .before .before .before .before .before .before .before .before .before .args in
     let pre = c .before .before .before .before .before .before .before .before .before .before .before .before .before .before .before .pre in
-    choice-second-refused (a .text .now .now) (nodeW (a .words .now) (a .text .now .now) (a .left)) (pairM (rulesIn (a .words .now)) (a .b) (a .text .now .now) (nodeW (a .words .now) (a .text .now .now) (a .left)) (a .left)) (a .table .now) (a .count .now) (pre .1 .0 .short) (pre .1 .0 .most) (a .a) (a .b) (c .before .before .before .before .before .before .before .before .before .before .before .eval-node .ensures) (c .before .before .before .before .before .before .before .before .if1 .left) (sym (c .before .before .before .before .before .before .before .matched-of .ensures) ∙ c .before .before .before .before .before .before .if2 .left) (c .before .before .before .eval-node2 .ensures) (c .if3 .taken)
+    let x = c .before .before .before .before .before .before .before .before .before .before .before .eval-node in
+    let if1 = c .before .before .before .before .before .before .before .before .if1 in
+    let matched-of = c .before .before .before .before .before .before .before .matched-of in
+    let if2 = c .before .before .before .before .before .before .if2 in
+    choice-second-refused (a .text .now .now) (nodeW (a .words .now) (a .text .now .now) (a .left)) (pairM (rulesIn (a .words .now)) (a .b) (a .text .now .now) (nodeW (a .words .now) (a .text .now .now) (a .left)) (a .left)) (a .table .now) (a .count .now) (pre .1 .0 .short) (pre .1 .0 .most) (a .a) (a .b) (x .ensures) (if1 .left) (sym (matched-of .ensures) ∙ if2 .left) (c .before .before .before .eval-node2 .ensures) (c .if3 .taken)
 
 eval-choice-second-choice-requires : (t : ℕ) → eval-choice-lts.Need-second-choice-requires (eval-choice-claims t) (eval-choice-at t) eval-choice.Post
 eval-choice-second-choice-requires t c κs =
     let pre = c .before .before .before .before .before .before .before .before .before .before .before .before .before .before .before .pre in
-    (omega (arith, nesting-allowed (pre .1 .0 .short) (omega (arith, pre .1 .0 .most)) (c .before .before .before .before .before .before .before .before .before .before .before .eval-node .ensures) (c .before .before .before .before .before .before .before .before .if1 .left), pre .1 .0 .most), omega (arith, nesting-allowed (pre .1 .0 .short) (omega (arith, pre .1 .0 .most)) (c .before .before .before .eval-node2 .ensures) (c .if3 .left), pre .1 .0 .most))
+    let x = c .before .before .before .before .before .before .before .before .before .before .before .eval-node in
+    let if1 = c .before .before .before .before .before .before .before .before .if1 in
+    (omega (arith, nesting-allowed (pre .1 .0 .short) (omega (arith, pre .1 .0 .most)) (x .ensures) (if1 .left), pre .1 .0 .most), omega (arith, nesting-allowed (pre .1 .0 .short) (omega (arith, pre .1 .0 .most)) (c .before .before .before .eval-node2 .ensures) (c .if3 .left), pre .1 .0 .most))
 
 eval-choice-same-length-4 : (t : ℕ) → eval-choice-lts.Need-same-length-4 (eval-choice-claims t) (eval-choice-at t) eval-choice.Post
 eval-choice-same-length-4 t c = search needs
@@ -281,7 +289,12 @@ eval-choice-returns-4 : (t : ℕ) → eval-choice-lts.Need-returns-4 (eval-choic
 eval-choice-returns-4 t c =
     let a = c .before .before .before .before .before .before .before .before .before .before .before .before .before .before .before .before .args in
     let pre = c .before .before .before .before .before .before .before .before .before .before .before .before .before .before .before .before .pre in
-    choice-second (a .text .now .now) (nodeW (a .words .now) (a .text .now .now) (a .left)) (pairM (rulesIn (a .words .now)) (a .b) (a .text .now .now) (nodeW (a .words .now) (a .text .now .now) (a .left)) (a .left)) (a .table .now) (a .count .now) (pre .1 .0 .short) (pre .1 .0 .most) (a .a) (a .b) (c .before .before .before .before .before .before .before .before .before .before .before .before .eval-node .ensures) (c .before .before .before .before .before .before .before .before .before .if1 .left) (sym (c .before .before .before .before .before .before .before .before .matched-of .ensures) ∙ c .before .before .before .before .before .before .before .if2 .left) (c .before .before .before .before .eval-node2 .ensures) (c .before .if3 .left) (c .second-choice .ensures)
+    let x = c .before .before .before .before .before .before .before .before .before .before .before .before .eval-node in
+    let if1 = c .before .before .before .before .before .before .before .before .before .if1 in
+    let matched-of = c .before .before .before .before .before .before .before .before .matched-of in
+    let if2 = c .before .before .before .before .before .before .before .if2 in
+    let y = c .before .before .before .before .eval-node2 in
+    choice-second (a .text .now .now) (nodeW (a .words .now) (a .text .now .now) (a .left)) (pairM (rulesIn (a .words .now)) (a .b) (a .text .now .now) (nodeW (a .words .now) (a .text .now .now) (a .left)) (a .left)) (a .table .now) (a .count .now) (pre .1 .0 .short) (pre .1 .0 .most) (a .a) (a .b) (x .ensures) (if1 .left) (sym (matched-of .ensures) ∙ if2 .left) (y .ensures) (c .before .if3 .left) (c .second-choice .ensures)
 
 eval-node-returns : (t : ℕ) → eval-node-lts.Need-returns (eval-node-claims t) (eval-node-at t) eval-node.Post
 eval-node-returns t c =
@@ -306,9 +319,10 @@ eval-node-returns-2 : (t : ℕ) → eval-node-lts.Need-returns-2 (eval-node-clai
 unfolding kindM nodeOfKind
 eval-node-returns-2 t c =
     let a = c .before .before .before .before .before .before .before .before .args in
+    let pre = c .before .before .before .before .before .before .before .before .pre in
     let if1 = c .before .before .before .before .before .before .if1 in
     let node-of = c .before .before .before .before .node-of in
-    let s = shape (range (node-of .result .a) (node-of .result .b)) (a .text .now .now) (a .at) (c .before .before .before .before .before .before .before .before .pre .1 .0 .here) in
+    let s = shape (range (node-of .result .a) (node-of .result .b)) (a .text .now .now) (a .at) (pre .1 .0 .here) in
     node-goes (a .words .now) (a .text .now .now) (a .left) (a .node) (a .at) (a .table .now) (a .count .now) (if1 .left) (word-goes (a .words .now) (a .text .now .now) (a .left) (getD (a .words .now) (a .node) 0) (a .at) (a .table .now) (a .count .now) (if1 .left) (word-is (getD (a .words .now) (a .node) 0) (node-of .ensures) {k = 2} (c .before .before .if2 .taken))
     (gives-value (terminalAt (range (node-of .result .a) (node-of .result .b)) (a .text .now .now) (a .at)) refl (c .byte-between .ensures)
     (record { in-text = s .in-text; up-to-end = s .up-to-end; in-examined = s .in-examined; failure = s .failure; nested = omega (arith, s .flat) })
@@ -317,7 +331,8 @@ eval-node-returns-2 t c =
 eval-node-eval-word-requires : (t : ℕ) → eval-node-lts.Need-eval-word-requires (eval-node-claims t) (eval-node-at t) eval-node.Post
 eval-node-eval-word-requires t c κs =
     let pre = c .before .before .before .before .before .before .before .before .pre in
-    (omega (arith, pre .0), (pre .1 .0, let ne = c .before .before .before .before .before .before .if1 .left in omega (arith, ne)))
+    let if1 = c .before .before .before .before .before .before .if1 in
+    (omega (arith, pre .0), (pre .1 .0, let ne = if1 .left in omega (arith, ne)))
 
 eval-node-same-length : (t : ℕ) → eval-node-lts.Need-same-length (eval-node-claims t) (eval-node-at t) eval-node.Post
 eval-node-same-length t c = search needs
@@ -325,7 +340,8 @@ eval-node-same-length t c = search needs
 eval-node-returns-3 : (t : ℕ) → eval-node-lts.Need-returns-3 (eval-node-claims t) (eval-node-at t) eval-node.Post
 eval-node-returns-3 t c =
     let a = c .before .before .before .before .before .before .before .before .before .before .before .args in
-    node-goes (a .words .now) (a .text .now .now) (a .left) (a .node) (a .at) (a .table .now) (a .count .now) (c .before .before .before .before .before .before .before .before .before .if1 .left) (c .before .before .eval-word .ensures)
+    let if1 = c .before .before .before .before .before .before .before .before .before .if1 in
+    node-goes (a .words .now) (a .text .now .now) (a .left) (a .node) (a .at) (a .table .now) (a .count .now) (if1 .left) (c .before .before .eval-word .ensures)
 
 eval-not-eval-node-requires : (t : ℕ) → eval-not-lts.Need-eval-node-requires (eval-not-claims t) (eval-not-at t) eval-not.Post
 eval-not-eval-node-requires t c κs =
@@ -353,7 +369,8 @@ eval-not-returns-2 : (t : ℕ) → eval-not-lts.Need-returns-2 (eval-not-claims 
 eval-not-returns-2 t c =
     let a = c .before .before .before .before .before .before .before .before .args in
     let pre = c .before .before .before .before .before .before .before .before .pre in
-    not-answered (a .text .now .now) (nodeW (a .words .now) (a .text .now .now) (a .left)) (pairM (rulesIn (a .words .now)) 0 (a .text .now .now) (nodeW (a .words .now) (a .text .now .now) (a .left)) (a .left)) (a .table .now) (a .count .now) (pre .1 .0 .short) (pre .1 .0 .most) (a .a) (c .before .before .before .before .eval-node .ensures) (c .before .if1 .left) (c .negated-answer .ensures)
+    let x = c .before .before .before .before .eval-node in
+    not-answered (a .text .now .now) (nodeW (a .words .now) (a .text .now .now) (a .left)) (pairM (rulesIn (a .words .now)) 0 (a .text .now .now) (nodeW (a .words .now) (a .text .now .now) (a .left)) (a .left)) (a .table .now) (a .count .now) (pre .1 .0 .short) (pre .1 .0 .most) (a .a) (x .ensures) (c .before .if1 .left) (c .negated-answer .ensures)
 
 eval-rule-rules-in-requires : (t : ℕ) → eval-rule-lts.Need-rules-in-requires (eval-rule-claims t) (eval-rule-at t) eval-rule.Post
 eval-rule-rules-in-requires t c κs = search needs
@@ -379,8 +396,10 @@ eval-rule-same-length t c = search needs
 eval-rule-returns : (t : ℕ) → eval-rule-lts.Need-returns (eval-rule-claims t) (eval-rule-at t) eval-rule.Post
 eval-rule-returns t c =
     let a = c .before .before .before .before .before .before .before .before .before .args in
+    let rules-in = c .before .before .before .before .before .before .before .rules-in in
     let look = c .before .before .before .before .before .look in
-    rule-impossible (rulesIn (a .words .now)) (a .root) (a .text .now .now) (nodeW (a .words .now) (a .text .now .now) (a .left)) (a .left) (a .rule) (a .at) (a .table .now) (a .count .now) (rw (c .before .before .before .before .before .before .before .rules-in .ensures .0) at (look .ensures)) (sym (c .before .before .before .before .is-held .ensures) ∙ c .before .before .before .if1 .taken) (was-impossible (recordOf (look .result)) (possible (look .result) (a .at) (length (a .text .now .now))) (sym (c .enum-told .given .1) ∙ c .before .before .from-word .ensures))
+    let is-held = c .before .before .before .before .is-held in
+    rule-impossible (rulesIn (a .words .now)) (a .root) (a .text .now .now) (nodeW (a .words .now) (a .text .now .now) (a .left)) (a .left) (a .rule) (a .at) (a .table .now) (a .count .now) (rw (rules-in .ensures .0) at (look .ensures)) (sym (is-held .ensures) ∙ c .before .before .before .if1 .taken) (was-impossible (recordOf (look .result)) (possible (look .result) (a .at) (length (a .text .now .now))) (sym (c .enum-told .given .1) ∙ c .before .before .from-word .ensures))
 
 eval-rule-same-length-2 : (t : ℕ) → eval-rule-lts.Need-same-length-2 (eval-rule-claims t) (eval-rule-at t) eval-rule.Post
 eval-rule-same-length-2 t c = search needs
@@ -388,11 +407,15 @@ eval-rule-same-length-2 t c = search needs
 eval-rule-returns-2 : (t : ℕ) → eval-rule-lts.Need-returns-2 (eval-rule-claims t) (eval-rule-at t) eval-rule.Post
 eval-rule-returns-2 t c =
     let a = c .before .before .before .before .before .before .before .before .before .before .before .before .args in
+    let rules-in = c .before .before .before .before .before .before .before .before .before .before .rules-in in
     let look = c .before .before .before .before .before .before .before .before .look in
+    let is-held = c .before .before .before .before .before .before .before .is-held in
+    let if1 = c .before .before .before .before .before .before .if1 in
+    let from-word = c .before .before .before .before .before .from-word in
     let held = c .before .before .before .held in
-    let w = was-possible (held .given .0 .0) (recordOf (look .result)) (possible (look .result) (a .at) (length (a .text .now .now))) (sym (held .given .1) ∙ c .before .before .before .before .before .from-word .ensures) in
+    let w = was-possible (held .given .0 .0) (recordOf (look .result)) (possible (look .result) (a .at) (length (a .text .now .now))) (sym (held .given .1) ∙ from-word .ensures) in
     let e = ap (λ (r : Record). r .nesting) (w .1) in
-    rule-too-deep (rulesIn (a .words .now)) (a .root) (a .text .now .now) (nodeW (a .words .now) (a .text .now .now) (a .left)) (a .left) (a .rule) (a .at) (a .table .now) (a .count .now) (rw (c .before .before .before .before .before .before .before .before .before .before .rules-in .ensures .0) at (look .ensures)) (sym (c .before .before .before .before .before .before .before .is-held .ensures) ∙ c .before .before .before .before .before .before .if1 .taken) (w .0) (omega (arith, e, c .if2 .taken))
+    rule-too-deep (rulesIn (a .words .now)) (a .root) (a .text .now .now) (nodeW (a .words .now) (a .text .now .now) (a .left)) (a .left) (a .rule) (a .at) (a .table .now) (a .count .now) (rw (rules-in .ensures .0) at (look .ensures)) (sym (is-held .ensures) ∙ if1 .taken) (w .0) (omega (arith, e, c .if2 .taken))
 
 eval-rule-word-requires : (t : ℕ) → eval-rule-lts.Need-word-requires (eval-rule-claims t) (eval-rule-at t) eval-rule.Post
 eval-rule-word-requires t c κs = search needs
@@ -403,11 +426,15 @@ eval-rule-same-length-3 t c = search needs
 eval-rule-returns-3 : (t : ℕ) → eval-rule-lts.Need-returns-3 (eval-rule-claims t) (eval-rule-at t) eval-rule.Post
 eval-rule-returns-3 t c =
     let a = c .before .before .before .before .before .before .before .before .before .before .before .before .before .args in
+    let rules-in = c .before .before .before .before .before .before .before .before .before .before .before .rules-in in
     let look = c .before .before .before .before .before .before .before .before .before .look in
+    let is-held = c .before .before .before .before .before .before .before .before .is-held in
+    let if1 = c .before .before .before .before .before .before .before .if1 in
+    let from-word = c .before .before .before .before .before .before .from-word in
     let held = c .before .before .before .before .held in
-    let w = was-possible (held .given .0 .0) (recordOf (look .result)) (possible (look .result) (a .at) (length (a .text .now .now))) (sym (held .given .1) ∙ c .before .before .before .before .before .before .from-word .ensures) in
+    let w = was-possible (held .given .0 .0) (recordOf (look .result)) (possible (look .result) (a .at) (length (a .text .now .now))) (sym (held .given .1) ∙ from-word .ensures) in
     let e = ap (λ (r : Record). r .nesting) (w .1) in
-    rule-met (rulesIn (a .words .now)) (a .root) (a .text .now .now) (nodeW (a .words .now) (a .text .now .now) (a .left)) (a .left) (a .rule) (a .at) (a .table .now) (a .count .now) (rw (c .before .before .before .before .before .before .before .before .before .before .before .rules-in .ensures .0) at (look .ensures)) (sym (c .before .before .before .before .before .before .before .before .is-held .ensures) ∙ c .before .before .before .before .before .before .before .if1 .taken) (w .0) (omega (arith, e, c .before .if2 .left)) (c .word .ensures ∙ ap recordWord (w .1))
+    rule-met (rulesIn (a .words .now)) (a .root) (a .text .now .now) (nodeW (a .words .now) (a .text .now .now) (a .left)) (a .left) (a .rule) (a .at) (a .table .now) (a .count .now) (rw (rules-in .ensures .0) at (look .ensures)) (sym (is-held .ensures) ∙ if1 .taken) (w .0) (omega (arith, e, c .before .if2 .left)) (c .word .ensures ∙ ap recordWord (w .1))
 
 eval-rule-eval-node-requires : (t : ℕ) → eval-rule-lts.Need-eval-node-requires (eval-rule-claims t) (eval-rule-at t) eval-rule.Post
 eval-rule-eval-node-requires t c κs =
@@ -421,7 +448,11 @@ eval-rule-returns-4 : (t : ℕ) → eval-rule-lts.Need-returns-4 (eval-rule-clai
 eval-rule-returns-4 t c =
     let a = c .before .before .before .before .before .before .before .before .before .before .before .before .args in
     let pre = c .before .before .before .before .before .before .before .before .before .before .before .before .pre in
-    rule-refused (rulesIn (a .words .now)) (a .root) (a .text .now .now) (nodeW (a .words .now) (a .text .now .now) (a .left)) (a .left) (a .rule) (a .at) (a .table .now) (a .count .now) (rw (c .before .before .before .before .before .before .before .before .before .before .rules-in .ensures .0) at (c .before .before .before .before .before .before .before .before .look .ensures)) (pre .1 .0 .short) (pre .1 .0 .most) (sym (c .before .before .before .before .before .before .before .is-held .ensures) ∙ c .before .before .before .before .before .before .if1 .left) (c .before .before .before .eval-node .ensures) (c .if3 .taken)
+    let rules-in = c .before .before .before .before .before .before .before .before .before .before .rules-in in
+    let look = c .before .before .before .before .before .before .before .before .look in
+    let is-held = c .before .before .before .before .before .before .before .is-held in
+    let if1 = c .before .before .before .before .before .before .if1 in
+    rule-refused (rulesIn (a .words .now)) (a .root) (a .text .now .now) (nodeW (a .words .now) (a .text .now .now) (a .left)) (a .left) (a .rule) (a .at) (a .table .now) (a .count .now) (rw (rules-in .ensures .0) at (look .ensures)) (pre .1 .0 .short) (pre .1 .0 .most) (sym (is-held .ensures) ∙ if1 .left) (c .before .before .before .eval-node .ensures) (c .if3 .taken)
 
 eval-rule-put-requires : (t : ℕ) → eval-rule-lts.Need-put-requires (eval-rule-claims t) (eval-rule-at t) eval-rule.Post
 eval-rule-put-requires t c κs = search needs
@@ -437,8 +468,14 @@ eval-rule-returns-5 t c =
     let a = c .before .before .before .before .before .before .before .before .before .before .before .before .before .before .before .before .before .before .args in
     let pre = c .before .before .before .before .before .before .before .before .before .before .before .before .before .before .before .before .before .before .pre in
     let rules-in = c .before .before .before .before .before .before .before .before .before .before .before .before .before .before .before .before .rules-in in
-    rw (c .before .before .before .before .put .ensures, rules-in .ensures .0, c .wrapping-add-u64 .ensures)
-    (rule-stored (rulesIn (a .words .now)) (a .root) (a .text .now .now) (nodeW (a .words .now) (a .text .now .now) (a .left)) (a .left) (a .rule) (a .at) (a .table .now) (a .count .now) (rw (rules-in .ensures .0) at (c .before .before .before .before .before .before .before .before .before .before .before .before .before .before .look .ensures)) (pre .1 .0 .short) (pre .1 .0 .most) (sym (c .before .before .before .before .before .before .before .before .before .before .before .before .before .is-held .ensures) ∙ c .before .before .before .before .before .before .before .before .before .before .before .before .if1 .left) (c .before .before .before .before .before .before .before .before .before .eval-node .ensures) (c .before .before .before .before .before .before .if3 .left))
+    let look = c .before .before .before .before .before .before .before .before .before .before .before .before .before .before .look in
+    let is-held = c .before .before .before .before .before .before .before .before .before .before .before .before .before .is-held in
+    let if1 = c .before .before .before .before .before .before .before .before .before .before .before .before .if1 in
+    let x = c .before .before .before .before .before .before .before .before .before .eval-node in
+    let if3 = c .before .before .before .before .before .before .if3 in
+    let put = c .before .before .before .before .put in
+    rw (put .ensures, rules-in .ensures .0, c .wrapping-add-u64 .ensures)
+    (rule-stored (rulesIn (a .words .now)) (a .root) (a .text .now .now) (nodeW (a .words .now) (a .text .now .now) (a .left)) (a .left) (a .rule) (a .at) (a .table .now) (a .count .now) (rw (rules-in .ensures .0) at (look .ensures)) (pre .1 .0 .short) (pre .1 .0 .most) (sym (is-held .ensures) ∙ if1 .left) (x .ensures) (if3 .left))
 
 eval-sequence-eval-node-requires : (t : ℕ) → eval-sequence-lts.Need-eval-node-requires (eval-sequence-claims t) (eval-sequence-at t) eval-sequence.Post
 eval-sequence-eval-node-requires t c κs =
@@ -460,7 +497,8 @@ eval-sequence-matched-of-requires t c κs = search needs
 eval-sequence-first-failed-requires : (t : ℕ) → eval-sequence-lts.Need-first-failed-requires (eval-sequence-claims t) (eval-sequence-at t) eval-sequence.Post
 eval-sequence-first-failed-requires t c κs =
     let pre = c .before .before .before .before .before .before .before .before .before .pre in
-    omega (arith, nesting-allowed (pre .1 .0 .short) (omega (arith, pre .1 .0 .most)) (c .before .before .before .before .before .eval-node .ensures) (c .before .before .if1 .left), pre .1 .0 .most)
+    let x = c .before .before .before .before .before .eval-node in
+    omega (arith, nesting-allowed (pre .1 .0 .short) (omega (arith, pre .1 .0 .most)) (x .ensures) (c .before .before .if1 .left), pre .1 .0 .most)
 
 eval-sequence-same-length-2 : (t : ℕ) → eval-sequence-lts.Need-same-length-2 (eval-sequence-claims t) (eval-sequence-at t) eval-sequence.Post
 eval-sequence-same-length-2 t c = search needs
@@ -469,8 +507,9 @@ eval-sequence-returns-2 : (t : ℕ) → eval-sequence-lts.Need-returns-2 (eval-s
 eval-sequence-returns-2 t c =
     let a = c .before .before .before .before .before .before .before .before .before .before .args in
     let pre = c .before .before .before .before .before .before .before .before .before .before .pre in
+    let x = c .before .before .before .before .before .before .eval-node in
     let matched-of = c .before .before .matched-of in
-    sequence-failed (a .text .now .now) (nodeW (a .words .now) (a .text .now .now) (a .left)) (pairM (rulesIn (a .words .now)) (a .b) (a .text .now .now) (nodeW (a .words .now) (a .text .now .now) (a .left)) (a .left)) (a .table .now) (a .count .now) (pre .1 .0 .short) (pre .1 .0 .most) (a .a) (a .b) (c .before .before .before .before .before .before .eval-node .ensures) (c .before .before .before .if1 .left) (sym (matched-of .ensures) ∙ not-true (matched-of .result) (c .before .if2 .taken)) (c .first-failed .ensures)
+    sequence-failed (a .text .now .now) (nodeW (a .words .now) (a .text .now .now) (a .left)) (pairM (rulesIn (a .words .now)) (a .b) (a .text .now .now) (nodeW (a .words .now) (a .text .now .now) (a .left)) (a .left)) (a .table .now) (a .count .now) (pre .1 .0 .short) (pre .1 .0 .most) (a .a) (a .b) (x .ensures) (c .before .before .before .if1 .left) (sym (matched-of .ensures) ∙ not-true (matched-of .result) (c .before .if2 .taken)) (c .first-failed .ensures)
 
 eval-sequence-length-of-requires : (t : ℕ) → eval-sequence-lts.Need-length-of-requires (eval-sequence-claims t) (eval-sequence-at t) eval-sequence.Post
 eval-sequence-length-of-requires t c κs = search needs
@@ -478,12 +517,16 @@ eval-sequence-length-of-requires t c κs = search needs
 eval-sequence-add-eval-node : (t : ℕ) → eval-sequence-lts.Need-add-eval-node (eval-sequence-claims t) (eval-sequence-at t) eval-sequence.Post
 eval-sequence-add-eval-node t c =
     let pre = c .before .before .before .before .before .before .before .before .before .before .before .before .pre in
-    omega (arith, length-within (pre .1 .0 .short) (omega (arith, pre .1 .0 .most)) (c .before .before .before .before .before .before .before .before .eval-node .ensures) (c .before .before .before .before .before .if1 .left), c .length-of .ensures .0, pre .1 .0 .short)
+    let x = c .before .before .before .before .before .before .before .before .eval-node in
+    let if1 = c .before .before .before .before .before .if1 in
+    omega (arith, length-within (pre .1 .0 .short) (omega (arith, pre .1 .0 .most)) (x .ensures) (if1 .left), c .length-of .ensures .0, pre .1 .0 .short)
 
 eval-sequence-eval-node-requires-2 : (t : ℕ) → eval-sequence-lts.Need-eval-node-requires-2 (eval-sequence-claims t) (eval-sequence-at t) eval-sequence.Post
 eval-sequence-eval-node-requires-2 t c κs =
     let pre = c .before .before .before .before .before .before .before .before .before .before .before .before .pre in
-    (omega (arith, pre .0), (record { short = pre .1 .0 .short; here = omega (arith, length-within (pre .1 .0 .short) (omega (arith, pre .1 .0 .most)) (c .before .before .before .before .before .before .before .before .eval-node .ensures) (c .before .before .before .before .before .if1 .left), c .length-of .ensures .0); most = omega (arith, pre .1 .0 .most) }, pre .1 .2))
+    let x = c .before .before .before .before .before .before .before .before .eval-node in
+    let if1 = c .before .before .before .before .before .if1 in
+    (omega (arith, pre .0), (record { short = pre .1 .0 .short; here = omega (arith, length-within (pre .1 .0 .short) (omega (arith, pre .1 .0 .most)) (x .ensures) (if1 .left), c .length-of .ensures .0); most = omega (arith, pre .1 .0 .most) }, pre .1 .2))
 
 eval-sequence-same-length-3 : (t : ℕ) → eval-sequence-lts.Need-same-length-3 (eval-sequence-claims t) (eval-sequence-at t) eval-sequence.Post
 eval-sequence-same-length-3 t c = search needs
@@ -492,15 +535,23 @@ eval-sequence-returns-3 : (t : ℕ) → eval-sequence-lts.Need-returns-3 (eval-s
 eval-sequence-returns-3 t c =
     let a = c .before .before .before .before .before .before .before .before .before .before .before .before .before .before .before .before .args in
     let pre = c .before .before .before .before .before .before .before .before .before .before .before .before .before .before .before .before .pre in
+    let x = c .before .before .before .before .before .before .before .before .before .before .before .before .eval-node in
+    let if1 = c .before .before .before .before .before .before .before .before .before .if1 in
     let matched-of = c .before .before .before .before .before .before .before .before .matched-of in
-    sequence-second-refused (a .text .now .now) (nodeW (a .words .now) (a .text .now .now) (a .left)) (pairM (rulesIn (a .words .now)) (a .b) (a .text .now .now) (nodeW (a .words .now) (a .text .now .now) (a .left)) (a .left)) (a .table .now) (a .count .now) (pre .1 .0 .short) (pre .1 .0 .most) (a .a) (a .b) (c .before .before .before .before .before .before .before .before .before .before .before .before .eval-node .ensures) (c .before .before .before .before .before .before .before .before .before .if1 .left) (sym (matched-of .ensures) ∙ not-false (matched-of .result) (c .before .before .before .before .before .before .before .if2 .left)) (rw (c .before .before .before .before .length-of .ensures .0) at (c .before .before .before .eval-node2 .ensures)) (c .if3 .taken)
+    let if2 = c .before .before .before .before .before .before .before .if2 in
+    let length-of = c .before .before .before .before .length-of in
+    sequence-second-refused (a .text .now .now) (nodeW (a .words .now) (a .text .now .now) (a .left)) (pairM (rulesIn (a .words .now)) (a .b) (a .text .now .now) (nodeW (a .words .now) (a .text .now .now) (a .left)) (a .left)) (a .table .now) (a .count .now) (pre .1 .0 .short) (pre .1 .0 .most) (a .a) (a .b) (x .ensures) (if1 .left) (sym (matched-of .ensures) ∙ not-false (matched-of .result) (if2 .left)) (rw (length-of .ensures .0) at (c .before .before .before .eval-node2 .ensures)) (c .if3 .taken)
 
 eval-sequence-in-sequence-requires : (t : ℕ) → eval-sequence-lts.Need-in-sequence-requires (eval-sequence-claims t) (eval-sequence-at t) eval-sequence.Post
 eval-sequence-in-sequence-requires t c κs =
     let a = c .before .before .before .before .before .before .before .before .before .before .before .before .before .before .before .before .args in
     let pre = c .before .before .before .before .before .before .before .before .before .before .before .before .before .before .before .before .pre in
+    let x = c .before .before .before .before .before .before .before .before .before .before .before .before .eval-node in
+    let if1 = c .before .before .before .before .before .before .before .before .before .if1 in
     let matched-of = c .before .before .before .before .before .before .before .before .matched-of in
-    joinable (a .text .now .now) (nodeW (a .words .now) (a .text .now .now) (a .left)) (pairM (rulesIn (a .words .now)) (a .b) (a .text .now .now) (nodeW (a .words .now) (a .text .now .now) (a .left)) (a .left)) (a .table .now) (a .count .now) (pre .1 .0 .short) (pre .1 .0 .most) (a .a) (a .b) (c .before .before .before .before .before .before .before .before .before .before .before .before .eval-node .ensures) (c .before .before .before .before .before .before .before .before .before .if1 .left) (sym (matched-of .ensures) ∙ not-false (matched-of .result) (c .before .before .before .before .before .before .before .if2 .left)) (rw (c .before .before .before .before .length-of .ensures .0) at (c .before .before .before .eval-node2 .ensures)) (c .if3 .left)
+    let if2 = c .before .before .before .before .before .before .before .if2 in
+    let length-of = c .before .before .before .before .length-of in
+    joinable (a .text .now .now) (nodeW (a .words .now) (a .text .now .now) (a .left)) (pairM (rulesIn (a .words .now)) (a .b) (a .text .now .now) (nodeW (a .words .now) (a .text .now .now) (a .left)) (a .left)) (a .table .now) (a .count .now) (pre .1 .0 .short) (pre .1 .0 .most) (a .a) (a .b) (x .ensures) (if1 .left) (sym (matched-of .ensures) ∙ not-false (matched-of .result) (if2 .left)) (rw (length-of .ensures .0) at (c .before .before .before .eval-node2 .ensures)) (c .if3 .left)
 
 eval-sequence-same-length-4 : (t : ℕ) → eval-sequence-lts.Need-same-length-4 (eval-sequence-claims t) (eval-sequence-at t) eval-sequence.Post
 eval-sequence-same-length-4 t c = search needs
@@ -509,8 +560,13 @@ eval-sequence-returns-4 : (t : ℕ) → eval-sequence-lts.Need-returns-4 (eval-s
 eval-sequence-returns-4 t c =
     let a = c .before .before .before .before .before .before .before .before .before .before .before .before .before .before .before .before .before .args in
     let pre = c .before .before .before .before .before .before .before .before .before .before .before .before .before .before .before .before .before .pre in
+    let x = c .before .before .before .before .before .before .before .before .before .before .before .before .before .eval-node in
+    let if1 = c .before .before .before .before .before .before .before .before .before .before .if1 in
     let matched-of = c .before .before .before .before .before .before .before .before .before .matched-of in
-    sequence-both (a .text .now .now) (nodeW (a .words .now) (a .text .now .now) (a .left)) (pairM (rulesIn (a .words .now)) (a .b) (a .text .now .now) (nodeW (a .words .now) (a .text .now .now) (a .left)) (a .left)) (a .table .now) (a .count .now) (pre .1 .0 .short) (pre .1 .0 .most) (a .a) (a .b) (c .before .before .before .before .before .before .before .before .before .before .before .before .before .eval-node .ensures) (c .before .before .before .before .before .before .before .before .before .before .if1 .left) (sym (matched-of .ensures) ∙ not-false (matched-of .result) (c .before .before .before .before .before .before .before .before .if2 .left)) (rw (c .before .before .before .before .before .length-of .ensures .0) at (c .before .before .before .before .eval-node2 .ensures)) (c .before .if3 .left) (c .in-sequence .ensures)
+    let if2 = c .before .before .before .before .before .before .before .before .if2 in
+    let length-of = c .before .before .before .before .before .length-of in
+    let y = c .before .before .before .before .eval-node2 in
+    sequence-both (a .text .now .now) (nodeW (a .words .now) (a .text .now .now) (a .left)) (pairM (rulesIn (a .words .now)) (a .b) (a .text .now .now) (nodeW (a .words .now) (a .text .now .now) (a .left)) (a .left)) (a .table .now) (a .count .now) (pre .1 .0 .short) (pre .1 .0 .most) (a .a) (a .b) (x .ensures) (if1 .left) (sym (matched-of .ensures) ∙ not-false (matched-of .result) (if2 .left)) (rw (length-of .ensures .0) at (y .ensures)) (c .before .if3 .left) (c .in-sequence .ensures)
 
 abbrev eval-star-Inv-loop : eval-star-lts.InvT-loop
 eval-star-Inv-loop words text table₀ count₀ a at left consumed₀ examined₀ deepest₀ table count consumed examined deepest =
@@ -526,7 +582,8 @@ eval-star-loop-holds t c =
 
 eval-star-add-eval-node : (t : ℕ) → eval-star-lts.Need-add-eval-node (eval-star-claims t) (eval-star-at t) eval-star.Post eval-star-Inv-loop eval-star-μ-loop
 eval-star-add-eval-node t c =
-    omega (arith, c .before .before .loop .inv .1 .in-text, c .before .before .before .before .pre .1 .0 .short)
+    let pre = c .before .before .before .before .pre in
+    omega (arith, c .before .before .loop .inv .1 .in-text, pre .1 .0 .short)
 
 eval-star-eval-node-requires : (t : ℕ) → eval-star-lts.Need-eval-node-requires (eval-star-claims t) (eval-star-at t) eval-star.Post eval-star-Inv-loop eval-star-μ-loop
 eval-star-eval-node-requires t c κs =
@@ -541,15 +598,18 @@ unfolding kindM
 eval-star-returns t c =
     let a = c .before .before .before .before .before .before .before .before .args in
     let pre = c .before .before .before .before .before .before .before .before .pre in
+    let loop = c .before .before .before .before .before .before .loop in
     let x = c .before .before .before .eval-node in
-    gives-refusal (round-refused (nodeW (a .words .now) (a .text .now .now) (a .left)) (a .a) (pre .1 .0 .short) (pre .1 .0 .most) (c .before .before .before .before .before .before .loop .inv .1) (x .ensures) (c .if1 .taken)) (was-refused (pre .1 .0 .short) (omega (arith, pre .1 .0 .most)) (x .ensures) (c .if1 .taken) .small)
+    gives-refusal (round-refused (nodeW (a .words .now) (a .text .now .now) (a .left)) (a .a) (pre .1 .0 .short) (pre .1 .0 .most) (loop .inv .1) (x .ensures) (c .if1 .taken)) (was-refused (pre .1 .0 .short) (omega (arith, pre .1 .0 .most)) (x .ensures) (c .if1 .taken) .small)
 
 eval-star-examined-of-requires : (t : ℕ) → eval-star-lts.Need-examined-of-requires (eval-star-claims t) (eval-star-at t) eval-star.Post eval-star-Inv-loop eval-star-μ-loop
 eval-star-examined-of-requires t c κs = search needs
 
 eval-star-add-larger : (t : ℕ) → eval-star-lts.Need-add-larger (eval-star-claims t) (eval-star-at t) eval-star.Post eval-star-Inv-loop eval-star-μ-loop
 eval-star-add-larger t c =
-    omega (arith, c .examined-of .ensures .1, c .before .before .before .before .before .before .before .loop .inv .1 .in-text, c .before .before .before .before .before .before .before .before .before .pre .1 .0 .short)
+    let pre = c .before .before .before .before .before .before .before .before .before .pre in
+    let loop = c .before .before .before .before .before .before .before .loop in
+    omega (arith, c .examined-of .ensures .1, loop .inv .1 .in-text, pre .1 .0 .short)
 
 eval-star-larger-requires : (t : ℕ) → eval-star-lts.Need-larger-requires (eval-star-claims t) (eval-star-at t) eval-star.Post eval-star-Inv-loop eval-star-μ-loop
 eval-star-larger-requires t c κs = search needs
@@ -567,7 +627,10 @@ eval-star-add-answer : (t : ℕ) → eval-star-lts.Need-add-answer (eval-star-cl
 eval-star-add-answer t c =
     let a = c .before .before .before .before .before .before .before .before .before .before .before .before .before .before .args in
     let pre = c .before .before .before .before .before .before .before .before .before .before .before .before .before .before .pre in
-    let b = round-bounds (nodeW (a .words .now) (a .text .now .now) (a .left)) (a .a) (pre .1 .0 .short) (pre .1 .0 .most) (c .before .before .before .before .before .before .before .before .before .before .before .before .loop .inv .1) (c .before .before .before .before .before .before .before .before .before .eval-node .ensures) (c .before .before .before .before .before .before .if1 .left) in
+    let loop = c .before .before .before .before .before .before .before .before .before .before .before .before .loop in
+    let x = c .before .before .before .before .before .before .before .before .before .eval-node in
+    let if1 = c .before .before .before .before .before .before .if1 in
+    let b = round-bounds (nodeW (a .words .now) (a .text .now .now) (a .left)) (a .a) (pre .1 .0 .short) (pre .1 .0 .most) (loop .inv .1) (x .ensures) (if1 .left) in
     let e = (rw (c .before .before .before .nesting-of .ensures .0) at (c .before .before .larger2 .ensures)) in
     omega (arith, b .1, pre .1 .0 .most)
 
@@ -576,8 +639,12 @@ eval-star-answer-requires t c κs =
     let a = c .before .before .before .before .before .before .before .before .before .before .before .before .before .before .args in
     let pre = c .before .before .before .before .before .before .before .before .before .before .before .before .before .before .pre in
     let loop = c .before .before .before .before .before .before .before .before .before .before .before .before .loop in
-    let b = round-bounds (nodeW (a .words .now) (a .text .now .now) (a .left)) (a .a) (pre .1 .0 .short) (pre .1 .0 .most) (loop .inv .1) (c .before .before .before .before .before .before .before .before .before .eval-node .ensures) (c .before .before .before .before .before .before .if1 .left) in
-    let d = (rw (c .before .before .before .before .before .examined-of .ensures .0) at (c .before .before .before .before .larger .ensures)) in
+    let x = c .before .before .before .before .before .before .before .before .before .eval-node in
+    let if1 = c .before .before .before .before .before .before .if1 in
+    let examined-of = c .before .before .before .before .before .examined-of in
+    let larger = c .before .before .before .before .larger in
+    let b = round-bounds (nodeW (a .words .now) (a .text .now .now) (a .left)) (a .a) (pre .1 .0 .short) (pre .1 .0 .most) (loop .inv .1) (x .ensures) (if1 .left) in
+    let d = (rw (examined-of .ensures .0) at (larger .ensures)) in
     let e = (rw (c .before .before .before .nesting-of .ensures .0) at (c .before .before .larger2 .ensures)) in
     (omega (arith, b .1, pre .1 .0 .most), omega (arith, b .0, pre .1 .0 .short), omega (arith, loop .inv .1 .in-text, pre .1 .0 .short))
 
@@ -588,8 +655,14 @@ eval-star-returns-2 : (t : ℕ) → eval-star-lts.Need-returns-2 (eval-star-clai
 eval-star-returns-2 t c =
     let a = c .before .before .before .before .before .before .before .before .before .before .before .before .before .before .before .args in
     let pre = c .before .before .before .before .before .before .before .before .before .before .before .before .before .before .before .pre in
+    let loop = c .before .before .before .before .before .before .before .before .before .before .before .before .before .loop in
+    let x = c .before .before .before .before .before .before .before .before .before .before .eval-node in
+    let if1 = c .before .before .before .before .before .before .before .if1 in
+    let examined-of = c .before .before .before .before .before .before .examined-of in
+    let larger = c .before .before .before .before .before .larger in
+    let nesting-of = c .before .before .before .before .nesting-of in
     let matched-of = c .before .before .matched-of in
-    round-fails (nodeW (a .words .now) (a .text .now .now) (a .left)) (a .a) (pre .1 .0 .short) (pre .1 .0 .most) (c .before .before .before .before .before .before .before .before .before .before .before .before .before .loop .inv .1) (c .before .before .before .before .before .before .before .before .before .before .eval-node .ensures) (c .before .before .before .before .before .before .before .if1 .left) (a .text .now .now) (pairM (rulesIn (a .words .now)) 0 (a .text .now .now) (nodeW (a .words .now) (a .text .now .now) (a .left)) (a .left)) (a .table .now) (a .count .now) refl (sym (matched-of .ensures) ∙ not-true (matched-of .result) (c .before .if2 .taken)) (rw (c .before .before .before .before .before .before .examined-of .ensures .0) at (c .before .before .before .before .before .larger .ensures)) (rw (c .before .before .before .before .nesting-of .ensures .0) at (c .before .before .before .larger2 .ensures)) (c .answer .ensures)
+    round-fails (nodeW (a .words .now) (a .text .now .now) (a .left)) (a .a) (pre .1 .0 .short) (pre .1 .0 .most) (loop .inv .1) (x .ensures) (if1 .left) (a .text .now .now) (pairM (rulesIn (a .words .now)) 0 (a .text .now .now) (nodeW (a .words .now) (a .text .now .now) (a .left)) (a .left)) (a .table .now) (a .count .now) refl (sym (matched-of .ensures) ∙ not-true (matched-of .result) (c .before .if2 .taken)) (rw (examined-of .ensures .0) at (larger .ensures)) (rw (nesting-of .ensures .0) at (c .before .before .before .larger2 .ensures)) (c .answer .ensures)
 
 eval-star-length-of-requires : (t : ℕ) → eval-star-lts.Need-length-of-requires (eval-star-claims t) (eval-star-at t) eval-star.Post eval-star-Inv-loop eval-star-μ-loop
 eval-star-length-of-requires t c κs = search needs
@@ -602,18 +675,25 @@ unfolding kindM
 eval-star-returns-3 t c =
     let a = c .before .before .before .before .before .before .before .before .before .before .before .before .before .before .before .before .args in
     let pre = c .before .before .before .before .before .before .before .before .before .before .before .before .before .before .before .before .pre in
+    let loop = c .before .before .before .before .before .before .before .before .before .before .before .before .before .before .loop in
+    let x = c .before .before .before .before .before .before .before .before .before .before .before .eval-node in
+    let if1 = c .before .before .before .before .before .before .before .before .if1 in
     let matched-of = c .before .before .before .matched-of in
-    gives-refusal (round-still (nodeW (a .words .now) (a .text .now .now) (a .left)) (a .a) (pre .1 .0 .short) (pre .1 .0 .most) (c .before .before .before .before .before .before .before .before .before .before .before .before .before .before .loop .inv .1) (c .before .before .before .before .before .before .before .before .before .before .before .eval-node .ensures) (c .before .before .before .before .before .before .before .before .if1 .left) (sym (matched-of .ensures) ∙ not-false (matched-of .result) (c .before .before .if2 .left)) (sym (c .before .length-of .ensures .0) ∙ c .if3 .taken)) (omega arith)
+    gives-refusal (round-still (nodeW (a .words .now) (a .text .now .now) (a .left)) (a .a) (pre .1 .0 .short) (pre .1 .0 .most) (loop .inv .1) (x .ensures) (if1 .left) (sym (matched-of .ensures) ∙ not-false (matched-of .result) (c .before .before .if2 .left)) (sym (c .before .length-of .ensures .0) ∙ c .if3 .taken)) (omega arith)
 
 eval-star-add-consumed : (t : ℕ) → eval-star-lts.Need-add-consumed (eval-star-claims t) (eval-star-at t) eval-star.Post eval-star-Inv-loop eval-star-μ-loop
 eval-star-add-consumed t c =
-    omega (arith, c .before .length-of .ensures .1, c .before .before .before .before .before .before .before .before .before .before .before .before .before .before .loop .inv .1 .in-text, c .before .before .before .before .before .before .before .before .before .before .before .before .before .before .before .before .pre .1 .0 .short)
+    let pre = c .before .before .before .before .before .before .before .before .before .before .before .before .before .before .before .before .pre in
+    let loop = c .before .before .before .before .before .before .before .before .before .before .before .before .before .before .loop in
+    omega (arith, c .before .length-of .ensures .1, loop .inv .1 .in-text, pre .1 .0 .short)
 
 eval-star-loop-less : (t : ℕ) → eval-star-lts.Need-loop-less (eval-star-claims t) (eval-star-at t) eval-star.Post eval-star-Inv-loop eval-star-μ-loop
 eval-star-loop-less t c =
     let pre = c .before .before .before .before .before .before .before .before .before .before .before .before .before .before .before .before .pre in
+    let x = c .before .before .before .before .before .before .before .before .before .before .before .eval-node in
+    let if1 = c .before .before .before .before .before .before .before .before .if1 in
     let ne = c .if3 .left in
-    omega (arith, length-within (pre .1 .0 .short) (omega (arith, pre .1 .0 .most)) (c .before .before .before .before .before .before .before .before .before .before .before .eval-node .ensures) (c .before .before .before .before .before .before .before .before .if1 .left), c .before .length-of .ensures .0, ne)
+    omega (arith, length-within (pre .1 .0 .short) (omega (arith, pre .1 .0 .most)) (x .ensures) (if1 .left), c .before .length-of .ensures .0, ne)
 
 eval-star-loop-again : (t : ℕ) → eval-star-lts.Need-loop-again (eval-star-claims t) (eval-star-at t) eval-star.Post eval-star-Inv-loop eval-star-μ-loop
 eval-star-loop-again t c =
@@ -621,8 +701,13 @@ eval-star-loop-again t c =
     let pre = c .before .before .before .before .before .before .before .before .before .before .before .before .before .before .before .before .pre in
     let loop = c .before .before .before .before .before .before .before .before .before .before .before .before .before .before .loop in
     let x = c .before .before .before .before .before .before .before .before .before .before .before .eval-node in
+    let if1 = c .before .before .before .before .before .before .before .before .if1 in
+    let examined-of = c .before .before .before .before .before .before .before .examined-of in
+    let larger = c .before .before .before .before .before .before .larger in
+    let nesting-of = c .before .before .before .before .before .nesting-of in
+    let larger2 = c .before .before .before .before .larger2 in
     let matched-of = c .before .before .before .matched-of in
-    (x .kept .1 .1 .0 ∙ loop .inv .0, round-goes (nodeW (a .words .now) (a .text .now .now) (a .left)) (a .a) (pre .1 .0 .short) (pre .1 .0 .most) (loop .inv .1) (x .ensures) (c .before .before .before .before .before .before .before .before .if1 .left) (sym (matched-of .ensures) ∙ not-false (matched-of .result) (c .before .before .if2 .left)) (rw (c .before .before .before .before .before .before .before .examined-of .ensures .0) at (c .before .before .before .before .before .before .larger .ensures)) (rw (c .before .before .before .before .before .nesting-of .ensures .0) at (c .before .before .before .before .larger2 .ensures)) (c .before .length-of .ensures .0) (c .if3 .left))
+    (x .kept .1 .1 .0 ∙ loop .inv .0, round-goes (nodeW (a .words .now) (a .text .now .now) (a .left)) (a .a) (pre .1 .0 .short) (pre .1 .0 .most) (loop .inv .1) (x .ensures) (if1 .left) (sym (matched-of .ensures) ∙ not-false (matched-of .result) (c .before .before .if2 .left)) (rw (examined-of .ensures .0) at (larger .ensures)) (rw (nesting-of .ensures .0) at (larger2 .ensures)) (c .before .length-of .ensures .0) (c .if3 .left))
 
 eval-word-node-of-requires : (t : ℕ) → eval-word-lts.Need-node-of-requires (eval-word-claims t) (eval-word-at t) eval-word.Post
 eval-word-node-of-requires t c κs = search needs
@@ -635,7 +720,8 @@ eval-word-byte-between-requires t c κs = search needs
 
 eval-word-sub-eval-sequence : (t : ℕ) → eval-word-lts.Need-sub-eval-sequence (eval-word-claims t) (eval-word-at t) eval-word.Post
 eval-word-sub-eval-sequence t c =
-    omega (arith, c .before .before .before .before .before .pre .1 .1)
+    let pre = c .before .before .before .before .before .pre in
+    omega (arith, pre .1 .1)
 
 eval-word-eval-sequence-requires : (t : ℕ) → eval-word-lts.Need-eval-sequence-requires (eval-word-claims t) (eval-word-at t) eval-word.Post
 eval-word-eval-sequence-requires t c κs =
@@ -645,7 +731,8 @@ eval-word-eval-sequence-requires t c κs =
 
 eval-word-sub-eval-choice : (t : ℕ) → eval-word-lts.Need-sub-eval-choice (eval-word-claims t) (eval-word-at t) eval-word.Post
 eval-word-sub-eval-choice t c =
-    omega (arith, c .before .before .before .before .before .pre .1 .1)
+    let pre = c .before .before .before .before .before .pre in
+    omega (arith, pre .1 .1)
 
 eval-word-eval-choice-requires : (t : ℕ) → eval-word-lts.Need-eval-choice-requires (eval-word-claims t) (eval-word-at t) eval-word.Post
 eval-word-eval-choice-requires t c κs =
@@ -655,7 +742,8 @@ eval-word-eval-choice-requires t c κs =
 
 eval-word-sub-eval-star : (t : ℕ) → eval-word-lts.Need-sub-eval-star (eval-word-claims t) (eval-word-at t) eval-word.Post
 eval-word-sub-eval-star t c =
-    omega (arith, c .before .before .before .before .before .pre .1 .1)
+    let pre = c .before .before .before .before .before .pre in
+    omega (arith, pre .1 .1)
 
 eval-word-eval-star-requires : (t : ℕ) → eval-word-lts.Need-eval-star-requires (eval-word-claims t) (eval-word-at t) eval-word.Post
 eval-word-eval-star-requires t c κs =
@@ -664,7 +752,8 @@ eval-word-eval-star-requires t c κs =
 
 eval-word-sub-eval-not : (t : ℕ) → eval-word-lts.Need-sub-eval-not (eval-word-claims t) (eval-word-at t) eval-word.Post
 eval-word-sub-eval-not t c =
-    omega (arith, c .before .before .before .before .before .pre .1 .1)
+    let pre = c .before .before .before .before .before .pre in
+    omega (arith, pre .1 .1)
 
 eval-word-eval-not-requires : (t : ℕ) → eval-word-lts.Need-eval-not-requires (eval-word-claims t) (eval-word-at t) eval-word.Post
 eval-word-eval-not-requires t c κs =
@@ -673,7 +762,8 @@ eval-word-eval-not-requires t c κs =
 
 eval-word-sub-eval-call : (t : ℕ) → eval-word-lts.Need-sub-eval-call (eval-word-claims t) (eval-word-at t) eval-word.Post
 eval-word-sub-eval-call t c =
-    omega (arith, c .before .before .before .before .before .pre .1 .1)
+    let pre = c .before .before .before .before .before .pre in
+    omega (arith, pre .1 .1)
 
 eval-word-eval-call-requires : (t : ℕ) → eval-word-lts.Need-eval-call-requires (eval-word-claims t) (eval-word-at t) eval-word.Post
 eval-word-eval-call-requires t c κs =
@@ -716,7 +806,9 @@ eval-word-returns-4 : (t : ℕ) → eval-word-lts.Need-returns-4 (eval-word-clai
 unfolding kindM nodeOfKind
 eval-word-returns-4 t c =
     let a = c .before .before .before .before .before .before .before .before .args in
-    word-goes (a .words .now) (a .text .now .now) (a .left) (a .word) (a .at) (a .table .now) (a .count .now) (λ z. let l = c .before .before .before .before .before .before .before .before .pre .1 .1 in omega arith) (word-is (a .word) (c .before .before .before .before .before .before .node-of .ensures) {k = 3} (omega arith)) (c .before .before .eval-sequence .ensures)
+    let pre = c .before .before .before .before .before .before .before .before .pre in
+    let node-of = c .before .before .before .before .before .before .node-of in
+    word-goes (a .words .now) (a .text .now .now) (a .left) (a .word) (a .at) (a .table .now) (a .count .now) (λ z. let l = pre .1 .1 in omega arith) (word-is (a .word) (node-of .ensures) {k = 3} (omega arith)) (c .before .before .eval-sequence .ensures)
 
 eval-word-same-length-2 : (t : ℕ) → eval-word-lts.Need-same-length-2 (eval-word-claims t) (eval-word-at t) eval-word.Post
 eval-word-same-length-2 t c = search needs
@@ -725,7 +817,9 @@ eval-word-returns-5 : (t : ℕ) → eval-word-lts.Need-returns-5 (eval-word-clai
 unfolding kindM nodeOfKind
 eval-word-returns-5 t c =
     let a = c .before .before .before .before .before .before .before .before .args in
-    word-goes (a .words .now) (a .text .now .now) (a .left) (a .word) (a .at) (a .table .now) (a .count .now) (λ z. let l = c .before .before .before .before .before .before .before .before .pre .1 .1 in omega arith) (word-is (a .word) (c .before .before .before .before .before .before .node-of .ensures) {k = 4} (omega arith)) (c .before .before .eval-choice .ensures)
+    let pre = c .before .before .before .before .before .before .before .before .pre in
+    let node-of = c .before .before .before .before .before .before .node-of in
+    word-goes (a .words .now) (a .text .now .now) (a .left) (a .word) (a .at) (a .table .now) (a .count .now) (λ z. let l = pre .1 .1 in omega arith) (word-is (a .word) (node-of .ensures) {k = 4} (omega arith)) (c .before .before .eval-choice .ensures)
 
 eval-word-same-length-3 : (t : ℕ) → eval-word-lts.Need-same-length-3 (eval-word-claims t) (eval-word-at t) eval-word.Post
 eval-word-same-length-3 t c = search needs
@@ -734,7 +828,9 @@ eval-word-returns-6 : (t : ℕ) → eval-word-lts.Need-returns-6 (eval-word-clai
 unfolding kindM nodeOfKind
 eval-word-returns-6 t c =
     let a = c .before .before .before .before .before .before .before .before .args in
-    word-goes (a .words .now) (a .text .now .now) (a .left) (a .word) (a .at) (a .table .now) (a .count .now) (λ z. let l = c .before .before .before .before .before .before .before .before .pre .1 .1 in omega arith) (word-is (a .word) (c .before .before .before .before .before .before .node-of .ensures) {k = 5} (omega arith)) (c .before .before .eval-star .ensures)
+    let pre = c .before .before .before .before .before .before .before .before .pre in
+    let node-of = c .before .before .before .before .before .before .node-of in
+    word-goes (a .words .now) (a .text .now .now) (a .left) (a .word) (a .at) (a .table .now) (a .count .now) (λ z. let l = pre .1 .1 in omega arith) (word-is (a .word) (node-of .ensures) {k = 5} (omega arith)) (c .before .before .eval-star .ensures)
 
 eval-word-same-length-4 : (t : ℕ) → eval-word-lts.Need-same-length-4 (eval-word-claims t) (eval-word-at t) eval-word.Post
 eval-word-same-length-4 t c = search needs
@@ -743,7 +839,9 @@ eval-word-returns-7 : (t : ℕ) → eval-word-lts.Need-returns-7 (eval-word-clai
 unfolding kindM nodeOfKind
 eval-word-returns-7 t c =
     let a = c .before .before .before .before .before .before .before .before .args in
-    word-goes (a .words .now) (a .text .now .now) (a .left) (a .word) (a .at) (a .table .now) (a .count .now) (λ z. let l = c .before .before .before .before .before .before .before .before .pre .1 .1 in omega arith) (word-is (a .word) (c .before .before .before .before .before .before .node-of .ensures) {k = 6} (omega arith)) (c .before .before .eval-not .ensures)
+    let pre = c .before .before .before .before .before .before .before .before .pre in
+    let node-of = c .before .before .before .before .before .before .node-of in
+    word-goes (a .words .now) (a .text .now .now) (a .left) (a .word) (a .at) (a .table .now) (a .count .now) (λ z. let l = pre .1 .1 in omega arith) (word-is (a .word) (node-of .ensures) {k = 6} (omega arith)) (c .before .before .eval-not .ensures)
 
 eval-word-same-length-5 : (t : ℕ) → eval-word-lts.Need-same-length-5 (eval-word-claims t) (eval-word-at t) eval-word.Post
 eval-word-same-length-5 t c = search needs
@@ -752,24 +850,27 @@ eval-word-returns-8 : (t : ℕ) → eval-word-lts.Need-returns-8 (eval-word-clai
 unfolding kindM nodeOfKind
 eval-word-returns-8 t c =
     let a = c .before .before .before .before .before .before .before .before .args in
+    let pre = c .before .before .before .before .before .before .before .before .pre in
     let node-of = c .before .before .before .before .before .before .node-of in
-    call-goes (a .words .now) (a .text .now .now) (a .left) (a .word) (a .at) (a .table .now) (a .count .now) (λ z. let l = c .before .before .before .before .before .before .before .before .pre .1 .1 in omega arith) (node-of .ensures .its-b) (word-is (a .word) (node-of .ensures) {k = 7} (omega arith)) (c .before .before .eval-call .ensures)
+    call-goes (a .words .now) (a .text .now .now) (a .left) (a .word) (a .at) (a .table .now) (a .count .now) (λ z. let l = pre .1 .1 in omega arith) (node-of .ensures .its-b) (word-is (a .word) (node-of .ensures) {k = 7} (omega arith)) (c .before .before .eval-call .ensures)
 
 eval-word-returns-9 : (t : ℕ) → eval-word-lts.Need-returns-9 (eval-word-claims t) (eval-word-at t) eval-word.Post
 unfolding kindM
 eval-word-returns-9 t c =
     let a = c .before .before .before .before .args in
+    let pre = c .before .before .before .before .pre in
     let node-of = c .before .before .node-of in
     let k = past-7 (node-of .result .kind) (c .before .match .rest .0 .0 .0 .0 .0 .0 .0 .1) (c .before .match .rest .0 .0 .0 .0 .0 .0 .1) (c .before .match .rest .0 .0 .0 .0 .0 .1) (c .before .match .rest .0 .0 .0 .0 .1) (c .before .match .rest .0 .0 .0 .1) (c .before .match .rest .0 .0 .1) (c .before .match .rest .0 .1) (c .before .match .rest .1) in
-    word-goes (a .words .now) (a .text .now .now) (a .left) (a .word) (a .at) (a .table .now) (a .count .now) (λ z. let l = c .before .before .before .before .pre .1 .1 in omega arith) (word-unlawful (a .word) (node-of .ensures) k) (gives-refusal refl (omega arith))
+    word-goes (a .words .now) (a .text .now .now) (a .left) (a .word) (a .at) (a .table .now) (a .count .now) (λ z. let l = pre .1 .1 in omega arith) (word-unlawful (a .word) (node-of .ensures) k) (gives-refusal refl (omega arith))
 
 eval-word-returns-10 : (t : ℕ) → eval-word-lts.Need-returns-10 (eval-word-claims t) (eval-word-at t) eval-word.Post
 unfolding kindM
 eval-word-returns-10 t c =
     let a = c .before .before .before .before .args in
+    let pre = c .before .before .before .before .pre in
     let node-of = c .before .before .node-of in
     let k = past-7 (node-of .result .kind) (c .before .match .rest .0 .0 .0 .0 .0 .0 .0 .1) (c .before .match .rest .0 .0 .0 .0 .0 .0 .1) (c .before .match .rest .0 .0 .0 .0 .0 .1) (c .before .match .rest .0 .0 .0 .0 .1) (c .before .match .rest .0 .0 .0 .1) (c .before .match .rest .0 .0 .1) (c .before .match .rest .0 .1) (c .before .match .rest .1) in
-    word-goes (a .words .now) (a .text .now .now) (a .left) (a .word) (a .at) (a .table .now) (a .count .now) (λ z. let l = c .before .before .before .before .pre .1 .1 in omega arith) (word-unlawful (a .word) (node-of .ensures) k) (gives-refusal refl (omega arith))
+    word-goes (a .words .now) (a .text .now .now) (a .left) (a .word) (a .at) (a .table .now) (a .count .now) (λ z. let l = pre .1 .1 in omega arith) (word-unlawful (a .word) (node-of .ensures) k) (gives-refusal refl (omega arith))
 
 pub +eval-call+eval-choice+eval-node+eval-not+eval-rule+eval-sequence+eval-star+eval-word-spec :
     {M : Type 1} → statement M
