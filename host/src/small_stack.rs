@@ -4,8 +4,8 @@
 use std::panic::resume_unwind;
 use std::thread::Builder;
 
-/// The stack that a call may count on, in bytes. A listing takes the most: up to 496 bytes for each level
-/// of nesting, 1,985 KiB at 4,096.
+/// The stack that a call may count on, in bytes. A listing takes the most: 1,473 KiB at nesting 4,096 by a
+/// chain of calls.
 pub const STACK_BYTES: usize = 2 << 20;
 
 /// Does `work` in a thread with that stack and gives back what it gives.
