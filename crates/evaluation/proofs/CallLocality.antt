@@ -38,7 +38,7 @@ abbrev pub shifted : ℕ → Pair → Pair
 shifted k x = record { rule = x .rule; position = k + x .position }
 
 -- The calls of two parts, one after the other.
-both :
+pub both :
     {img text : List ℕ} {answers : ℕ → ℕ → CallAnswer} {s t : Subject} {p q : ℕ} {x y : Evaluation} {us vs : List Pair} (k : ℕ)
     (u : Evaluates img text answers s p x) (v : Evaluates img text answers t q y)
     → us ≡ map (shifted k) (callsOf u)

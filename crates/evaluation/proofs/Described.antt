@@ -1,7 +1,6 @@
 -- Outcome sets describe evaluations: an evaluation that matches nothing long shows outcome 0, one that consumes outcome 1, a
 -- failure outcome f; where the records that answer calls are described so too. Assumes nothing.
 --     described     the outcome of an evaluation of a node is in the node's set
---     rounds-move   where a star's body lacks outcome 0, no matched round has length 0
 use Prim.Native.Nat.{ℕ, zero, suc, _+_, _≤_}
 use native.Mathlib.Omega.{arith}
 use mathlib.Core.Path.{_≡_, refl, sym, subst}

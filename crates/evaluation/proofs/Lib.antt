@@ -6,8 +6,10 @@ pub mod Totality
 pub mod Locality
 pub mod Pairs
 pub mod CallLocality
+pub mod Relocation
 pub mod Counts
 pub mod Bodies
 pub mod BodiesOnce
 pub mod Range
 pub mod Reach
+pub mod Inside

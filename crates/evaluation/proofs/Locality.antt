@@ -1,12 +1,11 @@
 -- What an evaluation examined decides it.
 --     prefix-decides   a text with the same bytes up to where it examined gives the same evaluation; where it examined the end, p +
 --                      examined is n + 1 and no such text is asked
---     moved, unmoved   what stands before the position does not matter: an evaluation moves with the rest of the text, the end
---                      included
--- Proved from the terminal's laws. Assumes nothing.
+--     moved            what stands before the position does not matter: an evaluation moves with the rest of the text, the end included
+-- CallLocality says the same of the pairs called, and Relocation has the way back. Proved from the terminal's laws. Assumes nothing.
 use Prim.Native.Nat.{ℕ, _+_, _≤_}
 use native.Mathlib.Omega.{arith}
-use mathlib.Core.Path.{_≡_, refl, sym, ap, _∙_}
+use mathlib.Core.Path.{_≡_, sym, ap, _∙_}
 use mathlib.Core.List.{List, _++_}
 use lib.ListN.{length, take}
 use Rattle.grammar.specs.declared.Evaluation.{Evaluation}
@@ -68,29 +67,3 @@ module _ (img before text : List ℕ) where
   moved (ev-call u e) q h = ev-call (moved u q h) e
   moved (ev-body b u) q h = ev-body b (moved u q h)
   moved (ev-record b) q h = absurd (no-record b)
-
-  pub unmoved :
-      {s : Subject} {q : ℕ} {z : Evaluation}
-      → Fresh img (before ++ text) s q z
-      → (p : ℕ) → q ≡ length before + p → Fresh img text s p z
-  unmoved (ev-empty e) p h = ev-empty e
-  unmoved (ev-terminal {t} e) p h =
-      ev-terminal (e ∙ ap (λ (k : ℕ). terminalAt t (before ++ text) k) h ∙ suffix t before text p)
-  unmoved (ev-then-first-fails u a e) p h = ev-then-first-fails (unmoved u p h) a e
-  unmoved (ev-then {x = x} u a v e) p h = ev-then (unmoved u p h) a (unmoved v (p + x .length) (omega arith)) e
-  unmoved (ev-else-first u a e) p h = ev-else-first (unmoved u p h) a e
-  unmoved (ev-else-second u a v e) p h = ev-else-second (unmoved u p h) a (unmoved v p h) e
-  unmoved (ev-star u e) p h = ev-star (unmoved u p h) e
-  unmoved (ev-last-round u a e) p h = ev-last-round (unmoved u p h) a e
-  unmoved (ev-round {x = x} u a v e) p h = ev-round (unmoved u p h) a (unmoved v (p + x .length) (omega arith)) e
-  unmoved (ev-not u e) p h = ev-not (unmoved u p h) e
-  unmoved (ev-call u e) p h = ev-call (unmoved u p h) e
-  unmoved (ev-body q u) p h = ev-body q (unmoved u p h)
-  unmoved (ev-record q) p h = absurd (no-record q)
-
--- An evaluation in x ++ z stands at the moved position of y ++ z.
-pub relocated :
-    (img x y z : List ℕ) {s : Subject} {v : Evaluation} (j : ℕ)
-    → Fresh img (x ++ z) s (length x + j) v
-    → Fresh img (y ++ z) s (length y + j) v
-relocated img x y z j u = moved img y z (unmoved img x z u j refl) (length y + j) refl

@@ -1,5 +1,4 @@
--- Every accepted image and text has an evaluation: for every node and position, by Ford's rules. And with the star's body lacking
--- outcome 0, no matched round has length 0. Assumes nothing.
+-- Every accepted image and text has an evaluation: for every node and position, by Ford's rules. Assumes nothing.
 --     total        an evaluation of every node at every position of the text
 --     total-pair   and of every pair
 use Prim.Native.Nat.{ℕ, zero, suc, _+_, _-_, _≤_, _<_}

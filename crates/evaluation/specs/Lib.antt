@@ -1,4 +1,5 @@
--- The shape of an evaluation, its pairs and counts of pairs; the theorems about evaluations are in proofs/.
+-- The shape of an evaluation, what is made inside it, its pairs and counts of pairs; the theorems about evaluations are in proofs/.
 pub mod Within
 pub mod Calls
 pub mod Counts
+pub mod Inside

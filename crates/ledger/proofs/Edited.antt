@@ -21,12 +21,12 @@ use Rattle.grammar.proofs.Determinism.{one}
 use Rattle.evaluation.specs.Calls.{Pair, callsOf}
 use Rattle.evaluation.proofs.Locality.{prefix-decides, moved}
 use Rattle.evaluation.proofs.CallLocality.{prefix-calls, moved-calls, shifted}
+use Rattle.evaluation.proofs.Relocation.{Back, moved-back}
 use Rattle.editing.specs.Text.{EditFits, newLength, edited}
 use Rattle.editing.proofs.Loans.{edited-long}
 use Rattle.editing.specs.Pairs.{standsAfter}
 use Rattle.ledger.specs.Ledger.{Evaluations}
 use Rattle.ledger.proofs.Bools.{both, joined, either, or-left, or-right}
-use Rattle.ledger.proofs.Called.{Back, moved-back}
 
 -- "q ≤ s, the pair was held at q, and q + examined ≤ s"
 pub record Stays (held : ℕ → Bool) (examined : ℕ → ℕ) (s q : ℕ) : Type 0 where
