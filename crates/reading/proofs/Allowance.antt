@@ -10,7 +10,7 @@ use lib.ListN.{length, set}
 use lib.Dec.{eqb}
 use borrow.Author.Tests.{ne-eqb}
 use Rattle.grammar.specs.declared.Evaluation.{Evaluation}
-use Rattle.grammar.specs.Image.{Node, node, rules, root, body}
+use Rattle.grammar.specs.Image.{node, rules, root, body}
 use Rattle.grammar.specs.Evaluates.{Fresh, Subject, bodiesOnly, a-node, a-pair, rounds-of}
 use Rattle.grammar.specs.Evaluates.{inSequence, takenOver, secondChoice, lastRound, roundThen, negated}
 use Rattle.grammar.specs.Evaluates.{ev-empty, ev-terminal, ev-then-first-fails, ev-then, ev-else-first, ev-else-second}

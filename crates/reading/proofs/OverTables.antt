@@ -1,5 +1,6 @@
 -- Over any table the evaluator gives the evaluation in which each held pair takes what its word says, where the allowance covers its
--- nesting, and 14 where it does not; and the table has grown from the one lent. For every node, pair and allowance.
+-- nesting, and 14 where it does not; and the table has grown from the one lent. For every node and pair, and every
+-- allowance of at most 4,096.
 -- Assumes nothing.
 use Prim.Native.Nat.{ℕ, zero, suc, _+_, _*_, _%_, _≤_, _<_, _^_}
 use native.Mathlib.Omega.{arith}

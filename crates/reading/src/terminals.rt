@@ -1,6 +1,8 @@
 // The terminals: what kinds 1 and 2 do at a position, as the word of the evaluation.
+ghost use Prim.Native.Nat.{_<_};
 ghost use mathlib.Core.Path.{_≡_};
-ghost use Rattle.grammar.specs.Image.{any, range};
+ghost use lib.ListN.{length};
+ghost use Rattle.grammar.specs.Image.{byteAt, any, range};
 ghost use Rattle.grammar.specs.Terminal.{terminalAt};
 ghost use Rattle.records.specs.Words.{wordOf};
 
@@ -22,6 +24,14 @@ fn wide(byte: u8) -> usize
     byte as usize
 }
 
+// The byte at a position of the text.
+fn byte_at(text: &[u8], at: usize) -> usize
+    requires { ⌜ at < length (now text) ⌝ }
+    ensures { λ r. ⌜ r ≡ byteAt (now (text .entry)) at ⌝ }
+{
+    wide(text[at])
+}
+
 // "2 byte from A to B inclusive"
 pub fn byte_between(text: &[u8], from: usize, to: usize, at: usize) -> u64
     ensures { λ r. ⌜ r ≡ wordOf (terminalAt (range from to) (now (text .entry)) at) ⌝ }
@@ -29,7 +39,7 @@ pub fn byte_between(text: &[u8], from: usize, to: usize, at: usize) -> u64
     if text.len() <= at {
         return NO_BYTE;
     }
-    let byte = wide(text[at]);
+    let byte = byte_at(text, at);
     if byte < from {
         return NO_BYTE;
     }

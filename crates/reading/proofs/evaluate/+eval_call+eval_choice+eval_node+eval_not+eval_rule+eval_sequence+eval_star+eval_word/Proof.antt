@@ -1,3 +1,6 @@
+-- The cycle of the evaluator: each function answers, stores and counts as the model over a loaded grammar does. Each answer is a way of
+-- proofs/Runs, Stars or Rules. The measure is four times the allowance: a word below a node, a node below a rule, a rule below the kinds.
+-- Assumes nothing.
 use Rattle.reading.proofs.Rules.{was-possible, was-impossible, rule-impossible, rule-too-deep, rule-met, rule-refused, rule-stored, node-too-deep, node-goes, word-goes, call-goes, past-7}
 use Rattle.reading.proofs.LoadedRuns.{word-is, word-unlawful}
 use Rattle.reading.proofs.Stars.{Rounds, rounds-start, round-refused, round-still, round-fails, round-goes, round-bounds}
@@ -18,9 +21,8 @@ use lib.ListN.{length, getD}
 use mathlib.Core.Path.{_≡_, refl, sym, ap, _∙_}
 use borrow.Author.Tests.{not-true, not-false}
 use native.Mathlib.Omega.{arith}
-use Prim.Native.Nat.{suc, _+_, _*_, _-_, _<_}
+use Prim.Native.Nat.{ℕ, suc, _+_, _*_, _-_, _<_}
 use borrow.Author.Needs.{needs}
-use Prim.Native.Nat.{ℕ}
 use borrow.Fn.Kinds.{In}
 use borrow.Fn.PlainCycle.{Measures, is, falls, and}
 use Rattle.reading.proofs.evaluate.eval_call.Reads as eval-call
