@@ -15,6 +15,7 @@ pub mod Gain
 pub mod Grown
 pub mod Framed
 pub mod OverTables
+pub mod OnlyOver
 pub mod Stores
 pub mod TrueTables
 pub mod TrueReads

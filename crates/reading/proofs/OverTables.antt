@@ -157,13 +157,13 @@ module _ (img text table : List ℕ) (words : Question4 img) (short : length tex
       same (ap (λ (b : Bool). looked b (rules img) (root img r) text (nodeM img text left) left r p t c) h) (meets (wordAt img t r p) p left t c ps g a e)
 
   -- What is shown of each subject: for every allowance of at most 4,096, every table grown from the first and every count.
-  abbrev Runs : (ℕ → List ℕ → ℕ → Out) → Evaluation → List Pair → Type 0
+  abbrev pub Runs : (ℕ → List ℕ → ℕ → Out) → Evaluation → List Pair → Type 0
   Runs run z ps = (left : ℕ) → left ≤ 4096 → (t : List ℕ) → Grown img text table t → (c : ℕ) → Result (run left t c) z left t c ps
 
-  abbrev Numbered : (i p : ℕ) → Evaluation → List Pair → Type 0
+  abbrev pub Numbered : (i p : ℕ) → Evaluation → List Pair → Type 0
   Numbered i p x ps = Runs (λ left t c. nodeM img text left i p t c) x ps
 
-  abbrev Goal : Subject → ℕ → Evaluation → List Pair → Type 0
+  abbrev pub Goal : Subject → ℕ → Evaluation → List Pair → Type 0
   Goal (a-node m) p z ps =
       Refers img m → (l : ℕ) → suc l ≤ 4096 → (t : List ℕ) → Grown img text table t → (c : ℕ)
       → Result (kindM text (nodeM img text l) (ruleM img text (nodeM img text l) l) m p t c) z (suc l) t c ps
@@ -172,7 +172,7 @@ module _ (img text table : List ℕ) (words : Question4 img) (short : length tex
       a < nodes img → (fuel : ℕ) → length text < fuel + p → Runs (λ left t c. roundsM fuel (nodeM img text left) a p t c) z ps
 
   -- A node by its number, from the node.
-  numbered : (i p : ℕ) {x : Evaluation} {ps : List Pair} → i < nodes img → 1 ≤ x .nesting → Goal (a-node (node img i)) p x ps → Numbered i p x ps
+  pub numbered : (i p : ℕ) {x : Evaluation} {ps : List Pair} → i < nodes img → 1 ≤ x .nesting → Goal (a-node (node img i)) p x ps → Numbered i p x ps
   unfolding nodeM
   numbered i p l h k zero most t g c = deep t c (omega arith) refl
   numbered i p l h k (suc left) most t g c = k (refers img words i l) left most t g c
@@ -296,7 +296,7 @@ module _ (img text table : List ℕ) (words : Question4 img) (short : length tex
       let n = ap (λ (v : Evaluation). v .nesting) (one img text (over img text table) (ev-body (s .by) (s .inner)) (ev-body q u)) in
       omega (arith, s .below)
 
-  gives : {s : Subject} {p : ℕ} {z : Evaluation} (u : Over img text table s p z) → p ≤ length text → Goal s p z (bodiesOf u)
+  pub gives : {s : Subject} {p : ℕ} {z : Evaluation} (u : Over img text table s p z) → p ≤ length text → Goal s p z (bodiesOf u)
   unfolding kindM afterFirst afterChoice body over bodiesOf
   gives (ev-empty e) h = λ r l most t g c. of e (fine t c (omega arith) g (gain-none img text t c [] (λ m x i. absurd (none-in i))) refl)
   gives {p = p} (ev-terminal {t = m} e) h = λ r l most t g c.

@@ -1,6 +1,6 @@
 use Prim.Native.Nat.{ℕ}
 use native.Mathlib.Omega.{arith}
-use mathlib.Core.Path.{_≡_, ap, _∙_}
+use mathlib.Core.Path.{ap, _∙_}
 use lib.ListN.{length, getD}
 use Rattle.ledger.proofs.Asked.{front-look-up, look-up-11, look-up-0}
 use Rattle.records.specs.Slots.{slotOf}
