@@ -2,7 +2,7 @@
 -- evaluated in that is evaluated here; so a pair is never evaluated inside its own body. Assumes nothing.
 use Prim.Native.Nat.{ℕ, _+_, _≤_, _<_}
 use native.Mathlib.Omega.{arith}
-use mathlib.Core.Path.{_≡_, ap}
+use mathlib.Core.Path.{_≡_}
 use mathlib.Core.List.{List, _∷_, _++_}
 use mathlib.Core.Logic.{⊎-elim}
 use Rattle.grammar.specs.declared.Evaluation.{Evaluation}
@@ -11,6 +11,7 @@ use Rattle.grammar.specs.Evaluates.{Evaluates, Subject, CallAnswer, by-body, a-
 use Rattle.grammar.specs.Evaluates.{ev-empty, ev-terminal, ev-then-first-fails, ev-then, ev-else-first, ev-else-second}
 use Rattle.grammar.specs.Evaluates.{ev-star, ev-last-round, ev-round, ev-not, ev-call, ev-body, ev-record}
 use Rattle.evaluation.specs.Calls.{Pair, In, here, later, bodiesOf}
+use Rattle.evaluation.proofs.Locality.{nested}
 use Rattle.evaluation.proofs.Pairs.{none-in, in-either, in-left, in-right}
 
 -- A pair whose body is evaluated, with a nesting below a bound, where the bodies of the pairs ps are evaluated.
@@ -26,9 +27,6 @@ abbrev bound : Subject → Evaluation → ℕ
 bound (a-node m) z = z .nesting
 bound (a-pair r) z = z .nesting + 1
 bound (rounds-of a) z = z .nesting + 1
-
-nested : {y z : Evaluation} → z ≡ y → z .nesting ≡ y .nesting
-nested e = ap (λ (v : Evaluation). v .nesting) e
 
 module _ {img text : List ℕ} {answers : ℕ → ℕ → CallAnswer} where
   among :

@@ -1,22 +1,19 @@
 -- What is made inside an evaluation without records. Assumes nothing.
---     nesting-is     the nesting is 1 + the largest nesting among the evaluations made inside
---     made-inside    each lies behind the position, examines nothing more, and is less deep
+--     nesting-is     the nesting is 1 + the largest nesting among the evaluations made inside; of a star's rounds it is that largest
+--     made-inside    each is at the position or behind, examines nothing more, and is less deep; one of a star's rounds is no deeper
 use Prim.Native.Nat.{ℕ, _+_, _≤_}
 use native.Mathlib.Omega.{arith}
-use mathlib.Core.Path.{_≡_, ap, _∙_}
-use mathlib.Core.List.{List}
+use mathlib.Core.Path.{_≡_, _∙_}
+use mathlib.Core.List.{List, [], _∷_}
 use lib.ListN.{length}
 use Rattle.grammar.specs.declared.Evaluation.{Evaluation}
 use Rattle.grammar.specs.Evaluates.{Fresh, Subject}
 use Rattle.grammar.specs.Evaluates.{ev-empty, ev-terminal, ev-then-first-fails, ev-then, ev-else-first, ev-else-second}
 use Rattle.grammar.specs.Evaluates.{ev-star, ev-last-round, ev-round, ev-not, ev-call, ev-body, ev-record}
 use Rattle.grammar.proofs.Terminals.{shape}
-use Rattle.evaluation.specs.Inside.{Inside, insideOf, deepest, levelOf, MadeInside, Every, none, one-more}
+use Rattle.evaluation.specs.Inside.{Inside, insideOf, deepest, levelOf}
 use Rattle.evaluation.proofs.Plain.{fresh-within, no-record}
-use Rattle.evaluation.proofs.Locality.{seen}
-
-nested : {x z : Evaluation} → z ≡ x → z .nesting ≡ x .nesting
-nested e = ap (λ (v : Evaluation). v .nesting) e
+use Rattle.evaluation.proofs.Locality.{seen, nested}
 
 module _ {img text : List ℕ} where
   pub nesting-is :
@@ -38,7 +35,19 @@ module _ {img text : List ℕ} where
   nesting-is (ev-body q u) h = nesting-is u h
   nesting-is (ev-record q) h = absurd (no-record q)
 
--- What holds for each and implies something holds that for each.
+-- What is made inside an evaluation z at p: it is at p or behind, examines nothing that z does not, and with the level added it is no deeper
+-- than z.
+pub record MadeInside (p : ℕ) (z : Evaluation) (level : ℕ) (i : Inside) : Type 0 where
+  pub behind : p ≤ i .position
+  pub examined-too : i .position + i .value .examined ≤ p + z .examined
+  pub less-deep : level + i .value .nesting ≤ z .nesting
+
+-- It holds of each.
+pub data Every (P : Inside → Type 0) : List Inside → Type 0 where
+  none : Every P []
+  one-more : {i : Inside} {is : List Inside} → P i → Every P is → Every P (i ∷ is)
+
+-- What holds of each and implies something, that holds of each.
 carried : {P Q : Inside → Type 0} {is : List Inside} → ((i : Inside) → P i → Q i) → Every P is → Every Q is
 carried f none = none
 carried f (one-more {i} x xs) = one-more (f i x) (carried f xs)

@@ -20,6 +20,10 @@ use Rattle.evaluation.proofs.Plain.{no-record}
 pub seen : {x z : Evaluation} → z ≡ x → x .examined ≡ z .examined
 seen e = ap (λ (v : Evaluation). v .examined) (sym e)
 
+-- And its nesting.
+pub nested : {y z : Evaluation} → z ≡ y → z .nesting ≡ y .nesting
+nested e = ap (λ (v : Evaluation). v .nesting) e
+
 module _ (img text other : List ℕ) (answers : ℕ → ℕ → CallAnswer) (m : ℕ)
     (in-text : m ≤ length text) (in-other : m ≤ length other) (agree : take m text ≡ take m other)
   where

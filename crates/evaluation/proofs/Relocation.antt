@@ -1,5 +1,5 @@
 -- An evaluation moves with the text behind it, and so do the pairs that it calls; the end of the text is included.
---     moved-back    an evaluation behind some text stands without it, and its calls are later by that text's length
+--     moved-back    an evaluation behind some text stands without it; behind the text its calls are those without it, later by its length
 --     relocated     an evaluation in x ++ z stands at the moved position of y ++ z, with the moved calls
 -- Proved from the terminal's laws. Assumes nothing.
 use Prim.Native.Nat.{ℕ, _+_}
@@ -40,13 +40,19 @@ module _ (img before text : List ℕ) where
   moved-back (ev-then {x = v} u m w e) p h =
       let x = moved-back u p h in
       let y = moved-back w (p + v .length) (omega arith) in
-      record { evaluated = ev-then (x .evaluated) m (y .evaluated) e; calls-are = both (length before) (x .evaluated) (y .evaluated) (x .calls-are) (y .calls-are) }
+      record {
+        evaluated = ev-then (x .evaluated) m (y .evaluated) e;
+        calls-are = both (length before) (x .evaluated) (y .evaluated) (x .calls-are) (y .calls-are);
+      }
   moved-back (ev-else-first u m e) p h =
       let x = moved-back u p h in record { evaluated = ev-else-first (x .evaluated) m e; calls-are = x .calls-are }
   moved-back (ev-else-second u m w e) p h =
       let x = moved-back u p h in
       let y = moved-back w p h in
-      record { evaluated = ev-else-second (x .evaluated) m (y .evaluated) e; calls-are = both (length before) (x .evaluated) (y .evaluated) (x .calls-are) (y .calls-are) }
+      record {
+        evaluated = ev-else-second (x .evaluated) m (y .evaluated) e;
+        calls-are = both (length before) (x .evaluated) (y .evaluated) (x .calls-are) (y .calls-are);
+      }
   moved-back (ev-star u e) p h =
       let x = moved-back u p h in record { evaluated = ev-star (x .evaluated) e; calls-are = x .calls-are }
   moved-back (ev-last-round u m e) p h =
@@ -54,7 +60,10 @@ module _ (img before text : List ℕ) where
   moved-back (ev-round {x = v} u m w e) p h =
       let x = moved-back u p h in
       let y = moved-back w (p + v .length) (omega arith) in
-      record { evaluated = ev-round (x .evaluated) m (y .evaluated) e; calls-are = both (length before) (x .evaluated) (y .evaluated) (x .calls-are) (y .calls-are) }
+      record {
+        evaluated = ev-round (x .evaluated) m (y .evaluated) e;
+        calls-are = both (length before) (x .evaluated) (y .evaluated) (x .calls-are) (y .calls-are);
+      }
   moved-back (ev-not u e) p h =
       let x = moved-back u p h in record { evaluated = ev-not (x .evaluated) e; calls-are = x .calls-are }
   moved-back (ev-call {r} u e) p h =

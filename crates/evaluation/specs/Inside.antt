@@ -1,6 +1,6 @@
 -- The evaluations made inside an evaluation: "Nesting: 1 + the largest nesting among the evaluations made inside, 1 if there are none. For a
 -- call the body is inside."
-use Prim.Native.Nat.{ℕ, _+_, _≤_, max}
+use Prim.Native.Nat.{ℕ, _+_, max}
 use mathlib.Core.List.{List, [], _∷_}
 use Rattle.grammar.specs.declared.Evaluation.{Evaluation}
 use Rattle.grammar.specs.Evaluates.{Evaluates, Subject, CallAnswer, a-node, a-pair, rounds-of}
@@ -38,18 +38,9 @@ unfoldable pub deepest : List Inside → ℕ
 deepest [] = 0
 deepest (i ∷ is) = max (i .value .nesting) (deepest is)
 
--- The level that a subject adds. The rounds of a star are no evaluation of their own; the star around them is.
+-- How many levels a subject is above what `insideOf` lists. A pair's level is that of its body. The rounds of a star are no evaluation of
+-- their own; the star around them is.
 abbrev pub levelOf : Subject → ℕ
 levelOf (a-node m) = 1
 levelOf (a-pair r) = 1
 levelOf (rounds-of a) = 0
-
--- What is made inside an evaluation z at p: it lies behind p, examines nothing that z does not, and is less deep by a level.
-pub record MadeInside (p : ℕ) (z : Evaluation) (level : ℕ) (i : Inside) : Type 0 where
-  pub behind : p ≤ i .position
-  pub examined-too : i .position + i .value .examined ≤ p + z .examined
-  pub less-deep : level + i .value .nesting ≤ z .nesting
-
-pub data Every (P : Inside → Type 0) : List Inside → Type 0 where
-  none : Every P []
-  one-more : {i : Inside} {is : List Inside} → P i → Every P is → Every P (i ∷ is)

@@ -1,5 +1,6 @@
--- The pairs called in an evaluation without records: each has an evaluation that examines no more of the text than the whole does
--- (`called-within`). And pairs that are shifted. Assumes nothing.
+-- The pairs called in an evaluation without records, and pairs that are shifted. Assumes nothing.
+--     called-within             each called pair has an evaluation that examines no more of the text than the whole does
+--     in-shifted, shifted-in    a pair is among shifted pairs exactly where it is one of them, shifted
 use Prim.Native.Nat.{ℕ, _+_, _≤_}
 use native.Mathlib.Omega.{arith}
 use mathlib.Core.Path.{_≡_, refl}

@@ -1,15 +1,15 @@
 // The walk that lists rows. "the calls that made the match, parents first, left to right": a call is entered where its record says
 // that it matched and the window touches it. `left` is the remaining allowance of nesting, as in a reading. An answer is the length of
-// a match, 65,536 for a failure, or 65,536 and the number of a refusal. Text and table are lent as references to their slices, as in the
-// evaluator: a listing of nesting 4,096 then fits in a thread of 2 MiB.
+// a match, 65,536 for a failure, or 65,536 and the number of a refusal. Text and table are lent as references to their slices, as the
+// text is in the evaluator: a listing of nesting 4,096 fits in a thread of 2 MiB.
 use crate::bytes;
 use crate::bytes::FAILED;
 use crate::slots;
+use reading::loaded;
 use reading::memo;
 use records::Decoded;
 use records::Record;
-ghost use Prim.Native.Nat.{_+_, _<_, _^_};
-ghost use mathlib.Core.Path.{_≡_};
+ghost use Prim.Native.Nat.{_+_, _<_};
 ghost use lib.ListN.{length};
 ghost use Rattle.grammar.specs.Image.{sequence, choice, star, not-predicate};
 ghost use Rattle.rows.specs.Walk.{partV, nodeV, ruleV, insideV};
@@ -369,12 +369,6 @@ fn walk_part(
     )
 }
 
-fn wide(word: u32) -> usize
-    ensures { λ r. ⌜ (r ≡ word) × (r < 2 ^ 32) ⌝ }
-{
-    word as usize
-}
-
 // A rule at a position: its record, its row, and the rows of its body, which has that root.
 pub fn walk_rule(
     words: &[u32; 4097],
@@ -394,7 +388,7 @@ pub fn walk_rule(
     requires { ⌜ Steady (now (now text)) room (now count) at depth (left + 1) × (rule < 4096) × (root < 4096) ⌝ }
     ensures { λ r. ⌜ Gives (now (count .entry)) (now (rows .entry)) r (now (rows .exit)) (now (count .exit)) (ruleV room (now (words .entry)) (now (now (text .entry))) (now (now (table .entry))) left root rule at lo hi depth (now (count .entry))) ⌝ }
 {
-    let rules = wide(words[4096]);
+    let rules = loaded::rules_in(words);
     let word = memo::look(*table, rules, rule, at);
     if !records::is_held(word) {
         return FAILED + 12;

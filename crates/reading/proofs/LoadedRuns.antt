@@ -1,5 +1,5 @@
--- A loaded grammar: which node a word stands for, and that the evaluator over a loaded grammar is the one over its image.
--- Assumes nothing.
+-- A loaded grammar: which node a word stands for, that the evaluator over a loaded grammar is the one over its image, and so the start
+-- pair's word over records and over none. Assumes nothing.
 use Prim.Native.Nat.{ℕ, zero, suc, _≤_}
 use native.Mathlib.Omega.{arith}
 use mathlib.Core.Path.{_≡_, refl, sym, _∙_, subst}
@@ -75,6 +75,20 @@ module _ (img text : List ℕ) {ws : List ℕ} (l : Loaded img ws) where
       c)
       ∙ same-root (rulesIn ws) (wordB (getD ws i 0)) img text (nodeM img text left) left (node img i) (l .rules-are) (l .words-are i .root-is) at t c
 
+-- The same for a pair.
+pub loaded-pair :
+    (img text : List ℕ) {ws : List ℕ} (l : Loaded img ws) (left r at : ℕ) (t : List ℕ) (c : ℕ)
+    → pairM (rulesIn ws) (root img r) text (nodeW ws text left) left r at t c ≡ ruleM img text (nodeM img text left) left r at t c
+loaded-pair img text l left r at t c =
+    λ k. pairM (l .rules-are k) (root img r) text (λ j p u d. loaded-run img text l left j p u d k) left r at t c
+
+pub start-over-given :
+    (img text : List ℕ) {ws : List ℕ} (l : Loaded img ws) (t : List ℕ) (c : ℕ) {word d : ℕ} {u : List ℕ}
+    → Gives (length text) 0 4096 (pairM (rulesIn ws) (root img (start img)) text (nodeW ws text 4096) 4096 (start img) 0 t c) word u d
+    → StartOver img text t c word u d
+start-over-given img text l t c {word} {d} {u} g =
+    subst (λ (o : Out). Gives (length text) 0 4096 o word u d) (loaded-pair img text l 4096 (start img) 0 t c) g
+
 -- The start pair over no records: the run of its rule's body, over the loaded grammar, gives its word.
 module _ (img text : List ℕ) {ws : List ℕ} (l : Loaded img ws) (short : length text ≤ 65535) where
   pub start-given :
@@ -105,17 +119,3 @@ module _ (img text : List ℕ) {ws : List ℕ} (l : Loaded img ws) (short : leng
                 rule-stored (rules img) (root img (start img)) text (nodeM img text 4096) 4096 (start img) 0 [] 0 {word = 0} refl short (omega arith) refl body
                 (ltb-false word 16 e);
           }
-
--- The same for a pair.
-pub loaded-pair :
-    (img text : List ℕ) {ws : List ℕ} (l : Loaded img ws) (left r at : ℕ) (t : List ℕ) (c : ℕ)
-    → pairM (rulesIn ws) (root img r) text (nodeW ws text left) left r at t c ≡ ruleM img text (nodeM img text left) left r at t c
-loaded-pair img text l left r at t c =
-    λ k. pairM (l .rules-are k) (root img r) text (λ j p u d. loaded-run img text l left j p u d k) left r at t c
-
-pub start-over-given :
-    (img text : List ℕ) {ws : List ℕ} (l : Loaded img ws) (t : List ℕ) (c : ℕ) {word d : ℕ} {u : List ℕ}
-    → Gives (length text) 0 4096 (pairM (rulesIn ws) (root img (start img)) text (nodeW ws text 4096) 4096 (start img) 0 t c) word u d
-    → StartOver img text t c word u d
-start-over-given img text l t c {word} {d} {u} g =
-    subst (λ (o : Out). Gives (length text) 0 4096 o word u d) (loaded-pair img text l 4096 (start img) 0 t c) g

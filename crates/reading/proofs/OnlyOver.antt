@@ -1,6 +1,5 @@
--- Over any table the evaluator answers nothing but the evaluation in which each held pair takes what its word says: where there is no such
--- evaluation, or where the allowance does not cover it, it refuses. With `pair-over`, which says that it answers it, this is exact.
--- Assumes nothing.
+-- Over any table the evaluator answers nothing but the evaluation in which each held pair takes what its word says: where there is none, it
+-- refuses. When it answers that evaluation, and when it gives 14, is `pair-over`. Assumes nothing.
 --     only-over    for every pair at a position of the text, and every allowance of at most 4,096
 use Prim.Native.Nat.{ℕ, zero, suc, _+_, _%_, _≤_, _<_, _^_}
 use native.Mathlib.Omega.{arith}

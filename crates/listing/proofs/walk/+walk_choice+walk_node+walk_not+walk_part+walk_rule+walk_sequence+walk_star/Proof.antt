@@ -46,7 +46,7 @@ use Rattle.listing.proofs.slots.put.Reads as put-reads
 use Rattle.listing.proofs.slots.row_word.Reads as row-word-reads
 use Rattle.listing.proofs.slots.touched.Reads as touched-reads
 use Rattle.reading.proofs.memo.look.Reads as look-reads
-use Rattle.listing.proofs.walk.wide.Reads as wide-reads
+use Rattle.reading.proofs.loaded.rules_in.Reads as rules-in-reads
 use Rattle.records.proofs.Record.from_word.Reads as from-word-reads
 use Rattle.records.proofs.is_held.Reads as is-held-reads
 use Rattle.listing.proofs.walk.+walk_choice+walk_node+walk_not+walk_part+walk_rule+walk_sequence+walk_star.{
@@ -145,7 +145,7 @@ abbrev walk-part-claims : ℕ → walk-part-lts.Claims
 walk-part-claims t = (walk-node-below t, walk-node.Post, touched-reads.Asked, touched-reads.Learnt)
 
 abbrev walk-rule-claims : ℕ → walk-rule-lts.Claims
-walk-rule-claims t = (wide-reads.Asked, wide-reads.Learnt, look-reads.Asked, look-reads.Learnt, is-held-reads.Asked, is-held-reads.Learnt, from-word-reads.Asked, from-word-reads.Learnt, touched-reads.Asked, touched-reads.Learnt, row-word-reads.Asked, row-word-reads.Learnt, put-reads.Asked, put-reads.Learnt, walk-node-below t, walk-node.Post)
+walk-rule-claims t = (rules-in-reads.Asked, rules-in-reads.Learnt, look-reads.Asked, look-reads.Learnt, is-held-reads.Asked, is-held-reads.Learnt, from-word-reads.Asked, from-word-reads.Learnt, touched-reads.Asked, touched-reads.Learnt, row-word-reads.Asked, row-word-reads.Learnt, put-reads.Asked, put-reads.Learnt, walk-node-below t, walk-node.Post)
 
 abbrev walk-sequence-claims : ℕ → walk-sequence-lts.Claims
 walk-sequence-claims t = (walk-node-below t, walk-node.Post)
@@ -472,11 +472,8 @@ walk-part-returns-3 t c =
     let inner = nodeV (given .room) (given .words .now) (given .text .now .now) (given .table .now .now) (given .left) in
     part-goes (given .text .now .now) (given .room) inner (pre .1 .0 .short) (node-bounded (given .room) (given .words .now) (given .text .now .now) (given .table .now .now) (given .left)) (pairV (rulesIn (given .words .now)) 0 (given .room) (given .text .now .now) (given .table .now .now) inner) (given .a) (given .at) (given .lo) (given .hi) (given .depth) (pre .1 .0 .here) (pre .1 .0 .few) (x .ensures) (if1 .left) (sym (touched .ensures) ∙ not-false (touched .result) (if2 .left)) (c .before .before .walk-node2 .ensures)
 
-walk-rule-element-copy-out-wide : (t : ℕ) → walk-rule-lts.Need-element-copy-out-wide (walk-rule-claims t) (walk-rule-at t) walk-rule.Post
-walk-rule-element-copy-out-wide t c = search needs
-
-walk-rule-wide-requires : (t : ℕ) → walk-rule-lts.Need-wide-requires (walk-rule-claims t) (walk-rule-at t) walk-rule.Post
-walk-rule-wide-requires t c κs = search needs
+walk-rule-rules-in-requires : (t : ℕ) → walk-rule-lts.Need-rules-in-requires (walk-rule-claims t) (walk-rule-at t) walk-rule.Post
+walk-rule-rules-in-requires t c κs = search needs
 
 walk-rule-look-requires : (t : ℕ) → walk-rule-lts.Need-look-requires (walk-rule-claims t) (walk-rule-at t) walk-rule.Post
 walk-rule-look-requires t c κs = search needs
@@ -489,9 +486,9 @@ walk-rule-add-result t c = search needs
 
 walk-rule-returns : (t : ℕ) → walk-rule-lts.Need-returns (walk-rule-claims t) (walk-rule-at t) walk-rule.Post
 walk-rule-returns t c =
-    let given = c .before .before .before .before .before .before .before .args in
-    let wide = c .before .before .before .before .wide in
-    rule-empty (rulesIn (given .words .now)) (given .root) (given .room) (given .text .now .now) (given .table .now .now) (nodeV (given .room) (given .words .now) (given .text .now .now) (given .table .now .now) (given .left)) (given .rule) (given .at) (given .lo) (given .hi) (given .depth) (c .before .before .look .ensures ∙ ap (λ (n : ℕ). getD (given .table .now .now) ((given .at) * n + (given .rule)) 0) (wide .ensures .0)) (given .count .now) (given .rows .now) (sym (c .before .is-held .ensures) ∙ not-true (c .before .is-held .result) (c .if1 .taken))
+    let given = c .before .before .before .before .before .before .args in
+    let rules-in = c .before .before .before .before .rules-in in
+    rule-empty (rulesIn (given .words .now)) (given .root) (given .room) (given .text .now .now) (given .table .now .now) (nodeV (given .room) (given .words .now) (given .text .now .now) (given .table .now .now) (given .left)) (given .rule) (given .at) (given .lo) (given .hi) (given .depth) (c .before .before .look .ensures ∙ ap (λ (n : ℕ). getD (given .table .now .now) ((given .at) * n + (given .rule)) 0) (rules-in .ensures .0)) (given .count .now) (given .rows .now) (sym (c .before .is-held .ensures) ∙ not-true (c .before .is-held .result) (c .if1 .taken))
 
 walk-rule-from-word-requires : (t : ℕ) → walk-rule-lts.Need-from-word-requires (walk-rule-claims t) (walk-rule-at t) walk-rule.Post
 walk-rule-from-word-requires t c κs = search needs
@@ -507,15 +504,15 @@ walk-rule-add-result-2 t c = search needs
 
 walk-rule-returns-2 : (t : ℕ) → walk-rule-lts.Need-returns-2 (walk-rule-claims t) (walk-rule-at t) walk-rule.Post
 walk-rule-returns-2 t c =
-    let given = c .before .before .before .before .before .before .before .before .before .before .args in
-    let wide = c .before .before .before .before .before .before .before .wide in
+    let given = c .before .before .before .before .before .before .before .before .before .args in
+    let rules-in = c .before .before .before .before .before .before .before .rules-in in
     let look = c .before .before .before .before .before .look in
-    rule-impossible (rulesIn (given .words .now)) (given .root) (given .room) (given .text .now .now) (given .table .now .now) (nodeV (given .room) (given .words .now) (given .text .now .now) (given .table .now .now) (given .left)) (given .rule) (given .at) (given .lo) (given .hi) (given .depth) (look .ensures ∙ ap (λ (n : ℕ). getD (given .table .now .now) ((given .at) * n + (given .rule)) 0) (wide .ensures .0)) (given .count .now) (given .rows .now) (was-impossible (recordOf (look .result)) (possible (look .result) (given .at) (length (given .text .now .now))) (sym (c .enum-told .given .1) ∙ c .before .before .from-word .ensures))
+    rule-impossible (rulesIn (given .words .now)) (given .root) (given .room) (given .text .now .now) (given .table .now .now) (nodeV (given .room) (given .words .now) (given .text .now .now) (given .table .now .now) (given .left)) (given .rule) (given .at) (given .lo) (given .hi) (given .depth) (look .ensures ∙ ap (λ (n : ℕ). getD (given .table .now .now) ((given .at) * n + (given .rule)) 0) (rules-in .ensures .0)) (given .count .now) (given .rows .now) (was-impossible (recordOf (look .result)) (possible (look .result) (given .at) (length (given .text .now .now))) (sym (c .enum-told .given .1) ∙ c .before .before .from-word .ensures))
 
 walk-rule-returns-3 : (t : ℕ) → walk-rule-lts.Need-returns-3 (walk-rule-claims t) (walk-rule-at t) walk-rule.Post
 walk-rule-returns-3 t c =
-    let given = c .before .before .before .before .before .before .before .before .before .before .before .before .before .args in
-    let wide = c .before .before .before .before .before .before .before .before .before .before .wide in
+    let given = c .before .before .before .before .before .before .before .before .before .before .before .before .args in
+    let rules-in = c .before .before .before .before .before .before .before .before .before .before .rules-in in
     let look = c .before .before .before .before .before .before .before .before .look in
     let is-held = c .before .before .before .before .before .before .before .is-held in
     let if1 = c .before .before .before .before .before .before .if1 in
@@ -524,13 +521,13 @@ walk-rule-returns-3 t c =
     let w = was-possible (held .given .0 .0) (recordOf (look .result)) (possible (look .result) (given .at) (length (given .text .now .now))) (sym (held .given .1) ∙ from-word .ensures) in
     let m = ap (λ (r : Record). r .matched) (w .1) in
     let n = ap (λ (r : Record). r .length) (w .1) in
-    rule-failed (rulesIn (given .words .now)) (given .root) (given .room) (given .text .now .now) (given .table .now .now) (nodeV (given .room) (given .words .now) (given .text .now .now) (given .table .now .now) (given .left)) (given .rule) (given .at) (given .lo) (given .hi) (given .depth) (look .ensures ∙ ap (λ (n : ℕ). getD (given .table .now .now) ((given .at) * n + (given .rule)) 0) (wide .ensures .0)) (given .count .now) (given .rows .now) (sym (is-held .ensures) ∙ not-false (is-held .result) (if1 .left)) (w .0) (sym m ∙ not-true (held .given .0 .0 .matched) (c .if2 .taken))
+    rule-failed (rulesIn (given .words .now)) (given .root) (given .room) (given .text .now .now) (given .table .now .now) (nodeV (given .room) (given .words .now) (given .text .now .now) (given .table .now .now) (given .left)) (given .rule) (given .at) (given .lo) (given .hi) (given .depth) (look .ensures ∙ ap (λ (n : ℕ). getD (given .table .now .now) ((given .at) * n + (given .rule)) 0) (rules-in .ensures .0)) (given .count .now) (given .rows .now) (sym (is-held .ensures) ∙ not-false (is-held .result) (if1 .left)) (w .0) (sym m ∙ not-true (held .given .0 .0 .matched) (c .if2 .taken))
 
 walk-rule-touched-requires : (t : ℕ) → walk-rule-lts.Need-touched-requires (walk-rule-claims t) (walk-rule-at t) walk-rule.Post
 walk-rule-touched-requires t c κs =
-    let given = c .before .before .before .before .before .before .before .before .before .before .before .before .before .args in
-    let pre = c .before .before .before .before .before .before .before .before .before .before .before .before .before .pre in
-    let wide = c .before .before .before .before .before .before .before .before .before .before .wide in
+    let given = c .before .before .before .before .before .before .before .before .before .before .before .before .args in
+    let pre = c .before .before .before .before .before .before .before .before .before .before .before .before .pre in
+    let rules-in = c .before .before .before .before .before .before .before .before .before .before .rules-in in
     let look = c .before .before .before .before .before .before .before .before .look in
     let is-held = c .before .before .before .before .before .before .before .is-held in
     let if1 = c .before .before .before .before .before .before .if1 in
@@ -539,12 +536,12 @@ walk-rule-touched-requires t c κs =
     let w = was-possible (held .given .0 .0) (recordOf (look .result)) (possible (look .result) (given .at) (length (given .text .now .now))) (sym (held .given .1) ∙ from-word .ensures) in
     let m = ap (λ (r : Record). r .matched) (w .1) in
     let n = ap (λ (r : Record). r .length) (w .1) in
-    omega (arith, n, rule-in-text (rulesIn (given .words .now)) (given .root) (given .room) (given .text .now .now) (given .table .now .now) (nodeV (given .room) (given .words .now) (given .text .now .now) (given .table .now .now) (given .left)) (given .rule) (given .at) (given .lo) (given .hi) (given .depth) (look .ensures ∙ ap (λ (n : ℕ). getD (given .table .now .now) ((given .at) * n + (given .rule)) 0) (wide .ensures .0)) (given .count .now) (given .rows .now) (sym (is-held .ensures) ∙ not-false (is-held .result) (if1 .left)) (w .0), (pre .1 .0 .short))
+    omega (arith, n, rule-in-text (rulesIn (given .words .now)) (given .root) (given .room) (given .text .now .now) (given .table .now .now) (nodeV (given .room) (given .words .now) (given .text .now .now) (given .table .now .now) (given .left)) (given .rule) (given .at) (given .lo) (given .hi) (given .depth) (look .ensures ∙ ap (λ (n : ℕ). getD (given .table .now .now) ((given .at) * n + (given .rule)) 0) (rules-in .ensures .0)) (given .count .now) (given .rows .now) (sym (is-held .ensures) ∙ not-false (is-held .result) (if1 .left)) (w .0), (pre .1 .0 .short))
 
 walk-rule-returns-4 : (t : ℕ) → walk-rule-lts.Need-returns-4 (walk-rule-claims t) (walk-rule-at t) walk-rule.Post
 walk-rule-returns-4 t c =
-    let given = c .before .before .before .before .before .before .before .before .before .before .before .before .before .before .before .args in
-    let wide = c .before .before .before .before .before .before .before .before .before .before .before .before .wide in
+    let given = c .before .before .before .before .before .before .before .before .before .before .before .before .before .before .args in
+    let rules-in = c .before .before .before .before .before .before .before .before .before .before .before .before .rules-in in
     let look = c .before .before .before .before .before .before .before .before .before .before .look in
     let is-held = c .before .before .before .before .before .before .before .before .before .is-held in
     let if1 = c .before .before .before .before .before .before .before .before .if1 in
@@ -553,15 +550,15 @@ walk-rule-returns-4 t c =
     let w = was-possible (held .given .0 .0) (recordOf (look .result)) (possible (look .result) (given .at) (length (given .text .now .now))) (sym (held .given .1) ∙ from-word .ensures) in
     let m = ap (λ (r : Record). r .matched) (w .1) in
     let n = ap (λ (r : Record). r .length) (w .1) in
-    rule-missed (rulesIn (given .words .now)) (given .root) (given .room) (given .text .now .now) (given .table .now .now) (nodeV (given .room) (given .words .now) (given .text .now .now) (given .table .now .now) (given .left)) (given .rule) (given .at) (given .lo) (given .hi) (given .depth) (look .ensures ∙ ap (λ (n : ℕ). getD (given .table .now .now) ((given .at) * n + (given .rule)) 0) (wide .ensures .0)) (given .count .now) (given .rows .now) (sym (is-held .ensures) ∙ not-false (is-held .result) (if1 .left)) (w .0) (sym m ∙ not-false (held .given .0 .0 .matched) (c .before .before .if2 .left)) n (sym (c .before .touched .ensures) ∙ not-true (c .before .touched .result) (c .if3 .taken))
+    rule-missed (rulesIn (given .words .now)) (given .root) (given .room) (given .text .now .now) (given .table .now .now) (nodeV (given .room) (given .words .now) (given .text .now .now) (given .table .now .now) (given .left)) (given .rule) (given .at) (given .lo) (given .hi) (given .depth) (look .ensures ∙ ap (λ (n : ℕ). getD (given .table .now .now) ((given .at) * n + (given .rule)) 0) (rules-in .ensures .0)) (given .count .now) (given .rows .now) (sym (is-held .ensures) ∙ not-false (is-held .result) (if1 .left)) (w .0) (sym m ∙ not-false (held .given .0 .0 .matched) (c .before .before .if2 .left)) n (sym (c .before .touched .ensures) ∙ not-true (c .before .touched .result) (c .if3 .taken))
 
 walk-rule-add-result-3 : (t : ℕ) → walk-rule-lts.Need-add-result-3 (walk-rule-claims t) (walk-rule-at t) walk-rule.Post
 walk-rule-add-result-3 t c = search needs
 
 walk-rule-returns-5 : (t : ℕ) → walk-rule-lts.Need-returns-5 (walk-rule-claims t) (walk-rule-at t) walk-rule.Post
 walk-rule-returns-5 t c =
-    let given = c .before .before .before .before .before .before .before .before .before .before .before .before .before .before .before .before .before .args in
-    let wide = c .before .before .before .before .before .before .before .before .before .before .before .before .before .before .wide in
+    let given = c .before .before .before .before .before .before .before .before .before .before .before .before .before .before .before .before .args in
+    let rules-in = c .before .before .before .before .before .before .before .before .before .before .before .before .before .before .rules-in in
     let look = c .before .before .before .before .before .before .before .before .before .before .before .before .look in
     let is-held = c .before .before .before .before .before .before .before .before .before .before .before .is-held in
     let if1 = c .before .before .before .before .before .before .before .before .before .before .if1 in
@@ -572,13 +569,13 @@ walk-rule-returns-5 t c =
     let w = was-possible (held .given .0 .0) (recordOf (look .result)) (possible (look .result) (given .at) (length (given .text .now .now))) (sym (held .given .1) ∙ from-word .ensures) in
     let m = ap (λ (r : Record). r .matched) (w .1) in
     let n = ap (λ (r : Record). r .length) (w .1) in
-    rule-full (rulesIn (given .words .now)) (given .root) (given .room) (given .text .now .now) (given .table .now .now) (nodeV (given .room) (given .words .now) (given .text .now .now) (given .table .now .now) (given .left)) (given .rule) (given .at) (given .lo) (given .hi) (given .depth) (look .ensures ∙ ap (λ (n : ℕ). getD (given .table .now .now) ((given .at) * n + (given .rule)) 0) (wide .ensures .0)) (given .count .now) (given .rows .now) (sym (is-held .ensures) ∙ not-false (is-held .result) (if1 .left)) (w .0) (sym m ∙ not-false (held .given .0 .0 .matched) (if2 .left)) n (sym (touched .ensures) ∙ not-false (touched .result) (c .before .before .if3 .left)) (c .if4 .taken)
+    rule-full (rulesIn (given .words .now)) (given .root) (given .room) (given .text .now .now) (given .table .now .now) (nodeV (given .room) (given .words .now) (given .text .now .now) (given .table .now .now) (given .left)) (given .rule) (given .at) (given .lo) (given .hi) (given .depth) (look .ensures ∙ ap (λ (n : ℕ). getD (given .table .now .now) ((given .at) * n + (given .rule)) 0) (rules-in .ensures .0)) (given .count .now) (given .rows .now) (sym (is-held .ensures) ∙ not-false (is-held .result) (if1 .left)) (w .0) (sym m ∙ not-false (held .given .0 .0 .matched) (if2 .left)) n (sym (touched .ensures) ∙ not-false (touched .result) (c .before .before .if3 .left)) (c .if4 .taken)
 
 walk-rule-row-word-requires : (t : ℕ) → walk-rule-lts.Need-row-word-requires (walk-rule-claims t) (walk-rule-at t) walk-rule.Post
 walk-rule-row-word-requires t c κs =
-    let given = c .before .before .before .before .before .before .before .before .before .before .before .before .before .before .before .before .before .before .args in
-    let pre = c .before .before .before .before .before .before .before .before .before .before .before .before .before .before .before .before .before .before .pre in
-    let wide = c .before .before .before .before .before .before .before .before .before .before .before .before .before .before .before .wide in
+    let given = c .before .before .before .before .before .before .before .before .before .before .before .before .before .before .before .before .before .args in
+    let pre = c .before .before .before .before .before .before .before .before .before .before .before .before .before .before .before .before .before .pre in
+    let rules-in = c .before .before .before .before .before .before .before .before .before .before .before .before .before .before .before .rules-in in
     let look = c .before .before .before .before .before .before .before .before .before .before .before .before .before .look in
     let is-held = c .before .before .before .before .before .before .before .before .before .before .before .before .is-held in
     let if1 = c .before .before .before .before .before .before .before .before .before .before .before .if1 in
@@ -587,25 +584,25 @@ walk-rule-row-word-requires t c κs =
     let w = was-possible (held .given .0 .0) (recordOf (look .result)) (possible (look .result) (given .at) (length (given .text .now .now))) (sym (held .given .1) ∙ from-word .ensures) in
     let m = ap (λ (r : Record). r .matched) (w .1) in
     let n = ap (λ (r : Record). r .length) (w .1) in
-    (omega (arith, pre .1 .0 .shallow), omega (arith, (pre .1 .0 .here), (pre .1 .0 .short)), omega (arith, n, rule-in-text (rulesIn (given .words .now)) (given .root) (given .room) (given .text .now .now) (given .table .now .now) (nodeV (given .room) (given .words .now) (given .text .now .now) (given .table .now .now) (given .left)) (given .rule) (given .at) (given .lo) (given .hi) (given .depth) (look .ensures ∙ ap (λ (n : ℕ). getD (given .table .now .now) ((given .at) * n + (given .rule)) 0) (wide .ensures .0)) (given .count .now) (given .rows .now) (sym (is-held .ensures) ∙ not-false (is-held .result) (if1 .left)) (w .0), (pre .1 .0 .short)))
+    (omega (arith, pre .1 .0 .shallow), omega (arith, (pre .1 .0 .here), (pre .1 .0 .short)), omega (arith, n, rule-in-text (rulesIn (given .words .now)) (given .root) (given .room) (given .text .now .now) (given .table .now .now) (nodeV (given .room) (given .words .now) (given .text .now .now) (given .table .now .now) (given .left)) (given .rule) (given .at) (given .lo) (given .hi) (given .depth) (look .ensures ∙ ap (λ (n : ℕ). getD (given .table .now .now) ((given .at) * n + (given .rule)) 0) (rules-in .ensures .0)) (given .count .now) (given .rows .now) (sym (is-held .ensures) ∙ not-false (is-held .result) (if1 .left)) (w .0), (pre .1 .0 .short)))
 
 walk-rule-put-requires : (t : ℕ) → walk-rule-lts.Need-put-requires (walk-rule-claims t) (walk-rule-at t) walk-rule.Post
 walk-rule-put-requires t c κs = search needs
 
 walk-rule-add-count : (t : ℕ) → walk-rule-lts.Need-add-count (walk-rule-claims t) (walk-rule-at t) walk-rule.Post
 walk-rule-add-count t c =
-    let fits = c .before .before .before .before .before .before .before .before .before .before .before .before .before .before .before .before .before .before .before .before .before .before .fits in
+    let fits = c .before .before .before .before .before .before .before .before .before .before .before .before .before .before .before .before .before .before .before .before .before .fits in
     let if4 = c .before .before .before .before .before .if4 in
     let f = fits in let a = if4 .left in omega (arith, a, f)
 
 walk-rule-add-walk-node : (t : ℕ) → walk-rule-lts.Need-add-walk-node (walk-rule-claims t) (walk-rule-at t) walk-rule.Post
 walk-rule-add-walk-node t c =
-    let pre = c .before .before .before .before .before .before .before .before .before .before .before .before .before .before .before .before .before .before .before .before .before .before .before .before .pre in
+    let pre = c .before .before .before .before .before .before .before .before .before .before .before .before .before .before .before .before .before .before .before .before .before .before .before .pre in
     omega (arith, pre .1 .0 .shallow)
 
 walk-rule-walk-node-requires : (t : ℕ) → walk-rule-lts.Need-walk-node-requires (walk-rule-claims t) (walk-rule-at t) walk-rule.Post
 walk-rule-walk-node-requires t c κs =
-    let pre = c .before .before .before .before .before .before .before .before .before .before .before .before .before .before .before .before .before .before .before .before .before .before .before .before .pre in
+    let pre = c .before .before .before .before .before .before .before .before .before .before .before .before .before .before .before .before .before .before .before .before .before .before .before .pre in
     let if4 = c .before .before .before .before .before .before .before .if4 in
     (omega (arith, pre .0), (record { short = (pre .1 .0 .short); here = (pre .1 .0 .here); few = (let a = if4 .left in omega (arith, a)); shallow = omega (arith, pre .1 .0 .shallow) }, pre .1 .2))
 
@@ -614,9 +611,9 @@ walk-rule-same-length t c = search needs
 
 walk-rule-returns-6 : (t : ℕ) → walk-rule-lts.Need-returns-6 (walk-rule-claims t) (walk-rule-at t) walk-rule.Post
 walk-rule-returns-6 t c =
-    let given = c .before .before .before .before .before .before .before .before .before .before .before .before .before .before .before .before .before .before .before .before .before .before .before .before .before .before .before .before .args in
-    let pre = c .before .before .before .before .before .before .before .before .before .before .before .before .before .before .before .before .before .before .before .before .before .before .before .before .before .before .before .before .pre in
-    let wide = c .before .before .before .before .before .before .before .before .before .before .before .before .before .before .before .before .before .before .before .before .before .before .before .before .before .wide in
+    let given = c .before .before .before .before .before .before .before .before .before .before .before .before .before .before .before .before .before .before .before .before .before .before .before .before .before .before .before .args in
+    let pre = c .before .before .before .before .before .before .before .before .before .before .before .before .before .before .before .before .before .before .before .before .before .before .before .before .before .before .before .pre in
+    let rules-in = c .before .before .before .before .before .before .before .before .before .before .before .before .before .before .before .before .before .before .before .before .before .before .before .before .before .rules-in in
     let look = c .before .before .before .before .before .before .before .before .before .before .before .before .before .before .before .before .before .before .before .before .before .before .before .look in
     let is-held = c .before .before .before .before .before .before .before .before .before .before .before .before .before .before .before .before .before .before .before .before .before .before .is-held in
     let if1 = c .before .before .before .before .before .before .before .before .before .before .before .before .before .before .before .before .before .before .before .before .before .if1 in
@@ -631,16 +628,16 @@ walk-rule-returns-6 t c =
     let w = was-possible (held .given .0 .0) (recordOf (look .result)) (possible (look .result) (given .at) (length (given .text .now .now))) (sym (held .given .1) ∙ from-word .ensures) in
     let m = ap (λ (r : Record). r .matched) (w .1) in
     let n = ap (λ (r : Record). r .length) (w .1) in
-    rule-stops (rulesIn (given .words .now)) (given .root) (given .room) (given .text .now .now) (given .table .now .now) (nodeV (given .room) (given .words .now) (given .text .now .now) (given .table .now .now) (given .left)) (given .rule) (given .at) (given .lo) (given .hi) (given .depth) (look .ensures ∙ ap (λ (n : ℕ). getD (given .table .now .now) ((given .at) * n + (given .rule)) 0) (wide .ensures .0)) (given .count .now) (given .rows .now) (sym (is-held .ensures) ∙ not-false (is-held .result) (if1 .left)) (w .0) (sym m ∙ not-false (held .given .0 .0 .matched) (if2 .left)) n (sym (touched .ensures) ∙ not-false (touched .result) (if3 .left)) (if4 .left) (row-word .ensures) (pre .1 .0 .short) (pre .1 .0 .here) (node-bounded (given .room) (given .words .now) (given .text .now .now) (given .table .now .now) (given .left)) _ _ _ (rw (put .ensures) at (c .before .before .before .walk-node .ensures)) (c .if5 .taken)
+    rule-stops (rulesIn (given .words .now)) (given .root) (given .room) (given .text .now .now) (given .table .now .now) (nodeV (given .room) (given .words .now) (given .text .now .now) (given .table .now .now) (given .left)) (given .rule) (given .at) (given .lo) (given .hi) (given .depth) (look .ensures ∙ ap (λ (n : ℕ). getD (given .table .now .now) ((given .at) * n + (given .rule)) 0) (rules-in .ensures .0)) (given .count .now) (given .rows .now) (sym (is-held .ensures) ∙ not-false (is-held .result) (if1 .left)) (w .0) (sym m ∙ not-false (held .given .0 .0 .matched) (if2 .left)) n (sym (touched .ensures) ∙ not-false (touched .result) (if3 .left)) (if4 .left) (row-word .ensures) (pre .1 .0 .short) (pre .1 .0 .here) (node-bounded (given .room) (given .words .now) (given .text .now .now) (given .table .now .now) (given .left)) _ _ _ (rw (put .ensures) at (c .before .before .before .walk-node .ensures)) (c .if5 .taken)
 
 walk-rule-same-length-2 : (t : ℕ) → walk-rule-lts.Need-same-length-2 (walk-rule-claims t) (walk-rule-at t) walk-rule.Post
 walk-rule-same-length-2 t c = search needs
 
 walk-rule-returns-7 : (t : ℕ) → walk-rule-lts.Need-returns-7 (walk-rule-claims t) (walk-rule-at t) walk-rule.Post
 walk-rule-returns-7 t c =
-    let given = c .before .before .before .before .before .before .before .before .before .before .before .before .before .before .before .before .before .before .before .before .before .before .before .before .before .before .before .before .args in
-    let pre = c .before .before .before .before .before .before .before .before .before .before .before .before .before .before .before .before .before .before .before .before .before .before .before .before .before .before .before .before .pre in
-    let wide = c .before .before .before .before .before .before .before .before .before .before .before .before .before .before .before .before .before .before .before .before .before .before .before .before .before .wide in
+    let given = c .before .before .before .before .before .before .before .before .before .before .before .before .before .before .before .before .before .before .before .before .before .before .before .before .before .before .before .args in
+    let pre = c .before .before .before .before .before .before .before .before .before .before .before .before .before .before .before .before .before .before .before .before .before .before .before .before .before .before .before .pre in
+    let rules-in = c .before .before .before .before .before .before .before .before .before .before .before .before .before .before .before .before .before .before .before .before .before .before .before .before .before .rules-in in
     let look = c .before .before .before .before .before .before .before .before .before .before .before .before .before .before .before .before .before .before .before .before .before .before .before .look in
     let is-held = c .before .before .before .before .before .before .before .before .before .before .before .before .before .before .before .before .before .before .before .before .before .before .is-held in
     let if1 = c .before .before .before .before .before .before .before .before .before .before .before .before .before .before .before .before .before .before .before .before .before .if1 in
@@ -655,7 +652,7 @@ walk-rule-returns-7 t c =
     let w = was-possible (held .given .0 .0) (recordOf (look .result)) (possible (look .result) (given .at) (length (given .text .now .now))) (sym (held .given .1) ∙ from-word .ensures) in
     let m = ap (λ (r : Record). r .matched) (w .1) in
     let n = ap (λ (r : Record). r .length) (w .1) in
-    rule-goes (rulesIn (given .words .now)) (given .root) (given .room) (given .text .now .now) (given .table .now .now) (nodeV (given .room) (given .words .now) (given .text .now .now) (given .table .now .now) (given .left)) (given .rule) (given .at) (given .lo) (given .hi) (given .depth) (look .ensures ∙ ap (λ (n : ℕ). getD (given .table .now .now) ((given .at) * n + (given .rule)) 0) (wide .ensures .0)) (given .count .now) (given .rows .now) (sym (is-held .ensures) ∙ not-false (is-held .result) (if1 .left)) (w .0) (sym m ∙ not-false (held .given .0 .0 .matched) (if2 .left)) n (sym (touched .ensures) ∙ not-false (touched .result) (if3 .left)) (if4 .left) (row-word .ensures) (pre .1 .0 .short) (pre .1 .0 .here) (node-bounded (given .room) (given .words .now) (given .text .now .now) (given .table .now .now) (given .left)) _ _ _ (rw (put .ensures) at (c .before .before .before .walk-node .ensures)) (c .if5 .left)
+    rule-goes (rulesIn (given .words .now)) (given .root) (given .room) (given .text .now .now) (given .table .now .now) (nodeV (given .room) (given .words .now) (given .text .now .now) (given .table .now .now) (given .left)) (given .rule) (given .at) (given .lo) (given .hi) (given .depth) (look .ensures ∙ ap (λ (n : ℕ). getD (given .table .now .now) ((given .at) * n + (given .rule)) 0) (rules-in .ensures .0)) (given .count .now) (given .rows .now) (sym (is-held .ensures) ∙ not-false (is-held .result) (if1 .left)) (w .0) (sym m ∙ not-false (held .given .0 .0 .matched) (if2 .left)) n (sym (touched .ensures) ∙ not-false (touched .result) (if3 .left)) (if4 .left) (row-word .ensures) (pre .1 .0 .short) (pre .1 .0 .here) (node-bounded (given .room) (given .words .now) (given .text .now .now) (given .table .now .now) (given .left)) _ _ _ (rw (put .ensures) at (c .before .before .before .walk-node .ensures)) (c .if5 .left)
 
 walk-sequence-walk-node-requires : (t : ℕ) → walk-sequence-lts.Need-walk-node-requires (walk-sequence-claims t) (walk-sequence-at t) walk-sequence.Post
 walk-sequence-walk-node-requires t c κs =
@@ -920,8 +917,7 @@ pub +walk-choice+walk-node+walk-not+walk-part+walk-rule+walk-sequence+walk-star-
     (λ t. walk-rule-lts.spec (walk-rule-claims t)
     (walk-rule-at t)
     walk-rule.Post
-    (walk-rule-element-copy-out-wide t)
-    (walk-rule-wide-requires t)
+    (walk-rule-rules-in-requires t)
     (walk-rule-look-requires t)
     (walk-rule-is-held-requires t)
     (walk-rule-add-result t)

@@ -18,12 +18,16 @@ rule-at-requires c κs = search needs
 
 mul-word : tie.Need-mul-word
 mul-word c =
-    let small = root-small (c .before .before .before .before .before .args .image .now) (c .before .header-of .result .start) in
+    let given = c .before .before .before .before .before .args in
+    let header-of = c .before .header-of in
+    let small = root-small (given .image .now) (header-of .result .start) in
     omega (arith, c .rule-at .ensures .its-root)
 
 array-read-word : tie.Need-array-read-word
 array-read-word c =
-    let small = root-small (c .before .before .before .before .before .args .image .now) (c .before .header-of .result .start) in
+    let given = c .before .before .before .before .before .args in
+    let header-of = c .before .header-of in
+    let small = root-small (given .image .now) (header-of .result .start) in
     omega (arith, c .rule-at .ensures .its-root)
 
 slice-aggregate-eval-word : tie.Need-slice-aggregate-eval-word
@@ -34,9 +38,15 @@ eval-word-requires c κs = search needs
 
 returns : tie.Need-returns
 returns c =
-    let e : c .before .before .before .before .before .before .rule-at .result .root ≡ root (c .before .before .before .before .before .before .before .before .before .before .before .args .image .now) (start (c .before .before .before .before .before .before .before .before .before .before .before .args .image .now)) =
-    c .before .before .before .before .before .before .rule-at .ensures .its-root ∙ ap (root (c .before .before .before .before .before .before .before .before .before .before .before .args .image .now)) (c .before .before .before .before .before .before .before .header-of .ensures .its-start) in
-    start-given (c .before .before .before .before .before .before .before .before .before .before .before .args .image .now) (c .before .before .before .before .before .before .before .before .before .before .before .args .t2 .now) (c .before .before .before .before .before .before .before .before .load .ensures) (c .before .before .before .before .before .before .before .before .before .before .before .pre .1) (rw e at (c .before .eval-word .ensures))
+    let given = c .before .before .before .before .before .before .before .before .before .before .before .args in
+    let pre = c .before .before .before .before .before .before .before .before .before .before .before .pre in
+    let loaded = c .before .before .before .before .before .before .before .before .load in
+    let header-of = c .before .before .before .before .before .before .before .header-of in
+    let rule-at = c .before .before .before .before .before .before .rule-at in
+    let eval-word = c .before .eval-word in
+    let e : rule-at .result .root ≡ root (given .image .now) (start (given .image .now)) =
+    rule-at .ensures .its-root ∙ ap (root (given .image .now)) (header-of .ensures .its-start) in
+    start-given (given .image .now) (given .t2 .now) (loaded .ensures) (pre .1) (rw e at (eval-word .ensures))
 
 pub start-word-spec : {M : Type 1} → statement M
 start-word-spec =

@@ -18,10 +18,14 @@ rule-at-requires c κs = search needs
 
 eval-rule-requires : tie.Need-eval-rule-requires
 eval-rule-requires c κs =
-    let small = root-small (c .before .before .before .before .before .before .before .before .before .before .args .image .now) (c .before .before .before .before .before .header-of .result .start) in (
-      record { short = c .before .before .before .before .before .before .before .before .before .before .pre .1; here = omega arith; most = omega arith },
-      omega (arith, c .before .before .before .before .before .header-of .ensures .its-start, c .before .before .before .before .before .before .before .before .before .before .pre .0 .lawful .counts .start-rule, c .before .before .before .before .before .before .before .before .before .before .pre .0 .lawful .counts .few-rules),
-      omega (arith, c .before .before .before .before .rule-at .ensures .its-root),
+    let given = c .before .before .before .before .before .before .before .before .before .before .args in
+    let pre = c .before .before .before .before .before .before .before .before .before .before .pre in
+    let header-of = c .before .before .before .before .before .header-of in
+    let rule-at = c .before .before .before .before .rule-at in
+    let small = root-small (given .image .now) (header-of .result .start) in (
+      record { short = pre .1; here = omega arith; most = omega arith },
+      omega (arith, header-of .ensures .its-start, pre .0 .lawful .counts .start-rule, pre .0 .lawful .counts .few-rules),
+      omega (arith, rule-at .ensures .its-root),
     )
 
 same-length : tie.Need-same-length
@@ -29,10 +33,15 @@ same-length c = search needs
 
 returns : tie.Need-returns
 returns c =
-    let e : c .before .before .before .before .before .before .before .rule-at .result .root ≡ root (c .before .before .before .before .before .before .before .before .before .before .before .before .before .args .image .now) (start (c .before .before .before .before .before .before .before .before .before .before .before .before .before .args .image .now)) =
-    c .before .before .before .before .before .before .before .rule-at .ensures .its-root ∙ ap (root (c .before .before .before .before .before .before .before .before .before .before .before .before .before .args .image .now)) (c .before .before .before .before .before .before .before .before .header-of .ensures .its-start) in
-    start-over-given (c .before .before .before .before .before .before .before .before .before .before .before .before .before .args .image .now) (c .before .before .before .before .before .before .before .before .before .before .before .before .before .args .t2 .now) (c .before .before .before .before .before .before .before .before .before .load .ensures) (c .before .before .before .before .before .before .before .before .before .before .before .before .before .args .table .now) (c .before .before .before .before .before .before .before .before .before .before .before .before .before .args .count .now)
-    (rw (e, c .before .before .before .before .before .before .before .before .header-of .ensures .its-start) at (c .before .before .eval-rule .ensures))
+    let given = c .before .before .before .before .before .before .before .before .before .before .before .before .before .args in
+    let loaded = c .before .before .before .before .before .before .before .before .before .load in
+    let header-of = c .before .before .before .before .before .before .before .before .header-of in
+    let rule-at = c .before .before .before .before .before .before .before .rule-at in
+    let eval-rule = c .before .before .eval-rule in
+    let e : rule-at .result .root ≡ root (given .image .now) (start (given .image .now)) =
+    rule-at .ensures .its-root ∙ ap (root (given .image .now)) (header-of .ensures .its-start) in
+    start-over-given (given .image .now) (given .t2 .now) (loaded .ensures) (given .table .now) (given .count .now)
+    (rw (e, header-of .ensures .its-start) at (eval-rule .ensures))
 
 pub start-over-spec : {M : Type 1} → statement M
 start-over-spec =
