@@ -4,8 +4,8 @@
 use std::panic::resume_unwind;
 use std::thread::Builder;
 
-/// The stack that a call may count on, in bytes. A listing takes the most: 1,473 KiB at nesting 4,096 by a
-/// chain of calls.
+/// The stack that a call may count on, in bytes. The most that was measured is a listing's: 1,482 KiB at
+/// nesting 4,096.
 pub const STACK_BYTES: usize = 2 << 20;
 
 /// Does `work` in a thread with that stack and gives back what it gives.

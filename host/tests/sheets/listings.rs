@@ -4,7 +4,7 @@ use super::session::Session;
 use super::tally::Tally;
 use bannelgo_host::calls::Call;
 use bannelgo_host::expr::{byte, not, or_else, star, then, Expr, Grammar};
-use bannelgo_host::generate::brackets_of_nesting;
+use bannelgo_host::generate::{brackets_of_nesting, Levels};
 use bannelgo_host::rng::Rng;
 use Expr::{AnyByte, Bytes, Call as Rule, Empty};
 
@@ -26,15 +26,15 @@ pub fn near_the_limit(seed: u64) -> Tally {
     tally
 }
 
-/// The same nestings, most of them made of choices or of calls; a chain of calls takes the most stack.
+/// Nestings from 4,093 to 4,098, most of their levels choices or calls; a chain of calls takes the most stack.
 pub fn by_choices_and_calls(seed: u64) -> Tally {
     let mut tally = Tally::drawn("listings by choices, calls", seed);
     let rng = &mut Rng::new(seed);
-    let choices = [1, 2, 10, 100, 250].map(many_choices);
-    let calls = [1, 2, 20, 62].map(chain_of_calls);
-    for (rules, each) in choices.iter().chain(&calls) {
+    let choices = [1, 2, 10, 100, 250].map(Levels::of_choices);
+    let calls = [1, 2, 20, 62].map(Levels::of_calls);
+    for levels in choices.iter().chain(&calls) {
         for nesting in 4_093..4_099 {
-            let (grammar, brackets) = with_nesting(rules, *each, nesting);
+            let (grammar, brackets) = levels.with_nesting(nesting);
             let text = vec![b'('; brackets];
             let session = &mut Session::open(&mut tally, rng, &grammar, brackets, &text);
             let fields = session.call(Call::Read);
@@ -43,30 +43,6 @@ pub fn by_choices_and_calls(seed: u64) -> Tally {
         }
     }
     tally
-}
-
-/// Rule 1 = ("(" then rule 1) else empty, under so many choices in all, and its nesting for k brackets
-/// divided by k + 1.
-fn many_choices(choices: usize) -> (Vec<Expr>, usize) {
-    let under_one = or_else(then(byte(b'('), Rule(1)), Empty);
-    let rule_1 = (1..choices).fold(under_one, |inner, _| or_else(inner, Empty));
-    (vec![rule_1], choices + 2)
-}
-
-/// The same with so many rules each of which is a call of the next.
-fn chain_of_calls(calls: u8) -> (Vec<Expr>, usize) {
-    let last = or_else(then(byte(b'('), Rule(1)), Empty);
-    let rules = (0..calls).map(|call| Rule(call + 2)).chain([last]);
-    (rules.collect(), usize::from(calls) + 3)
-}
-
-/// Rule 0, which calls rule 1, with these rules, and the number of brackets with that nesting.
-fn with_nesting(rules: &[Expr], each: usize, nesting: usize) -> (Grammar, usize) {
-    let levels = (nesting - 1) / each;
-    let rest = nesting - levels * each;
-    let rule_0 = (1..rest).fold(Rule(1), |inner, _| then(Empty, inner));
-    let rules = [&[rule_0], rules].concat();
-    (Grammar { start: 0, rules }, levels - 1)
 }
 
 /// Rule i calls rule i + 1 twice: k rules have 2^k - 1 rows on every text. 64 of them have as many as
