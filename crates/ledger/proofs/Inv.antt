@@ -14,9 +14,9 @@ use Rattle.evaluation.specs.Calls.{Pair, In, callsOf}
 use Rattle.evaluation.proofs.Plain.{fresh-within}
 use Rattle.records.specs.Words.{isHeld, wordOf}
 use Rattle.records.proofs.Codec.{word-held}
-use Rattle.reading.specs.Over.{wordAt}
-use Rattle.reading.specs.True.{IsTrue}
-use Rattle.reading.proofs.OverTables.{word-possible}
+use Rattle.packrat.specs.Over.{wordAt}
+use Rattle.packrat.specs.True.{IsTrue}
+use Rattle.packrat.proofs.OverTables.{word-possible}
 use Rattle.editing.specs.Text.{opened}
 use Rattle.editing.specs.Table.{pick, tableSize}
 use Rattle.ledger.specs.Questions.{Question8}

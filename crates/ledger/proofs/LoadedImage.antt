@@ -10,8 +10,8 @@ use lib.Dec.{eqb, ltb}
 use borrow.Author.Tests.{eqb-true, eqb-false, ltb-true, ltb-false}
 use Rattle.grammar.specs.Image.{rules, nodes, root, nodeWord, kind, fieldA}
 use Rattle.grammar.specs.Questions.{Lawful}
-use Rattle.reading.specs.Loaded.{LoadedWord, Loaded}
-use Rattle.reading.proofs.LoadedWords.{kept-word, call-word, past-word}
+use Rattle.packrat.specs.Loaded.{LoadedWord, Loaded}
+use Rattle.loaded.proofs.LoadedWords.{kept-word, call-word, past-word}
 
 -- The word of node i, by whether the image has that node and whether it is a call.
 abbrev wordIf : (inside calls : Bool) (img : List ℕ) (i : ℕ) → ℕ

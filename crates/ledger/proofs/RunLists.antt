@@ -11,9 +11,9 @@ use lib.Seq.{take-at, length-take-le}
 use Rattle.grammar.specs.declared.Evaluation.{Evaluation}
 use Rattle.grammar.specs.Image.{rules, start, root}
 use Rattle.grammar.specs.Questions.{First, Accepted}
-use Rattle.reading.specs.Model.{answered, refused, Out, out}
-use Rattle.reading.specs.Loaded.{rulesIn}
-use Rattle.reading.specs.Session.{startRun}
+use Rattle.packrat.specs.Model.{answered, refused, Out, out}
+use Rattle.packrat.specs.Loaded.{rulesIn}
+use Rattle.packrat.specs.Session.{startRun}
 use Rattle.rows.specs.Walk.{Walked, walked, stopped, Trail, trail, nodeV, startV}
 use Rattle.rows.specs.Bounds.{Bounded, May}
 use Rattle.rows.proofs.Bounds.{node-bounded, pair-bounded}

@@ -13,8 +13,8 @@ use lib.Dec.{leb, ltb}
 use borrow.Author.Tests.{leb-true, le-leb, ltb-true, lt-ltb}
 use Rattle.grammar.specs.Image.{rules}
 use Rattle.grammar.specs.Questions.{First, Accepted}
-use Rattle.reading.specs.Over.{wordAt}
-use Rattle.reading.specs.Session.{startRun}
+use Rattle.packrat.specs.Over.{wordAt}
+use Rattle.packrat.specs.Session.{startRun}
 use Rattle.editing.specs.Text.{newLength, textAfter, opened}
 use Rattle.editing.specs.Table.{wordsAfter, tableAfter, clearedTable, heldIn, tableSize}
 use Rattle.ledger.specs.declared.OpenAnswer.{OpenAnswer}

@@ -17,12 +17,12 @@ use Rattle.grammar.specs.declared.Evaluation.{Evaluation}
 use Rattle.grammar.specs.Image.{rules, start}
 use Rattle.grammar.specs.Questions.{First, Accepted}
 use Rattle.grammar.specs.Evaluates.{Fresh, a-pair}
-use Rattle.reading.specs.Model.{answered, refused, Out, out}
+use Rattle.packrat.specs.Model.{answered, refused, Out, out}
 use Rattle.records.specs.Words.{isHeld, possible}
-use Rattle.reading.specs.Loaded.{Loaded}
-use Rattle.reading.specs.Over.{wordAt}
-use Rattle.reading.specs.Session.{startRun}
-use Rattle.reading.proofs.TrueReads.{start-reads, start-deep}
+use Rattle.packrat.specs.Loaded.{Loaded}
+use Rattle.packrat.specs.Over.{wordAt}
+use Rattle.packrat.specs.Session.{startRun}
+use Rattle.packrat.proofs.TrueReads.{start-reads, start-deep}
 use Rattle.rows.specs.Rows.{rowsOf, rowWords}
 use Rattle.rows.specs.Walk.{walked, stopped, Trail, trail, startV}
 use Rattle.rows.specs.Bounds.{Number, impossible, too-deep, no-slot}

@@ -20,17 +20,17 @@ use Rattle.grammar.specs.Evaluates.{a-pair}
 use Rattle.evaluation.specs.Calls.{Pair, isIn, bodiesOf}
 use Rattle.evaluation.proofs.Counts.{count-most}
 use Rattle.records.specs.Words.{valueOf}
-use Rattle.reading.specs.Model.{Answer, answered, refused, Out, out, nodeM}
+use Rattle.packrat.specs.Model.{Answer, answered, refused, Out, out, nodeM}
 use Rattle.reading.specs.Plain.{TooDeep}
-use Rattle.reading.specs.Over.{Over}
-use Rattle.reading.specs.Stores.{Room, evaluations}
-use Rattle.reading.specs.Gives.{Gives}
-use Rattle.reading.specs.Framed.{Fits, Framed}
-use Rattle.reading.proofs.Gives.{found, was-refused, says}
-use Rattle.reading.proofs.Framed.{pair-framed, pair-impossible}
-use Rattle.reading.proofs.Stores.{determined}
-use Rattle.reading.proofs.TrueReads.{start-deep, only-14}
-use Rattle.reading.specs.Session.{startRun}
+use Rattle.packrat.specs.Over.{Over}
+use Rattle.packrat.specs.Stores.{Room, evaluations}
+use Rattle.packrat.specs.Gives.{Gives}
+use Rattle.packrat.specs.Framed.{Fits, Framed}
+use Rattle.packrat.proofs.Gives.{found, was-refused, says}
+use Rattle.packrat.proofs.Framed.{pair-framed, pair-impossible}
+use Rattle.packrat.proofs.Stores.{determined}
+use Rattle.packrat.proofs.TrueReads.{start-deep, only-14}
+use Rattle.packrat.specs.Session.{startRun}
 use Rattle.editing.specs.Table.{tableSize, TableLent, clearedTable}
 use Rattle.editing.proofs.Loans.{cleared-long, cleared-tail}
 use Rattle.ledger.specs.declared.ReadAnswer.{ReadAnswer}

@@ -19,8 +19,8 @@ use Rattle.evaluation.proofs.CallLocality.{shifted}
 use Rattle.evaluation.proofs.Plain.{fresh-within}
 use Rattle.records.specs.Words.{isHeld, examinedOf, wordOf}
 use Rattle.records.proofs.Codec.{examined-back}
-use Rattle.reading.specs.Over.{wordAt}
-use Rattle.reading.proofs.OverTables.{word-possible}
+use Rattle.packrat.specs.Over.{wordAt}
+use Rattle.packrat.proofs.OverTables.{word-possible}
 use Rattle.editing.specs.Text.{EditFits, newLength, textAfter}
 use Rattle.editing.specs.Table.{pick, tableSize, wordsAfter, tableAfter, heldIn}
 use Rattle.editing.proofs.Ledger.{ledger-after}

@@ -5,7 +5,7 @@ use mathlib.Core.Path.{_≡_, refl, ap, _∙_}
 use mathlib.Core.Bool.{Bool, true, false}
 use mathlib.Core.List.{List}
 use lib.ListN.{length}
-use Rattle.reading.specs.Over.{wordAt}
+use Rattle.packrat.specs.Over.{wordAt}
 use Rattle.ledger.specs.declared.LookUpAnswer.{LookUpAnswer}
 use Rattle.ledger.specs.Answers.{lookUpNumber}
 use Rattle.ledger.specs.Promises.{LookUpPromise, LookUpValues}

@@ -24,10 +24,10 @@ use Rattle.evaluation.proofs.Bodies.{shallower}
 use Rattle.evaluation.proofs.Range.{bodies-in-range}
 use Rattle.evaluation.proofs.Reach.{reached-is, is-reached}
 use Rattle.records.specs.Words.{isHeld, wordOf}
-use Rattle.reading.specs.Over.{wordAt, Over}
-use Rattle.reading.specs.Stores.{evaluations}
-use Rattle.reading.proofs.Stores.{kept-pair, over-in-range}
-use Rattle.reading.proofs.TrueTables.{over-of-fresh, fresh-of-over, bodies-over}
+use Rattle.packrat.specs.Over.{wordAt, Over}
+use Rattle.packrat.specs.Stores.{evaluations}
+use Rattle.packrat.proofs.Stores.{kept-pair, over-in-range}
+use Rattle.packrat.proofs.TrueTables.{over-of-fresh, fresh-of-over, bodies-over}
 use Rattle.editing.specs.Text.{opened}
 use Rattle.editing.specs.Table.{pick, tableSize, clearedTable}
 use Rattle.editing.proofs.Loans.{cleared-long, cleared-tail, cleared-word}

@@ -8,8 +8,8 @@ use lib.ListN.{length, take, drop}
 use Rattle.grammar.specs.Image.{rules}
 use Rattle.grammar.specs.Questions.{Accepted}
 use Rattle.records.specs.Words.{wordOf}
-use Rattle.reading.specs.Over.{wordAt}
-use Rattle.reading.specs.True.{IsTrue}
+use Rattle.packrat.specs.Over.{wordAt}
+use Rattle.packrat.specs.True.{IsTrue}
 use Rattle.editing.specs.Text.{opened}
 use Rattle.editing.specs.Table.{pick, tableSize}
 use Rattle.ledger.specs.declared.OpenAnswer.{OpenAnswer}

@@ -6,7 +6,7 @@ use mathlib.Core.List.{List}
 use lib.ListN.{length}
 use Rattle.grammar.specs.Image.{rules}
 use Rattle.grammar.specs.Questions.{First}
-use Rattle.reading.specs.Over.{wordAt}
+use Rattle.packrat.specs.Over.{wordAt}
 use Rattle.editing.specs.Text.{newLength, textAfter, opened}
 use Rattle.editing.specs.Table.{wordsAfter, tableAfter, clearedTable, heldIn}
 use Rattle.ledger.specs.declared.OpenAnswer.{OpenAnswer}

@@ -13,10 +13,10 @@ use Rattle.grammar.specs.Questions.{First}
 use Rattle.evaluation.specs.Calls.{Pair, bodiesOf}
 use Rattle.records.specs.Words.{isHeld, possible}
 use Rattle.reading.specs.Plain.{TooDeep}
-use Rattle.reading.specs.Over.{wordAt, Over}
-use Rattle.reading.specs.True.{TrueTable}
-use Rattle.reading.specs.Closed.{ClosedTable}
-use Rattle.reading.specs.Stores.{Stores, evaluations}
+use Rattle.packrat.specs.Over.{wordAt, Over}
+use Rattle.packrat.specs.True.{TrueTable}
+use Rattle.packrat.specs.Closed.{ClosedTable}
+use Rattle.packrat.specs.Stores.{Stores, evaluations}
 use Rattle.editing.specs.Table.{tableSize, clearedTable}
 use Rattle.ledger.specs.declared.ReadAnswer.{ReadAnswer}
 use Rattle.ledger.specs.declared.SheetReading.{SheetReading}

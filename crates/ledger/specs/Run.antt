@@ -4,7 +4,7 @@ use Prim.Native.Nat.{ℕ}
 use mathlib.Core.Bool.{Bool, true, false}
 use mathlib.Core.List.{List}
 use Rattle.grammar.specs.Image.{rules}
-use Rattle.reading.specs.Model.{answered, refused, Out, out}
+use Rattle.packrat.specs.Model.{answered, refused, Out, out}
 use Rattle.editing.specs.Table.{clearedTable}
 use Rattle.ledger.specs.declared.ReadAnswer.{ReadAnswer}
 use Rattle.ledger.specs.Answers.{sheetReading}

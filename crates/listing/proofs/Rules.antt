@@ -12,7 +12,7 @@ use Rattle.grammar.specs.Image.{Node, empty, terminal, Terminal, unlawful}
 use Rattle.grammar.specs.Terminal.{terminalAt}
 use Rattle.records.specs.Words.{isHeld, possible, matchedOf, lengthOf}
 use Rattle.records.proofs.Test.{says-possible}
-use Rattle.reading.specs.Loaded.{rulesIn, wordNode, wordB}
+use Rattle.packrat.specs.Loaded.{rulesIn, wordNode, wordB}
 use Rattle.rows.specs.Rows.{rowWord}
 use Rattle.rows.specs.Window.{touches}
 use Rattle.rows.specs.Walk.{walked, stopped, Trail, trail, Walker, bind, after, met, entered, pairV, kindV, nodeV}

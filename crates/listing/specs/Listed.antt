@@ -6,7 +6,7 @@ use mathlib.Core.Bool.{Bool}
 use mathlib.Core.List.{List, _++_}
 use lib.ListN.{length, drop}
 use Rattle.grammar.specs.Image.{start, root}
-use Rattle.reading.specs.Loaded.{Loaded}
+use Rattle.packrat.specs.Loaded.{Loaded}
 use Rattle.rows.specs.Walk.{walked, stopped, Trail, trail, ruleV}
 use Rattle.rows.specs.Bounds.{Number}
 use Rattle.listing.specs.declared.list.Listed.{Listed}

@@ -1,5 +1,4 @@
 // The terminals, by the evaluator's tests: the length of a match, or the number that says a failure.
-use reading::terminals;
 ghost use mathlib.Core.Path.{_≡_};
 ghost use Rattle.grammar.specs.Image.{any, range};
 ghost use Rattle.grammar.specs.Terminal.{terminalAt};

@@ -1,7 +1,6 @@
 // The rows of the text over the records that a reading left, by an image.
 use crate::list;
 use crate::list::Listed;
-use reading::loaded;
 ghost use Prim.Native.Nat.{_≤_};
 ghost use lib.ListN.{length};
 ghost use Rattle.grammar.specs.Questions.{Accepted};

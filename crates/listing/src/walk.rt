@@ -5,8 +5,6 @@
 use crate::bytes;
 use crate::bytes::FAILED;
 use crate::slots;
-use reading::loaded;
-use reading::memo;
 use records::Decoded;
 use records::Record;
 ghost use Prim.Native.Nat.{_+_, _<_};

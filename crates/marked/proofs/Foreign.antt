@@ -13,7 +13,7 @@ use Rattle.grammar.proofs.Acceptance.{accepted}
 use Rattle.evaluation.specs.Calls.{bodiesOf, isIn}
 use Rattle.evaluation.specs.Counts.{sumTo}
 use Rattle.records.specs.Words.{valueOf, matchedOf, nestingOf, examinedOf, lengthOf, spareOf, possible}
-use Rattle.reading.specs.Over.{over}
+use Rattle.packrat.specs.Over.{over}
 use Rattle.reading.specs.declared.plain.Outcome.{Outcome}
 use Rattle.ledger.specs.declared.ReadAnswer.{ReadAnswer}
 use Rattle.ledger.specs.declared.ListAnswer.{ListAnswer}

@@ -8,8 +8,8 @@ use Rattle.grammar.specs.Image.{rules, nodes, start, ruleWord, root, nodeWord, 
 use Rattle.grammar.specs.Terminal.{accepts, terminalAt}
 use Rattle.grammar.proofs.Acceptance.{accepted}
 use Rattle.records.specs.Words.{matchedOf, spareOf, nestingOf, examinedOf, lengthOf, valueOf, wordOf, possible}
-use Rattle.reading.specs.Model.{afterFirst, afterChoice, afterRound, roundsM, met, looked, pairM, kindM, nodeM}
-use Rattle.reading.specs.Loaded.{wordNode}
+use Rattle.packrat.specs.Model.{afterFirst, afterChoice, afterRound, roundsM, met, looked, pairM, kindM, nodeM}
+use Rattle.packrat.specs.Loaded.{wordNode}
 use Rattle.rows.specs.Rows.{rowWord, rowWords}
 use Rattle.rows.specs.Window.{touches}
 use Rattle.rows.specs.Walk.{after, bind, afterLook, partV, joined, roundsV, entered, pairV, kindV, nodeV, startV}

@@ -1,22 +1,4 @@
--- The lemmas of the evaluator.
-pub mod TerminalWords
-pub mod Gives
-pub mod LoadedRuns
-pub mod LoadedWords
-pub mod Runs
-pub mod Stars
-pub mod Rules
-pub mod Raised
+-- The lemmas of the plain reading.
 pub mod PlainReading
 pub mod Coding
 pub mod Consuming
-pub mod Slots
-pub mod Gain
-pub mod Grown
-pub mod Framed
-pub mod OverTables
-pub mod OnlyOver
-pub mod Stores
-pub mod TrueTables
-pub mod TrueReads
-pub mod Allowance

@@ -21,13 +21,14 @@ use Rattle.evaluation.proofs.Plain.{fresh-within}
 use Rattle.records.specs.Words.{valueOf}
 use Rattle.reading.specs.declared.plain.Reading.{Reading}
 use Rattle.reading.specs.declared.plain.PlainAnswer.the-variants.{Read, Refused}
-use Rattle.reading.specs.Model.{nodeM, ruleM}
-use Rattle.reading.specs.Plain.{Says, Reports, ShortText, DepthAllowed, PlainRead, outcomeOf, readingOf, StartWord}
-use Rattle.reading.proofs.Gives.{found, was-refused, says}
+use Rattle.packrat.specs.Model.{nodeM, ruleM}
+use Rattle.reading.specs.Plain.{Says, Reports, ShortText, DepthAllowed, PlainRead, outcomeOf, readingOf}
+use Rattle.packrat.specs.Session.{StartWord}
+use Rattle.packrat.proofs.Gives.{found, was-refused, says}
 use Rattle.evaluation.specs.Calls.{bodiesOf}
-use Rattle.reading.specs.Over.{over, Over}
-use Rattle.reading.proofs.Grown.{grown-none}
-use Rattle.reading.proofs.OverTables.{Result, fine, deep, pair-over}
+use Rattle.packrat.specs.Over.{over, Over}
+use Rattle.packrat.proofs.Grown.{grown-none}
+use Rattle.packrat.proofs.OverTables.{Result, fine, deep, pair-over}
 
 -- What a reading reports.
 reported : (n : ℕ) (z : Evaluation) → z .length ≤ n → Reports n z (readingOf n z)

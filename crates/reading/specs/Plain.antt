@@ -14,7 +14,6 @@ use Rattle.reading.specs.declared.plain.Outcome.the-variants.{Whole, Par
 use Rattle.reading.specs.declared.plain.Reading.{Reading}
 use Rattle.reading.specs.declared.plain.PlainAnswer.{PlainAnswer}
 use Rattle.reading.specs.declared.plain.PlainAnswer.the-variants.{Read, Refused}
-use Rattle.reading.specs.Session.{StartOver}
 
 -- "A reading is whole (matched, length n), part (matched, shorter) or none"
 abbrev pub Says : Outcome → (n : ℕ) → Evaluation → Type 0
@@ -73,7 +72,7 @@ pub record PlainRead (img text : List ℕ) (r : PlainAnswer) : Type 0 where
   pub first : First (ofPlain img text) (numberOf r)
   pub values : Values img text r
 
--- For the functions inside: the reading that an evaluation is reported as, and the word of the start pair.
+-- For the functions inside: the reading that an evaluation is reported as.
 abbrev pub outcomeOf : (matched full : Bool) → Outcome
 outcomeOf false full = Nothing
 outcomeOf true true = Whole
@@ -87,8 +86,3 @@ readingOf n z =
       examined = z .examined;
       nesting = z .nesting;
     }
-
-pub record StartWord (img text : List ℕ) (word : ℕ) : Type 0 where
-  pub table : List ℕ
-  pub count : ℕ
-  pub gives : StartOver img text [] 0 word table count

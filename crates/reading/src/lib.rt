@@ -1,10 +1,5 @@
-// Reading: evaluating nodes and rules of an accepted grammar at positions of a text, and the plain reading.
+// Reading: the start pair of an accepted grammar over a text, plain and over the records of a session.
 
-mod answers;
 pub mod code;
-mod evaluate;
-pub mod loaded;
-pub mod memo;
 pub mod plain;
 pub mod session;
-pub mod terminals;

@@ -1,6 +1,4 @@
 // The plain reading: a reading without records. Its answer depends on the image and the text alone.
-use crate::evaluate;
-use crate::loaded;
 use records::Record;
 ghost use Prim.Native.Nat.{_≤_};
 ghost use mathlib.Core.Path.{_≡_};
@@ -8,7 +6,8 @@ ghost use lib.ListN.{length};
 ghost use Rattle.grammar.specs.Questions.{Accepted};
 ghost use Rattle.records.specs.Words.{valueOf};
 ghost use lib.Dec.{eqb};
-ghost use Rattle.reading.specs.Plain.{PlainRead, StartWord, outcomeOf, readingOf};
+ghost use Rattle.reading.specs.Plain.{PlainRead, outcomeOf, readingOf};
+ghost use Rattle.packrat.specs.Session.{StartWord};
 
 // "A reading is whole (matched, length n), part (matched, shorter) or none"
 pub enum Outcome {
@@ -69,7 +68,7 @@ fn start_word(image: &[u8], text: &[u8]) -> u64
     let word = words[root];
     let mut table = [0u64; 0];
     let mut count = 0u64;
-    evaluate::eval_word(
+    evaluator::eval_word(
         &words,
         &text,
         &mut table,

@@ -1,11 +1,9 @@
 // The start pair over lent records, for a reading in a session.
-use crate::evaluate;
-use crate::loaded;
 use records::Record;
 ghost use Prim.Native.Nat.{_≤_};
 ghost use lib.ListN.{length};
 ghost use Rattle.grammar.specs.Questions.{Accepted};
-ghost use Rattle.reading.specs.Session.{StartOver};
+ghost use Rattle.packrat.specs.Session.{StartOver};
 
 // Its word, or the number of a refusal; `count` goes up by the pairs that are evaluated.
 pub fn start_over(image: &[u8], text: &[u8], table: &mut [u64], count: &mut u64) -> u64
@@ -17,7 +15,7 @@ pub fn start_over(image: &[u8], text: &[u8], table: &mut [u64], count: &mut u64)
     let start = header.start;
     let body = image::rule_at(image, start);
     let root = body.root;
-    evaluate::eval_rule(
+    evaluator::eval_rule(
         &words,
         &text,
         table,

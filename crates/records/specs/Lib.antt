@@ -1,3 +1,4 @@
--- The record word (Words), and where a pair's record lies (Slots).
+-- The record word (Words), where a pair's record lies (Slots), and which words can follow each other (Joinable).
 pub mod Words
 pub mod Slots
+pub mod Joinable

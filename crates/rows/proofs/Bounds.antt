@@ -14,7 +14,7 @@ use Rattle.grammar.specs.Image.{Node, empty, terminal, sequence, choice, star, 
 use Rattle.grammar.proofs.Terminals.{shape}
 use Rattle.records.specs.Words.{isHeld, possible, matchedOf, lengthOf}
 use Rattle.records.proofs.Test.{says-possible}
-use Rattle.reading.specs.Loaded.{wordB, wordNode, rulesIn}
+use Rattle.packrat.specs.Loaded.{wordB, wordNode, rulesIn}
 use Rattle.rows.specs.Rows.{rowWord}
 use Rattle.rows.specs.Window.{touches}
 use Rattle.rows.specs.Walk.{Walked, walked, stopped, Trail, trail, Walker, bind, after, afterLook, partV, joined, afterFirst}

@@ -19,11 +19,11 @@ use Rattle.evaluation.proofs.Pairs.{in-is}
 use Rattle.evaluation.proofs.Reach.{own-body}
 use Rattle.evaluation.proofs.Plain.{fresh-within, no-record}
 use Rattle.records.specs.Words.{isHeld}
-use Rattle.reading.specs.Over.{wordAt}
-use Rattle.reading.specs.True.{TrueTable}
-use Rattle.reading.specs.Closed.{ClosedTable, Reads}
-use Rattle.reading.specs.Loaded.{Loaded}
-use Rattle.reading.specs.Model.{Out}
+use Rattle.packrat.specs.Over.{wordAt}
+use Rattle.packrat.specs.True.{TrueTable}
+use Rattle.packrat.specs.Closed.{ClosedTable, Reads}
+use Rattle.packrat.specs.Loaded.{Loaded}
+use Rattle.packrat.specs.Model.{Out}
 use Rattle.rows.specs.Rows.{ifMatched, rowsOf, rowWord, rowWords}
 use Rattle.rows.specs.Window.{touches}
 use Rattle.rows.specs.Walk.{Trail, met, entered, nodeV, startV}

@@ -21,9 +21,9 @@ use Rattle.evaluation.specs.Calls.{callsOf, here}
 use Rattle.evaluation.proofs.Pairs.{in-left, in-right}
 use Rattle.evaluation.proofs.Plain.{fresh-within, no-record}
 use Rattle.evaluation.proofs.Range.{InImage}
-use Rattle.reading.specs.True.{TrueTable}
-use Rattle.reading.specs.Closed.{ClosedTable}
-use Rattle.reading.specs.Loaded.{Loaded, rulesIn, wordB}
+use Rattle.packrat.specs.True.{TrueTable}
+use Rattle.packrat.specs.Closed.{ClosedTable}
+use Rattle.packrat.specs.Loaded.{Loaded, rulesIn, wordB}
 use Rattle.rows.specs.Rows.{Row, rowWord, ifMatched, rowsOf}
 use Rattle.rows.specs.Window.{touches, wordIf, shown}
 use Rattle.rows.specs.Fits.{Fits, too-many}

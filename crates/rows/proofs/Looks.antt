@@ -21,8 +21,8 @@ use Rattle.evaluation.specs.Calls.{callsOf, here}
 use Rattle.evaluation.proofs.Pairs.{in-left, in-right}
 use Rattle.evaluation.proofs.Plain.{fresh-within, no-record}
 use Rattle.evaluation.proofs.Range.{InImage}
-use Rattle.reading.specs.True.{TrueTable}
-use Rattle.reading.specs.Loaded.{Loaded, rulesIn, wordB}
+use Rattle.packrat.specs.True.{TrueTable}
+use Rattle.packrat.specs.Loaded.{Loaded, rulesIn, wordB}
 use Rattle.rows.specs.Window.{touches}
 use Rattle.rows.specs.Walk.{walked, Trail, trail, Walker, bind, after, afterLook, partV, joined, afterFirst, afterChoice}
 use Rattle.rows.specs.Walk.{afterRound, roundsV, met, entered, pairV, kindV, nodeV}

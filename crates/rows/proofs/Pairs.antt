@@ -19,10 +19,10 @@ use Rattle.evaluation.proofs.Plain.{fresh-within}
 use Rattle.records.specs.Words.{isHeld, possible, matchedOf, lengthOf, wordOf}
 use Rattle.records.proofs.Codec.{matched-back, length-back}
 use Rattle.records.proofs.Test.{passes-test}
-use Rattle.reading.specs.Over.{wordAt}
-use Rattle.reading.specs.True.{TrueTable}
-use Rattle.reading.specs.Loaded.{Loaded, rulesIn, wordB}
-use Rattle.reading.proofs.OverTables.{word-possible}
+use Rattle.packrat.specs.Over.{wordAt}
+use Rattle.packrat.specs.True.{TrueTable}
+use Rattle.packrat.specs.Loaded.{Loaded, rulesIn, wordB}
+use Rattle.packrat.proofs.OverTables.{word-possible}
 use Rattle.rows.specs.Rows.{rowWord}
 use Rattle.rows.specs.Window.{touches}
 use Rattle.rows.specs.Walk.{Walker, met, entered, pairV, kindV, nodeV}

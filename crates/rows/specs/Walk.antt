@@ -11,7 +11,7 @@ use Rattle.grammar.specs.Image.{start, root, Node, empty, terminal, sequence, c
 use Rattle.grammar.specs.Terminal.{terminalAt}
 use Rattle.records.specs.Slots.{slotOf}
 use Rattle.records.specs.Words.{isHeld, possible, matchedOf, lengthOf}
-use Rattle.reading.specs.Loaded.{wordB, wordNode, rulesIn}
+use Rattle.packrat.specs.Loaded.{wordB, wordNode, rulesIn}
 use Rattle.rows.specs.Rows.{rowWord}
 use Rattle.rows.specs.Window.{touches}
 

@@ -9,7 +9,7 @@ use lib.Seq.{length-take-le}
 use Rattle.grammar.specs.Image.{rules}
 use Rattle.grammar.specs.Questions.{First, Accepted}
 use Rattle.records.specs.Words.{valueOf}
-use Rattle.reading.specs.Session.{StartOver}
+use Rattle.packrat.specs.Session.{StartOver}
 use Rattle.editing.specs.Table.{TableLent, clearedTable}
 use Rattle.ledger.specs.declared.ReadAnswer.{ReadAnswer}
 use Rattle.ledger.specs.Answers.{sheetReading}

@@ -12,8 +12,8 @@ use lib.Seq.{length-take-le}
 use Rattle.grammar.specs.Image.{rules, start, root}
 use Rattle.grammar.specs.Questions.{First, Accepted}
 use Rattle.records.specs.Words.{valueOf}
-use Rattle.reading.specs.Session.{StartOver, startRun}
-use Rattle.reading.proofs.Gives.{Found, found, was-refused, says}
+use Rattle.packrat.specs.Session.{StartOver, startRun}
+use Rattle.packrat.proofs.Gives.{Found, found, was-refused, says}
 use Rattle.rows.specs.Walk.{startV}
 use Rattle.rows.specs.Bounds.{Number, impossible, too-deep, no-slot}
 use Rattle.listing.specs.declared.list.Listed.{Listed}

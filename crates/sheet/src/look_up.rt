@@ -26,5 +26,5 @@ pub fn look_up(
     if n < position {
         return LookUpAnswer::Refused(11);
     }
-    LookUpAnswer::Word(reading::memo::look(table, rules, rule, position))
+    LookUpAnswer::Word(memo::look(table, rules, rule, position))
 }

@@ -1,7 +1,7 @@
 use Rattle.listing.proofs.Passes.{refused, written}
 use Rattle.rows.specs.Walk.{nodeV}
 use Rattle.rows.proofs.Bounds.{node-bounded, pair-bounded}
-use Rattle.reading.specs.Loaded.{rulesIn}
+use Rattle.packrat.specs.Loaded.{rulesIn}
 use lib.ListN.{length}
 use native.Mathlib.Omega.{arith}
 use borrow.Author.Needs.{needs}

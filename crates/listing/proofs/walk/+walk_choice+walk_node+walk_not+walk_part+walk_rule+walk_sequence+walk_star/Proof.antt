@@ -2,9 +2,9 @@
 -- or proofs/Rules. The measure is three times the allowance, a node below a part, a part below the kinds. Assumes nothing.
 use Rattle.listing.proofs.Paths.{sequence-first, sequence-ends, sequence-second-ends, sequence-second, sequence-both, not-stops, not-fails, not-matches, part-found, part-ends, part-missed, part-goes, choice-first, choice-failed, choice-second, Rounds, star-start, star-stops, star-last, star-found, star-still, star-more}
 use Rattle.listing.proofs.Rules.{rule-empty, rule-impossible, rule-failed, rule-in-text, rule-missed, rule-full, rule-stops, rule-goes, node-too-deep, node-goes, empty-goes, unlawful-goes, terminal-goes}
-use Rattle.reading.proofs.Rules.{was-possible, was-impossible, past-7}
-use Rattle.reading.proofs.LoadedRuns.{word-is, word-unlawful}
-use Rattle.reading.specs.Loaded.{rulesIn}
+use Rattle.packrat.proofs.Rules.{was-possible, was-impossible, past-7}
+use Rattle.packrat.proofs.LoadedRuns.{word-is, word-unlawful}
+use Rattle.packrat.specs.Loaded.{rulesIn}
 use Rattle.rows.specs.Walk.{nodeV, pairV, kindV}
 use Rattle.rows.proofs.Bounds.{node-bounded}
 use Rattle.records.specs.Words.{possible, recordOf}
@@ -45,8 +45,8 @@ use Rattle.listing.proofs.bytes.byte_between.Reads as byte-between-read
 use Rattle.listing.proofs.slots.put.Reads as put-reads
 use Rattle.listing.proofs.slots.row_word.Reads as row-word-reads
 use Rattle.listing.proofs.slots.touched.Reads as touched-reads
-use Rattle.reading.proofs.memo.look.Reads as look-reads
-use Rattle.reading.proofs.loaded.rules_in.Reads as rules-in-reads
+use Rattle.memo.proofs.look.Reads as look-reads
+use Rattle.loaded.proofs.rules_in.Reads as rules-in-reads
 use Rattle.records.proofs.Record.from_word.Reads as from-word-reads
 use Rattle.records.proofs.is_held.Reads as is-held-reads
 use Rattle.listing.proofs.walk.+walk_choice+walk_node+walk_not+walk_part+walk_rule+walk_sequence+walk_star.{

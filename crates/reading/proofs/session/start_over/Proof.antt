@@ -1,8 +1,8 @@
 use native.Mathlib.Omega.{arith}
 use mathlib.Core.Path.{_≡_, ap, _∙_}
 use Rattle.grammar.specs.Image.{root, start}
-use Rattle.reading.proofs.LoadedWords.{root-small}
-use Rattle.reading.proofs.LoadedRuns.{start-over-given}
+use Rattle.loaded.proofs.LoadedWords.{root-small}
+use Rattle.packrat.proofs.LoadedRuns.{start-over-given}
 use borrow.Author.Needs.{needs}
 use Rattle.reading.proofs.session.start_over.Statement.{statement}
 use Rattle.reading.proofs.session.start_over.Tie as tie

@@ -1,0 +1,2 @@
+-- The lemma of one more level of nesting.
+pub mod Raised

@@ -1,0 +1,25 @@
+use Rattle.records.specs.Words.{valueOf}
+use borrow.Author.Needs.{needs}
+use Rattle.answers.proofs.first_failed.Statement.{statement}
+use Rattle.answers.proofs.first_failed.Tie as tie
+
+nesting-of-requires : tie.Need-nesting-of-requires
+nesting-of-requires c κs = search needs
+
+add-answer : tie.Need-add-answer
+add-answer c = search needs
+
+examined-of-requires : tie.Need-examined-of-requires
+examined-of-requires c κs = search needs
+
+answer-requires : tie.Need-answer-requires
+answer-requires c κs = search needs
+
+returns : tie.Need-returns
+unfolding valueOf
+returns c = cc
+
+pub first-failed-spec : {M : Type 1} → statement M
+first-failed-spec =
+    tie.close
+    (tie.spec nesting-of-requires add-answer examined-of-requires answer-requires returns)

@@ -1,0 +1,1032 @@
+-- The cycle of the evaluator: each function answers, stores and counts as the model over a loaded grammar does. Each answer is a way of
+-- proofs/Runs, Stars or Rules. The measure is four times the allowance: a word below a node, a node below a rule, a rule below the kinds.
+-- Assumes nothing.
+use Rattle.packrat.proofs.Rules.{was-possible, was-impossible, rule-impossible, rule-too-deep, rule-met, rule-refused, rule-stored, node-too-deep, node-goes, word-goes, call-goes, past-7}
+use Rattle.packrat.proofs.LoadedRuns.{word-is, word-unlawful}
+use Rattle.packrat.proofs.Stars.{Rounds, rounds-start, round-refused, round-still, round-fails, round-goes, round-bounds}
+use Rattle.packrat.proofs.Runs.{not-refused, not-answered, call-refused, call-answered, nesting-allowed, says-itself, length-within}
+use Rattle.packrat.proofs.Runs.{choice-refused, choice-first, choice-second-refused, choice-second}
+use Rattle.packrat.proofs.Runs.{sequence-refused, sequence-failed, sequence-second-refused, joinable, sequence-both}
+use Rattle.packrat.proofs.Gives.{was-refused, gives-value, gives-refusal}
+use Rattle.packrat.specs.Model.{pairM, kindM, roundsM}
+use Rattle.packrat.specs.Loaded.{rulesIn, nodeW}
+use Rattle.records.specs.Words.{wordOf, possible, recordOf, recordWord}
+use Rattle.records.specs.declared.Record.{Record}
+use Rattle.evaluation.proofs.Shape.{empty-within}
+use Rattle.grammar.proofs.Terminals.{shape}
+use Rattle.grammar.specs.Evaluates.{emptyHere}
+use Rattle.grammar.specs.Terminal.{terminalAt}
+use Rattle.grammar.specs.Image.{nodeOfKind, any, range}
+use lib.ListN.{length, getD}
+use mathlib.Core.Path.{_≡_, refl, sym, ap, _∙_}
+use borrow.Author.Tests.{not-true, not-false}
+use native.Mathlib.Omega.{arith}
+use Prim.Native.Nat.{ℕ, suc, _+_, _*_, _-_, _<_}
+use borrow.Author.Needs.{needs}
+use borrow.Fn.Kinds.{In}
+use borrow.Fn.PlainCycle.{Measures, is, falls, and}
+use Rattle.evaluator.proofs.eval_call.Reads as eval-call
+use Rattle.evaluator.proofs.eval_call.Kinds as eval-call-kinds
+use Rattle.evaluator.proofs.+eval_call+eval_choice+eval_node+eval_not+eval_rule+eval_sequence+eval_star+eval_word.Lts-eval_call as eval-call-lts
+use Rattle.evaluator.proofs.eval_choice.Reads as eval-choice
+use Rattle.evaluator.proofs.eval_choice.Kinds as eval-choice-kinds
+use Rattle.evaluator.proofs.+eval_call+eval_choice+eval_node+eval_not+eval_rule+eval_sequence+eval_star+eval_word.Lts-eval_choice as eval-choice-lts
+use Rattle.evaluator.proofs.eval_node.Reads as eval-node
+use Rattle.evaluator.proofs.eval_node.Kinds as eval-node-kinds
+use Rattle.evaluator.proofs.+eval_call+eval_choice+eval_node+eval_not+eval_rule+eval_sequence+eval_star+eval_word.Lts-eval_node as eval-node-lts
+use Rattle.evaluator.proofs.eval_not.Reads as eval-not
+use Rattle.evaluator.proofs.eval_not.Kinds as eval-not-kinds
+use Rattle.evaluator.proofs.+eval_call+eval_choice+eval_node+eval_not+eval_rule+eval_sequence+eval_star+eval_word.Lts-eval_not as eval-not-lts
+use Rattle.evaluator.proofs.eval_rule.Reads as eval-rule
+use Rattle.evaluator.proofs.eval_rule.Kinds as eval-rule-kinds
+use Rattle.evaluator.proofs.+eval_call+eval_choice+eval_node+eval_not+eval_rule+eval_sequence+eval_star+eval_word.Lts-eval_rule as eval-rule-lts
+use Rattle.evaluator.proofs.eval_sequence.Reads as eval-sequence
+use Rattle.evaluator.proofs.eval_sequence.Kinds as eval-sequence-kinds
+use Rattle.evaluator.proofs.+eval_call+eval_choice+eval_node+eval_not+eval_rule+eval_sequence+eval_star+eval_word.Lts-eval_sequence as eval-sequence-lts
+use Rattle.evaluator.proofs.eval_star.Reads as eval-star
+use Rattle.evaluator.proofs.eval_star.Kinds as eval-star-kinds
+use Rattle.evaluator.proofs.+eval_call+eval_choice+eval_node+eval_not+eval_rule+eval_sequence+eval_star+eval_word.Lts-eval_star as eval-star-lts
+use Rattle.evaluator.proofs.eval_word.Reads as eval-word
+use Rattle.evaluator.proofs.eval_word.Kinds as eval-word-kinds
+use Rattle.evaluator.proofs.+eval_call+eval_choice+eval_node+eval_not+eval_rule+eval_sequence+eval_star+eval_word.Lts-eval_word as eval-word-lts
+use Rattle.image.proofs.node_of.Reads as node-of-reads
+use Rattle.answers.proofs.answer.Reads as answer-reads
+use Rattle.answers.proofs.first_failed.Reads as first-failed-reads
+use Rattle.answers.proofs.in_sequence.Reads as in-sequence-reads
+use Rattle.answers.proofs.larger.Reads as larger-reads
+use Rattle.answers.proofs.negated_answer.Reads as negated-answer-reads
+use Rattle.answers.proofs.second_choice.Reads as second-choice-reads
+use Rattle.answers.proofs.taken_over.Reads as taken-over-reads
+use Rattle.loaded.proofs.rules_in.Reads as rules-in-reads
+use Rattle.memo.proofs.look.Reads as look-reads
+use Rattle.memo.proofs.put.Reads as put-reads
+use Rattle.terminals.proofs.any_byte.Reads as any-byte-reads
+use Rattle.terminals.proofs.byte_between.Reads as byte-between-reads
+use Rattle.records.proofs.Record.from_word.Reads as from-word-reads
+use Rattle.records.proofs.Record.word.Reads as word-reads
+use Rattle.records.proofs.examined_of.Reads as examined-of-reads
+use Rattle.records.proofs.is_held.Reads as is-held-reads
+use Rattle.records.proofs.length_of.Reads as length-of-reads
+use Rattle.records.proofs.matched_of.Reads as matched-of-reads
+use Rattle.records.proofs.nesting_of.Reads as nesting-of-reads
+use Rattle.std.proofs.num.wrapping_add_u64.Reads as wrapping-add-u64-reads
+use Rattle.evaluator.proofs.+eval_call+eval_choice+eval_node+eval_not+eval_rule+eval_sequence+eval_star+eval_word.{
+  statement,
+}
+use Rattle.evaluator.proofs.+eval_call+eval_choice+eval_node+eval_not+eval_rule+eval_sequence+eval_star+eval_word.Tie.{
+  close,
+}
+
+abbrev μ-eval-call : Measures 5 eval-call-kinds.ps ℕ
+μ-eval-call κs a =
+    4 * (a .1 .1 .1 .1 .1 .1 .1 .0) + 3
+
+abbrev μ-eval-choice : Measures 5 eval-choice-kinds.ps ℕ
+μ-eval-choice κs a =
+    4 * (a .1 .1 .1 .1 .1 .1 .1 .0) + 3
+
+abbrev μ-eval-node : Measures 5 eval-node-kinds.ps ℕ
+μ-eval-node κs a =
+    4 * (a .1 .1 .1 .1 .1 .1 .0) + 1
+
+abbrev μ-eval-not : Measures 5 eval-not-kinds.ps ℕ
+μ-eval-not κs a =
+    4 * (a .1 .1 .1 .1 .1 .1 .0) + 3
+
+abbrev μ-eval-rule : Measures 5 eval-rule-kinds.ps ℕ
+μ-eval-rule κs a =
+    4 * (a .1 .1 .1 .1 .1 .1 .1 .0) + 2
+
+abbrev μ-eval-sequence : Measures 5 eval-sequence-kinds.ps ℕ
+μ-eval-sequence κs a =
+    4 * (a .1 .1 .1 .1 .1 .1 .1 .0) + 3
+
+abbrev μ-eval-star : Measures 5 eval-star-kinds.ps ℕ
+μ-eval-star κs a =
+    4 * (a .1 .1 .1 .1 .1 .1 .0) + 3
+
+abbrev μ-eval-word : Measures 5 eval-word-kinds.ps ℕ
+μ-eval-word κs a =
+    4 * (a .1 .1 .1 .1 .1 .1 .0) + 0
+
+abbrev eval-call-at : ℕ → In 5 eval-call-kinds.ps
+eval-call-at t = and 5 eval-call-kinds.ps (is 5 eval-call-kinds.ps μ-eval-call t) eval-call.Pre
+
+abbrev eval-call-below : ℕ → In 5 eval-call-kinds.ps
+eval-call-below t =
+    and 5 eval-call-kinds.ps (falls 5 eval-call-kinds.ps _<_ μ-eval-call t) eval-call.Pre
+
+abbrev eval-choice-at : ℕ → In 5 eval-choice-kinds.ps
+eval-choice-at t =
+    and 5 eval-choice-kinds.ps (is 5 eval-choice-kinds.ps μ-eval-choice t) eval-choice.Pre
+
+abbrev eval-choice-below : ℕ → In 5 eval-choice-kinds.ps
+eval-choice-below t =
+    and 5 eval-choice-kinds.ps (falls 5 eval-choice-kinds.ps _<_ μ-eval-choice t) eval-choice.Pre
+
+abbrev eval-node-at : ℕ → In 5 eval-node-kinds.ps
+eval-node-at t = and 5 eval-node-kinds.ps (is 5 eval-node-kinds.ps μ-eval-node t) eval-node.Pre
+
+abbrev eval-node-below : ℕ → In 5 eval-node-kinds.ps
+eval-node-below t =
+    and 5 eval-node-kinds.ps (falls 5 eval-node-kinds.ps _<_ μ-eval-node t) eval-node.Pre
+
+abbrev eval-not-at : ℕ → In 5 eval-not-kinds.ps
+eval-not-at t = and 5 eval-not-kinds.ps (is 5 eval-not-kinds.ps μ-eval-not t) eval-not.Pre
+
+abbrev eval-not-below : ℕ → In 5 eval-not-kinds.ps
+eval-not-below t =
+    and 5 eval-not-kinds.ps (falls 5 eval-not-kinds.ps _<_ μ-eval-not t) eval-not.Pre
+
+abbrev eval-rule-at : ℕ → In 5 eval-rule-kinds.ps
+eval-rule-at t = and 5 eval-rule-kinds.ps (is 5 eval-rule-kinds.ps μ-eval-rule t) eval-rule.Pre
+
+abbrev eval-rule-below : ℕ → In 5 eval-rule-kinds.ps
+eval-rule-below t =
+    and 5 eval-rule-kinds.ps (falls 5 eval-rule-kinds.ps _<_ μ-eval-rule t) eval-rule.Pre
+
+abbrev eval-sequence-at : ℕ → In 5 eval-sequence-kinds.ps
+eval-sequence-at t =
+    and 5 eval-sequence-kinds.ps (is 5 eval-sequence-kinds.ps μ-eval-sequence t) eval-sequence.Pre
+
+abbrev eval-sequence-below : ℕ → In 5 eval-sequence-kinds.ps
+eval-sequence-below t =
+    and
+    5
+    eval-sequence-kinds.ps
+    (falls 5 eval-sequence-kinds.ps _<_ μ-eval-sequence t)
+    eval-sequence.Pre
+
+abbrev eval-star-at : ℕ → In 5 eval-star-kinds.ps
+eval-star-at t = and 5 eval-star-kinds.ps (is 5 eval-star-kinds.ps μ-eval-star t) eval-star.Pre
+
+abbrev eval-star-below : ℕ → In 5 eval-star-kinds.ps
+eval-star-below t =
+    and 5 eval-star-kinds.ps (falls 5 eval-star-kinds.ps _<_ μ-eval-star t) eval-star.Pre
+
+abbrev eval-word-at : ℕ → In 5 eval-word-kinds.ps
+eval-word-at t = and 5 eval-word-kinds.ps (is 5 eval-word-kinds.ps μ-eval-word t) eval-word.Pre
+
+abbrev eval-word-below : ℕ → In 5 eval-word-kinds.ps
+eval-word-below t =
+    and 5 eval-word-kinds.ps (falls 5 eval-word-kinds.ps _<_ μ-eval-word t) eval-word.Pre
+
+abbrev eval-call-claims : ℕ → eval-call-lts.Claims
+eval-call-claims t = (eval-rule-below t, eval-rule.Post, taken-over-reads.Asked, taken-over-reads.Learnt)
+
+abbrev eval-choice-claims : ℕ → eval-choice-lts.Claims
+eval-choice-claims t = (eval-node-below t, eval-node.Post, matched-of-reads.Asked, matched-of-reads.Learnt, taken-over-reads.Asked, taken-over-reads.Learnt, second-choice-reads.Asked, second-choice-reads.Learnt)
+
+abbrev eval-node-claims : ℕ → eval-node-lts.Claims
+eval-node-claims t = (node-of-reads.Asked, node-of-reads.Learnt, byte-between-reads.Asked, byte-between-reads.Learnt, eval-word-below t, eval-word.Post)
+
+abbrev eval-not-claims : ℕ → eval-not-lts.Claims
+eval-not-claims t = (eval-node-below t, eval-node.Post, negated-answer-reads.Asked, negated-answer-reads.Learnt)
+
+abbrev eval-rule-claims : ℕ → eval-rule-lts.Claims
+eval-rule-claims t = (rules-in-reads.Asked, rules-in-reads.Learnt, look-reads.Asked, look-reads.Learnt, is-held-reads.Asked, is-held-reads.Learnt, from-word-reads.Asked, from-word-reads.Learnt, word-reads.Asked, word-reads.Learnt, eval-node-below t, eval-node.Post, put-reads.Asked, put-reads.Learnt, wrapping-add-u64-reads.Asked, wrapping-add-u64-reads.Learnt)
+
+abbrev eval-sequence-claims : ℕ → eval-sequence-lts.Claims
+eval-sequence-claims t = (eval-node-below t, eval-node.Post, matched-of-reads.Asked, matched-of-reads.Learnt, first-failed-reads.Asked, first-failed-reads.Learnt, length-of-reads.Asked, length-of-reads.Learnt, in-sequence-reads.Asked, in-sequence-reads.Learnt)
+
+abbrev eval-star-claims : ℕ → eval-star-lts.Claims
+eval-star-claims t = (eval-node-below t, eval-node.Post, examined-of-reads.Asked, examined-of-reads.Learnt, larger-reads.Asked, larger-reads.Learnt, nesting-of-reads.Asked, nesting-of-reads.Learnt, matched-of-reads.Asked, matched-of-reads.Learnt, answer-reads.Asked, answer-reads.Learnt, length-of-reads.Asked, length-of-reads.Learnt)
+
+abbrev eval-word-claims : ℕ → eval-word-lts.Claims
+eval-word-claims t = (node-of-reads.Asked, node-of-reads.Learnt, any-byte-reads.Asked, any-byte-reads.Learnt, byte-between-reads.Asked, byte-between-reads.Learnt, eval-sequence-below t, eval-sequence.Post, eval-choice-below t, eval-choice.Post, eval-star-below t, eval-star.Post, eval-not-below t, eval-not.Post, eval-call-below t, eval-call.Post)
+
+eval-call-eval-rule-requires : (t : ℕ) → eval-call-lts.Need-eval-rule-requires (eval-call-claims t) (eval-call-at t) eval-call.Post
+eval-call-eval-rule-requires t c κs =
+    let pre = c .before .before .before .pre in
+    (omega (arith, pre .0), (record { short = pre .1 .0 .short; here = pre .1 .0 .here; most = omega (arith, pre .1 .0 .most) }, pre .1 .1, pre .1 .2))
+
+eval-call-same-length : (t : ℕ) → eval-call-lts.Need-same-length (eval-call-claims t) (eval-call-at t) eval-call.Post
+eval-call-same-length t c = search needs
+
+eval-call-returns : (t : ℕ) → eval-call-lts.Need-returns (eval-call-claims t) (eval-call-at t) eval-call.Post
+eval-call-returns t c =
+    let a = c .before .before .before .before .before .before .before .args in
+    let pre = c .before .before .before .before .before .before .before .pre in
+    call-refused (a .text .now .now) (nodeW (a .words .now) (a .text .now .now) (a .left)) (pairM (rulesIn (a .words .now)) (a .root) (a .text .now .now) (nodeW (a .words .now) (a .text .now .now) (a .left)) (a .left)) (a .table .now) (a .count .now) (pre .1 .0 .short) (pre .1 .0 .most) (a .rule) (c .before .before .before .eval-rule .ensures) (c .if1 .taken)
+
+eval-call-taken-over-requires : (t : ℕ) → eval-call-lts.Need-taken-over-requires (eval-call-claims t) (eval-call-at t) eval-call.Post
+eval-call-taken-over-requires t c κs =
+    let pre = c .before .before .before .before .before .before .before .pre in
+    let x = c .before .before .before .eval-rule in
+    (says-itself (pre .1 .0 .short) (omega (arith, pre .1 .0 .most)) (x .ensures) (c .if1 .left), omega (arith, nesting-allowed (pre .1 .0 .short) (omega (arith, pre .1 .0 .most)) (x .ensures) (c .if1 .left), pre .1 .0 .most))
+
+eval-call-same-length-2 : (t : ℕ) → eval-call-lts.Need-same-length-2 (eval-call-claims t) (eval-call-at t) eval-call.Post
+eval-call-same-length-2 t c = search needs
+
+eval-call-returns-2 : (t : ℕ) → eval-call-lts.Need-returns-2 (eval-call-claims t) (eval-call-at t) eval-call.Post
+eval-call-returns-2 t c =
+    let a = c .before .before .before .before .before .before .before .before .args in
+    let pre = c .before .before .before .before .before .before .before .before .pre in
+    let x = c .before .before .before .before .eval-rule in
+    call-answered (a .text .now .now) (nodeW (a .words .now) (a .text .now .now) (a .left)) (pairM (rulesIn (a .words .now)) (a .root) (a .text .now .now) (nodeW (a .words .now) (a .text .now .now) (a .left)) (a .left)) (a .table .now) (a .count .now) (pre .1 .0 .short) (pre .1 .0 .most) (a .rule) (x .ensures) (c .before .if1 .left) (c .taken-over .ensures)
+
+eval-choice-eval-node-requires : (t : ℕ) → eval-choice-lts.Need-eval-node-requires (eval-choice-claims t) (eval-choice-at t) eval-choice.Post
+eval-choice-eval-node-requires t c κs =
+    let pre = c .before .before .before .pre in
+    (omega (arith, pre .0), (record { short = pre .1 .0 .short; here = pre .1 .0 .here; most = omega (arith, pre .1 .0 .most) }, pre .1 .1))
+
+eval-choice-same-length : (t : ℕ) → eval-choice-lts.Need-same-length (eval-choice-claims t) (eval-choice-at t) eval-choice.Post
+eval-choice-same-length t c = search needs
+
+eval-choice-returns : (t : ℕ) → eval-choice-lts.Need-returns (eval-choice-claims t) (eval-choice-at t) eval-choice.Post
+eval-choice-returns t c =
+    let a = c .before .before .before .before .before .before .before .args in
+    let pre = c .before .before .before .before .before .before .before .pre in
+    choice-refused (a .text .now .now) (nodeW (a .words .now) (a .text .now .now) (a .left)) (pairM (rulesIn (a .words .now)) (a .b) (a .text .now .now) (nodeW (a .words .now) (a .text .now .now) (a .left)) (a .left)) (a .table .now) (a .count .now) (pre .1 .0 .short) (pre .1 .0 .most) (a .a) (a .b) (c .before .before .before .eval-node .ensures) (c .if1 .taken)
+
+eval-choice-matched-of-requires : (t : ℕ) → eval-choice-lts.Need-matched-of-requires (eval-choice-claims t) (eval-choice-at t) eval-choice.Post
+eval-choice-matched-of-requires t c κs = search needs
+
+eval-choice-taken-over-requires : (t : ℕ) → eval-choice-lts.Need-taken-over-requires (eval-choice-claims t) (eval-choice-at t) eval-choice.Post
+eval-choice-taken-over-requires t c κs =
+    let pre = c .before .before .before .before .before .before .before .before .before .pre in
+    let x = c .before .before .before .before .before .eval-node in
+    let if1 = c .before .before .if1 in
+    (says-itself (pre .1 .0 .short) (omega (arith, pre .1 .0 .most)) (x .ensures) (if1 .left), omega (arith, nesting-allowed (pre .1 .0 .short) (omega (arith, pre .1 .0 .most)) (x .ensures) (if1 .left), pre .1 .0 .most))
+
+eval-choice-same-length-2 : (t : ℕ) → eval-choice-lts.Need-same-length-2 (eval-choice-claims t) (eval-choice-at t) eval-choice.Post
+eval-choice-same-length-2 t c = search needs
+
+eval-choice-returns-2 : (t : ℕ) → eval-choice-lts.Need-returns-2 (eval-choice-claims t) (eval-choice-at t) eval-choice.Post
+eval-choice-returns-2 t c =
+    let a = c .before .before .before .before .before .before .before .before .before .before .args in
+    let pre = c .before .before .before .before .before .before .before .before .before .before .pre in
+    let x = c .before .before .before .before .before .before .eval-node in
+    choice-first (a .text .now .now) (nodeW (a .words .now) (a .text .now .now) (a .left)) (pairM (rulesIn (a .words .now)) (a .b) (a .text .now .now) (nodeW (a .words .now) (a .text .now .now) (a .left)) (a .left)) (a .table .now) (a .count .now) (pre .1 .0 .short) (pre .1 .0 .most) (a .a) (a .b) (x .ensures) (c .before .before .before .if1 .left) (sym (c .before .before .matched-of .ensures) ∙ c .before .if2 .taken) (c .taken-over .ensures)
+
+eval-choice-eval-node-requires-2 : (t : ℕ) → eval-choice-lts.Need-eval-node-requires-2 (eval-choice-claims t) (eval-choice-at t) eval-choice.Post
+eval-choice-eval-node-requires-2 t c κs =
+    let pre = c .before .before .before .before .before .before .before .before .before .before .before .pre in
+    (omega (arith, pre .0), (record { short = pre .1 .0 .short; here = pre .1 .0 .here; most = omega (arith, pre .1 .0 .most) }, pre .1 .2))
+
+eval-choice-same-length-3 : (t : ℕ) → eval-choice-lts.Need-same-length-3 (eval-choice-claims t) (eval-choice-at t) eval-choice.Post
+eval-choice-same-length-3 t c = search needs
+
+eval-choice-returns-3 : (t : ℕ) → eval-choice-lts.Need-returns-3 (eval-choice-claims t) (eval-choice-at t) eval-choice.Post
+eval-choice-returns-3 t c =
+    let a = c .before .before .before .before .before .before .before .before .before .before .before .before .before .before .before .args in
+    let pre = c .before .before .before .before .before .before .before .before .before .before .before .before .before .before .before .pre in
+    let x = c .before .before .before .before .before .before .before .before .before .before .before .eval-node in
+    let if1 = c .before .before .before .before .before .before .before .before .if1 in
+    let matched-of = c .before .before .before .before .before .before .before .matched-of in
+    let if2 = c .before .before .before .before .before .before .if2 in
+    choice-second-refused (a .text .now .now) (nodeW (a .words .now) (a .text .now .now) (a .left)) (pairM (rulesIn (a .words .now)) (a .b) (a .text .now .now) (nodeW (a .words .now) (a .text .now .now) (a .left)) (a .left)) (a .table .now) (a .count .now) (pre .1 .0 .short) (pre .1 .0 .most) (a .a) (a .b) (x .ensures) (if1 .left) (sym (matched-of .ensures) ∙ if2 .left) (c .before .before .before .eval-node2 .ensures) (c .if3 .taken)
+
+eval-choice-second-choice-requires : (t : ℕ) → eval-choice-lts.Need-second-choice-requires (eval-choice-claims t) (eval-choice-at t) eval-choice.Post
+eval-choice-second-choice-requires t c κs =
+    let pre = c .before .before .before .before .before .before .before .before .before .before .before .before .before .before .before .pre in
+    let x = c .before .before .before .before .before .before .before .before .before .before .before .eval-node in
+    let if1 = c .before .before .before .before .before .before .before .before .if1 in
+    (omega (arith, nesting-allowed (pre .1 .0 .short) (omega (arith, pre .1 .0 .most)) (x .ensures) (if1 .left), pre .1 .0 .most), omega (arith, nesting-allowed (pre .1 .0 .short) (omega (arith, pre .1 .0 .most)) (c .before .before .before .eval-node2 .ensures) (c .if3 .left), pre .1 .0 .most))
+
+eval-choice-same-length-4 : (t : ℕ) → eval-choice-lts.Need-same-length-4 (eval-choice-claims t) (eval-choice-at t) eval-choice.Post
+eval-choice-same-length-4 t c = search needs
+
+eval-choice-returns-4 : (t : ℕ) → eval-choice-lts.Need-returns-4 (eval-choice-claims t) (eval-choice-at t) eval-choice.Post
+eval-choice-returns-4 t c =
+    let a = c .before .before .before .before .before .before .before .before .before .before .before .before .before .before .before .before .args in
+    let pre = c .before .before .before .before .before .before .before .before .before .before .before .before .before .before .before .before .pre in
+    let x = c .before .before .before .before .before .before .before .before .before .before .before .before .eval-node in
+    let if1 = c .before .before .before .before .before .before .before .before .before .if1 in
+    let matched-of = c .before .before .before .before .before .before .before .before .matched-of in
+    let if2 = c .before .before .before .before .before .before .before .if2 in
+    let y = c .before .before .before .before .eval-node2 in
+    choice-second (a .text .now .now) (nodeW (a .words .now) (a .text .now .now) (a .left)) (pairM (rulesIn (a .words .now)) (a .b) (a .text .now .now) (nodeW (a .words .now) (a .text .now .now) (a .left)) (a .left)) (a .table .now) (a .count .now) (pre .1 .0 .short) (pre .1 .0 .most) (a .a) (a .b) (x .ensures) (if1 .left) (sym (matched-of .ensures) ∙ if2 .left) (y .ensures) (c .before .if3 .left) (c .second-choice .ensures)
+
+eval-node-returns : (t : ℕ) → eval-node-lts.Need-returns (eval-node-claims t) (eval-node-at t) eval-node.Post
+eval-node-returns t c =
+    let a = c .before .before .args in
+    node-too-deep (a .words .now) (a .text .now .now) (a .left) (a .node) (a .at) (a .table .now) (a .count .now) (c .if1 .taken)
+
+eval-node-mul-word : (t : ℕ) → eval-node-lts.Need-mul-word (eval-node-claims t) (eval-node-at t) eval-node.Post
+eval-node-mul-word t c =
+    omega (arith, c .before .before .pre .1 .1)
+
+eval-node-element-copy-out-word : (t : ℕ) → eval-node-lts.Need-element-copy-out-word (eval-node-claims t) (eval-node-at t) eval-node.Post
+eval-node-element-copy-out-word t c =
+    omega (arith, c .before .before .pre .1 .1)
+
+eval-node-node-of-requires : (t : ℕ) → eval-node-lts.Need-node-of-requires (eval-node-claims t) (eval-node-at t) eval-node.Post
+eval-node-node-of-requires t c κs = search needs
+
+eval-node-byte-between-requires : (t : ℕ) → eval-node-lts.Need-byte-between-requires (eval-node-claims t) (eval-node-at t) eval-node.Post
+eval-node-byte-between-requires t c κs = search needs
+
+eval-node-returns-2 : (t : ℕ) → eval-node-lts.Need-returns-2 (eval-node-claims t) (eval-node-at t) eval-node.Post
+unfolding kindM nodeOfKind
+eval-node-returns-2 t c =
+    let a = c .before .before .before .before .before .before .before .before .args in
+    let pre = c .before .before .before .before .before .before .before .before .pre in
+    let if1 = c .before .before .before .before .before .before .if1 in
+    let node-of = c .before .before .before .before .node-of in
+    let s = shape (range (node-of .result .a) (node-of .result .b)) (a .text .now .now) (a .at) (pre .1 .0 .here) in
+    node-goes (a .words .now) (a .text .now .now) (a .left) (a .node) (a .at) (a .table .now) (a .count .now) (if1 .left) (word-goes (a .words .now) (a .text .now .now) (a .left) (getD (a .words .now) (a .node) 0) (a .at) (a .table .now) (a .count .now) (if1 .left) (word-is (getD (a .words .now) (a .node) 0) (node-of .ensures) {k = 2} (c .before .before .if2 .taken))
+    (gives-value (terminalAt (range (node-of .result .a) (node-of .result .b)) (a .text .now .now) (a .at)) refl (c .byte-between .ensures)
+    (record { in-text = s .in-text; up-to-end = s .up-to-end; in-examined = s .in-examined; failure = s .failure; nested = omega (arith, s .flat) })
+    (omega (arith, s .flat))))
+
+eval-node-eval-word-requires : (t : ℕ) → eval-node-lts.Need-eval-word-requires (eval-node-claims t) (eval-node-at t) eval-node.Post
+eval-node-eval-word-requires t c κs =
+    let pre = c .before .before .before .before .before .before .before .before .pre in
+    let if1 = c .before .before .before .before .before .before .if1 in
+    (omega (arith, pre .0), (pre .1 .0, let ne = if1 .left in omega (arith, ne)))
+
+eval-node-same-length : (t : ℕ) → eval-node-lts.Need-same-length (eval-node-claims t) (eval-node-at t) eval-node.Post
+eval-node-same-length t c = search needs
+
+eval-node-returns-3 : (t : ℕ) → eval-node-lts.Need-returns-3 (eval-node-claims t) (eval-node-at t) eval-node.Post
+eval-node-returns-3 t c =
+    let a = c .before .before .before .before .before .before .before .before .before .before .before .args in
+    let if1 = c .before .before .before .before .before .before .before .before .before .if1 in
+    node-goes (a .words .now) (a .text .now .now) (a .left) (a .node) (a .at) (a .table .now) (a .count .now) (if1 .left) (c .before .before .eval-word .ensures)
+
+eval-not-eval-node-requires : (t : ℕ) → eval-not-lts.Need-eval-node-requires (eval-not-claims t) (eval-not-at t) eval-not.Post
+eval-not-eval-node-requires t c κs =
+    let pre = c .before .before .before .pre in
+    (omega (arith, pre .0), (record { short = pre .1 .0 .short; here = pre .1 .0 .here; most = omega (arith, pre .1 .0 .most) }, pre .1 .1))
+
+eval-not-same-length : (t : ℕ) → eval-not-lts.Need-same-length (eval-not-claims t) (eval-not-at t) eval-not.Post
+eval-not-same-length t c = search needs
+
+eval-not-returns : (t : ℕ) → eval-not-lts.Need-returns (eval-not-claims t) (eval-not-at t) eval-not.Post
+eval-not-returns t c =
+    let a = c .before .before .before .before .before .before .before .args in
+    let pre = c .before .before .before .before .before .before .before .pre in
+    not-refused (a .text .now .now) (nodeW (a .words .now) (a .text .now .now) (a .left)) (pairM (rulesIn (a .words .now)) 0 (a .text .now .now) (nodeW (a .words .now) (a .text .now .now) (a .left)) (a .left)) (a .table .now) (a .count .now) (pre .1 .0 .short) (pre .1 .0 .most) (a .a) (c .before .before .before .eval-node .ensures) (c .if1 .taken)
+
+eval-not-negated-answer-requires : (t : ℕ) → eval-not-lts.Need-negated-answer-requires (eval-not-claims t) (eval-not-at t) eval-not.Post
+eval-not-negated-answer-requires t c κs =
+    let pre = c .before .before .before .before .before .before .before .pre in
+    omega (arith, nesting-allowed (pre .1 .0 .short) (omega (arith, pre .1 .0 .most)) (c .before .before .before .eval-node .ensures) (c .if1 .left), pre .1 .0 .most)
+
+eval-not-same-length-2 : (t : ℕ) → eval-not-lts.Need-same-length-2 (eval-not-claims t) (eval-not-at t) eval-not.Post
+eval-not-same-length-2 t c = search needs
+
+eval-not-returns-2 : (t : ℕ) → eval-not-lts.Need-returns-2 (eval-not-claims t) (eval-not-at t) eval-not.Post
+eval-not-returns-2 t c =
+    let a = c .before .before .before .before .before .before .before .before .args in
+    let pre = c .before .before .before .before .before .before .before .before .pre in
+    let x = c .before .before .before .before .eval-node in
+    not-answered (a .text .now .now) (nodeW (a .words .now) (a .text .now .now) (a .left)) (pairM (rulesIn (a .words .now)) 0 (a .text .now .now) (nodeW (a .words .now) (a .text .now .now) (a .left)) (a .left)) (a .table .now) (a .count .now) (pre .1 .0 .short) (pre .1 .0 .most) (a .a) (x .ensures) (c .before .if1 .left) (c .negated-answer .ensures)
+
+eval-rule-rules-in-requires : (t : ℕ) → eval-rule-lts.Need-rules-in-requires (eval-rule-claims t) (eval-rule-at t) eval-rule.Post
+eval-rule-rules-in-requires t c κs = search needs
+
+eval-rule-look-requires : (t : ℕ) → eval-rule-lts.Need-look-requires (eval-rule-claims t) (eval-rule-at t) eval-rule.Post
+eval-rule-look-requires t c κs = search needs
+
+eval-rule-is-held-requires : (t : ℕ) → eval-rule-lts.Need-is-held-requires (eval-rule-claims t) (eval-rule-at t) eval-rule.Post
+eval-rule-is-held-requires t c κs = search needs
+
+eval-rule-from-word-requires : (t : ℕ) → eval-rule-lts.Need-from-word-requires (eval-rule-claims t) (eval-rule-at t) eval-rule.Post
+eval-rule-from-word-requires t c κs = search needs
+
+eval-rule-enum-known-held : (t : ℕ) → eval-rule-lts.Need-enum-known-held (eval-rule-claims t) (eval-rule-at t) eval-rule.Post
+eval-rule-enum-known-held t c = search needs
+
+eval-rule-enum-told : (t : ℕ) → eval-rule-lts.Need-enum-told (eval-rule-claims t) (eval-rule-at t) eval-rule.Post
+eval-rule-enum-told t c = search needs
+
+eval-rule-same-length : (t : ℕ) → eval-rule-lts.Need-same-length (eval-rule-claims t) (eval-rule-at t) eval-rule.Post
+eval-rule-same-length t c = search needs
+
+eval-rule-returns : (t : ℕ) → eval-rule-lts.Need-returns (eval-rule-claims t) (eval-rule-at t) eval-rule.Post
+eval-rule-returns t c =
+    let a = c .before .before .before .before .before .before .before .before .before .args in
+    let rules-in = c .before .before .before .before .before .before .before .rules-in in
+    let look = c .before .before .before .before .before .look in
+    let is-held = c .before .before .before .before .is-held in
+    rule-impossible (rulesIn (a .words .now)) (a .root) (a .text .now .now) (nodeW (a .words .now) (a .text .now .now) (a .left)) (a .left) (a .rule) (a .at) (a .table .now) (a .count .now) (rw (rules-in .ensures .0) at (look .ensures)) (sym (is-held .ensures) ∙ c .before .before .before .if1 .taken) (was-impossible (recordOf (look .result)) (possible (look .result) (a .at) (length (a .text .now .now))) (sym (c .enum-told .given .1) ∙ c .before .before .from-word .ensures))
+
+eval-rule-same-length-2 : (t : ℕ) → eval-rule-lts.Need-same-length-2 (eval-rule-claims t) (eval-rule-at t) eval-rule.Post
+eval-rule-same-length-2 t c = search needs
+
+eval-rule-returns-2 : (t : ℕ) → eval-rule-lts.Need-returns-2 (eval-rule-claims t) (eval-rule-at t) eval-rule.Post
+eval-rule-returns-2 t c =
+    let a = c .before .before .before .before .before .before .before .before .before .before .before .before .args in
+    let rules-in = c .before .before .before .before .before .before .before .before .before .before .rules-in in
+    let look = c .before .before .before .before .before .before .before .before .look in
+    let is-held = c .before .before .before .before .before .before .before .is-held in
+    let if1 = c .before .before .before .before .before .before .if1 in
+    let from-word = c .before .before .before .before .before .from-word in
+    let held = c .before .before .before .held in
+    let w = was-possible (held .given .0 .0) (recordOf (look .result)) (possible (look .result) (a .at) (length (a .text .now .now))) (sym (held .given .1) ∙ from-word .ensures) in
+    let e = ap (λ (r : Record). r .nesting) (w .1) in
+    rule-too-deep (rulesIn (a .words .now)) (a .root) (a .text .now .now) (nodeW (a .words .now) (a .text .now .now) (a .left)) (a .left) (a .rule) (a .at) (a .table .now) (a .count .now) (rw (rules-in .ensures .0) at (look .ensures)) (sym (is-held .ensures) ∙ if1 .taken) (w .0) (omega (arith, e, c .if2 .taken))
+
+eval-rule-word-requires : (t : ℕ) → eval-rule-lts.Need-word-requires (eval-rule-claims t) (eval-rule-at t) eval-rule.Post
+eval-rule-word-requires t c κs = search needs
+
+eval-rule-same-length-3 : (t : ℕ) → eval-rule-lts.Need-same-length-3 (eval-rule-claims t) (eval-rule-at t) eval-rule.Post
+eval-rule-same-length-3 t c = search needs
+
+eval-rule-returns-3 : (t : ℕ) → eval-rule-lts.Need-returns-3 (eval-rule-claims t) (eval-rule-at t) eval-rule.Post
+eval-rule-returns-3 t c =
+    let a = c .before .before .before .before .before .before .before .before .before .before .before .before .before .args in
+    let rules-in = c .before .before .before .before .before .before .before .before .before .before .before .rules-in in
+    let look = c .before .before .before .before .before .before .before .before .before .look in
+    let is-held = c .before .before .before .before .before .before .before .before .is-held in
+    let if1 = c .before .before .before .before .before .before .before .if1 in
+    let from-word = c .before .before .before .before .before .before .from-word in
+    let held = c .before .before .before .before .held in
+    let w = was-possible (held .given .0 .0) (recordOf (look .result)) (possible (look .result) (a .at) (length (a .text .now .now))) (sym (held .given .1) ∙ from-word .ensures) in
+    let e = ap (λ (r : Record). r .nesting) (w .1) in
+    rule-met (rulesIn (a .words .now)) (a .root) (a .text .now .now) (nodeW (a .words .now) (a .text .now .now) (a .left)) (a .left) (a .rule) (a .at) (a .table .now) (a .count .now) (rw (rules-in .ensures .0) at (look .ensures)) (sym (is-held .ensures) ∙ if1 .taken) (w .0) (omega (arith, e, c .before .if2 .left)) (c .word .ensures ∙ ap recordWord (w .1))
+
+eval-rule-eval-node-requires : (t : ℕ) → eval-rule-lts.Need-eval-node-requires (eval-rule-claims t) (eval-rule-at t) eval-rule.Post
+eval-rule-eval-node-requires t c κs =
+    let pre = c .before .before .before .before .before .before .before .before .pre in
+    (omega (arith, pre .0), (pre .1 .0, pre .1 .2))
+
+eval-rule-same-length-4 : (t : ℕ) → eval-rule-lts.Need-same-length-4 (eval-rule-claims t) (eval-rule-at t) eval-rule.Post
+eval-rule-same-length-4 t c = search needs
+
+eval-rule-returns-4 : (t : ℕ) → eval-rule-lts.Need-returns-4 (eval-rule-claims t) (eval-rule-at t) eval-rule.Post
+eval-rule-returns-4 t c =
+    let a = c .before .before .before .before .before .before .before .before .before .before .before .before .args in
+    let pre = c .before .before .before .before .before .before .before .before .before .before .before .before .pre in
+    let rules-in = c .before .before .before .before .before .before .before .before .before .before .rules-in in
+    let look = c .before .before .before .before .before .before .before .before .look in
+    let is-held = c .before .before .before .before .before .before .before .is-held in
+    let if1 = c .before .before .before .before .before .before .if1 in
+    rule-refused (rulesIn (a .words .now)) (a .root) (a .text .now .now) (nodeW (a .words .now) (a .text .now .now) (a .left)) (a .left) (a .rule) (a .at) (a .table .now) (a .count .now) (rw (rules-in .ensures .0) at (look .ensures)) (pre .1 .0 .short) (pre .1 .0 .most) (sym (is-held .ensures) ∙ if1 .left) (c .before .before .before .eval-node .ensures) (c .if3 .taken)
+
+eval-rule-put-requires : (t : ℕ) → eval-rule-lts.Need-put-requires (eval-rule-claims t) (eval-rule-at t) eval-rule.Post
+eval-rule-put-requires t c κs = search needs
+
+eval-rule-wrapping-add-u64-requires : (t : ℕ) → eval-rule-lts.Need-wrapping-add-u64-requires (eval-rule-claims t) (eval-rule-at t) eval-rule.Post
+eval-rule-wrapping-add-u64-requires t c κs = search needs
+
+eval-rule-same-length-5 : (t : ℕ) → eval-rule-lts.Need-same-length-5 (eval-rule-claims t) (eval-rule-at t) eval-rule.Post
+eval-rule-same-length-5 t c = search needs
+
+eval-rule-returns-5 : (t : ℕ) → eval-rule-lts.Need-returns-5 (eval-rule-claims t) (eval-rule-at t) eval-rule.Post
+eval-rule-returns-5 t c =
+    let a = c .before .before .before .before .before .before .before .before .before .before .before .before .before .before .before .before .before .before .args in
+    let pre = c .before .before .before .before .before .before .before .before .before .before .before .before .before .before .before .before .before .before .pre in
+    let rules-in = c .before .before .before .before .before .before .before .before .before .before .before .before .before .before .before .before .rules-in in
+    let look = c .before .before .before .before .before .before .before .before .before .before .before .before .before .before .look in
+    let is-held = c .before .before .before .before .before .before .before .before .before .before .before .before .before .is-held in
+    let if1 = c .before .before .before .before .before .before .before .before .before .before .before .before .if1 in
+    let x = c .before .before .before .before .before .before .before .before .before .eval-node in
+    let if3 = c .before .before .before .before .before .before .if3 in
+    let put = c .before .before .before .before .put in
+    rw (put .ensures, rules-in .ensures .0, c .wrapping-add-u64 .ensures)
+    (rule-stored (rulesIn (a .words .now)) (a .root) (a .text .now .now) (nodeW (a .words .now) (a .text .now .now) (a .left)) (a .left) (a .rule) (a .at) (a .table .now) (a .count .now) (rw (rules-in .ensures .0) at (look .ensures)) (pre .1 .0 .short) (pre .1 .0 .most) (sym (is-held .ensures) ∙ if1 .left) (x .ensures) (if3 .left))
+
+eval-sequence-eval-node-requires : (t : ℕ) → eval-sequence-lts.Need-eval-node-requires (eval-sequence-claims t) (eval-sequence-at t) eval-sequence.Post
+eval-sequence-eval-node-requires t c κs =
+    let pre = c .before .before .before .pre in
+    (omega (arith, pre .0), (record { short = pre .1 .0 .short; here = pre .1 .0 .here; most = omega (arith, pre .1 .0 .most) }, pre .1 .1))
+
+eval-sequence-same-length : (t : ℕ) → eval-sequence-lts.Need-same-length (eval-sequence-claims t) (eval-sequence-at t) eval-sequence.Post
+eval-sequence-same-length t c = search needs
+
+eval-sequence-returns : (t : ℕ) → eval-sequence-lts.Need-returns (eval-sequence-claims t) (eval-sequence-at t) eval-sequence.Post
+eval-sequence-returns t c =
+    let a = c .before .before .before .before .before .before .before .args in
+    let pre = c .before .before .before .before .before .before .before .pre in
+    sequence-refused (a .text .now .now) (nodeW (a .words .now) (a .text .now .now) (a .left)) (pairM (rulesIn (a .words .now)) (a .b) (a .text .now .now) (nodeW (a .words .now) (a .text .now .now) (a .left)) (a .left)) (a .table .now) (a .count .now) (pre .1 .0 .short) (pre .1 .0 .most) (a .a) (a .b) (c .before .before .before .eval-node .ensures) (c .if1 .taken)
+
+eval-sequence-matched-of-requires : (t : ℕ) → eval-sequence-lts.Need-matched-of-requires (eval-sequence-claims t) (eval-sequence-at t) eval-sequence.Post
+eval-sequence-matched-of-requires t c κs = search needs
+
+eval-sequence-first-failed-requires : (t : ℕ) → eval-sequence-lts.Need-first-failed-requires (eval-sequence-claims t) (eval-sequence-at t) eval-sequence.Post
+eval-sequence-first-failed-requires t c κs =
+    let pre = c .before .before .before .before .before .before .before .before .before .pre in
+    let x = c .before .before .before .before .before .eval-node in
+    omega (arith, nesting-allowed (pre .1 .0 .short) (omega (arith, pre .1 .0 .most)) (x .ensures) (c .before .before .if1 .left), pre .1 .0 .most)
+
+eval-sequence-same-length-2 : (t : ℕ) → eval-sequence-lts.Need-same-length-2 (eval-sequence-claims t) (eval-sequence-at t) eval-sequence.Post
+eval-sequence-same-length-2 t c = search needs
+
+eval-sequence-returns-2 : (t : ℕ) → eval-sequence-lts.Need-returns-2 (eval-sequence-claims t) (eval-sequence-at t) eval-sequence.Post
+eval-sequence-returns-2 t c =
+    let a = c .before .before .before .before .before .before .before .before .before .before .args in
+    let pre = c .before .before .before .before .before .before .before .before .before .before .pre in
+    let x = c .before .before .before .before .before .before .eval-node in
+    let matched-of = c .before .before .matched-of in
+    sequence-failed (a .text .now .now) (nodeW (a .words .now) (a .text .now .now) (a .left)) (pairM (rulesIn (a .words .now)) (a .b) (a .text .now .now) (nodeW (a .words .now) (a .text .now .now) (a .left)) (a .left)) (a .table .now) (a .count .now) (pre .1 .0 .short) (pre .1 .0 .most) (a .a) (a .b) (x .ensures) (c .before .before .before .if1 .left) (sym (matched-of .ensures) ∙ not-true (matched-of .result) (c .before .if2 .taken)) (c .first-failed .ensures)
+
+eval-sequence-length-of-requires : (t : ℕ) → eval-sequence-lts.Need-length-of-requires (eval-sequence-claims t) (eval-sequence-at t) eval-sequence.Post
+eval-sequence-length-of-requires t c κs = search needs
+
+eval-sequence-add-eval-node : (t : ℕ) → eval-sequence-lts.Need-add-eval-node (eval-sequence-claims t) (eval-sequence-at t) eval-sequence.Post
+eval-sequence-add-eval-node t c =
+    let pre = c .before .before .before .before .before .before .before .before .before .before .before .before .pre in
+    let x = c .before .before .before .before .before .before .before .before .eval-node in
+    let if1 = c .before .before .before .before .before .if1 in
+    omega (arith, length-within (pre .1 .0 .short) (omega (arith, pre .1 .0 .most)) (x .ensures) (if1 .left), c .length-of .ensures .0, pre .1 .0 .short)
+
+eval-sequence-eval-node-requires-2 : (t : ℕ) → eval-sequence-lts.Need-eval-node-requires-2 (eval-sequence-claims t) (eval-sequence-at t) eval-sequence.Post
+eval-sequence-eval-node-requires-2 t c κs =
+    let pre = c .before .before .before .before .before .before .before .before .before .before .before .before .pre in
+    let x = c .before .before .before .before .before .before .before .before .eval-node in
+    let if1 = c .before .before .before .before .before .if1 in
+    (omega (arith, pre .0), (record { short = pre .1 .0 .short; here = omega (arith, length-within (pre .1 .0 .short) (omega (arith, pre .1 .0 .most)) (x .ensures) (if1 .left), c .length-of .ensures .0); most = omega (arith, pre .1 .0 .most) }, pre .1 .2))
+
+eval-sequence-same-length-3 : (t : ℕ) → eval-sequence-lts.Need-same-length-3 (eval-sequence-claims t) (eval-sequence-at t) eval-sequence.Post
+eval-sequence-same-length-3 t c = search needs
+
+eval-sequence-returns-3 : (t : ℕ) → eval-sequence-lts.Need-returns-3 (eval-sequence-claims t) (eval-sequence-at t) eval-sequence.Post
+eval-sequence-returns-3 t c =
+    let a = c .before .before .before .before .before .before .before .before .before .before .before .before .before .before .before .before .args in
+    let pre = c .before .before .before .before .before .before .before .before .before .before .before .before .before .before .before .before .pre in
+    let x = c .before .before .before .before .before .before .before .before .before .before .before .before .eval-node in
+    let if1 = c .before .before .before .before .before .before .before .before .before .if1 in
+    let matched-of = c .before .before .before .before .before .before .before .before .matched-of in
+    let if2 = c .before .before .before .before .before .before .before .if2 in
+    let length-of = c .before .before .before .before .length-of in
+    sequence-second-refused (a .text .now .now) (nodeW (a .words .now) (a .text .now .now) (a .left)) (pairM (rulesIn (a .words .now)) (a .b) (a .text .now .now) (nodeW (a .words .now) (a .text .now .now) (a .left)) (a .left)) (a .table .now) (a .count .now) (pre .1 .0 .short) (pre .1 .0 .most) (a .a) (a .b) (x .ensures) (if1 .left) (sym (matched-of .ensures) ∙ not-false (matched-of .result) (if2 .left)) (rw (length-of .ensures .0) at (c .before .before .before .eval-node2 .ensures)) (c .if3 .taken)
+
+eval-sequence-in-sequence-requires : (t : ℕ) → eval-sequence-lts.Need-in-sequence-requires (eval-sequence-claims t) (eval-sequence-at t) eval-sequence.Post
+eval-sequence-in-sequence-requires t c κs =
+    let a = c .before .before .before .before .before .before .before .before .before .before .before .before .before .before .before .before .args in
+    let pre = c .before .before .before .before .before .before .before .before .before .before .before .before .before .before .before .before .pre in
+    let x = c .before .before .before .before .before .before .before .before .before .before .before .before .eval-node in
+    let if1 = c .before .before .before .before .before .before .before .before .before .if1 in
+    let matched-of = c .before .before .before .before .before .before .before .before .matched-of in
+    let if2 = c .before .before .before .before .before .before .before .if2 in
+    let length-of = c .before .before .before .before .length-of in
+    joinable (a .text .now .now) (nodeW (a .words .now) (a .text .now .now) (a .left)) (pairM (rulesIn (a .words .now)) (a .b) (a .text .now .now) (nodeW (a .words .now) (a .text .now .now) (a .left)) (a .left)) (a .table .now) (a .count .now) (pre .1 .0 .short) (pre .1 .0 .most) (a .a) (a .b) (x .ensures) (if1 .left) (sym (matched-of .ensures) ∙ not-false (matched-of .result) (if2 .left)) (rw (length-of .ensures .0) at (c .before .before .before .eval-node2 .ensures)) (c .if3 .left)
+
+eval-sequence-same-length-4 : (t : ℕ) → eval-sequence-lts.Need-same-length-4 (eval-sequence-claims t) (eval-sequence-at t) eval-sequence.Post
+eval-sequence-same-length-4 t c = search needs
+
+eval-sequence-returns-4 : (t : ℕ) → eval-sequence-lts.Need-returns-4 (eval-sequence-claims t) (eval-sequence-at t) eval-sequence.Post
+eval-sequence-returns-4 t c =
+    let a = c .before .before .before .before .before .before .before .before .before .before .before .before .before .before .before .before .before .args in
+    let pre = c .before .before .before .before .before .before .before .before .before .before .before .before .before .before .before .before .before .pre in
+    let x = c .before .before .before .before .before .before .before .before .before .before .before .before .before .eval-node in
+    let if1 = c .before .before .before .before .before .before .before .before .before .before .if1 in
+    let matched-of = c .before .before .before .before .before .before .before .before .before .matched-of in
+    let if2 = c .before .before .before .before .before .before .before .before .if2 in
+    let length-of = c .before .before .before .before .before .length-of in
+    let y = c .before .before .before .before .eval-node2 in
+    sequence-both (a .text .now .now) (nodeW (a .words .now) (a .text .now .now) (a .left)) (pairM (rulesIn (a .words .now)) (a .b) (a .text .now .now) (nodeW (a .words .now) (a .text .now .now) (a .left)) (a .left)) (a .table .now) (a .count .now) (pre .1 .0 .short) (pre .1 .0 .most) (a .a) (a .b) (x .ensures) (if1 .left) (sym (matched-of .ensures) ∙ not-false (matched-of .result) (if2 .left)) (rw (length-of .ensures .0) at (y .ensures)) (c .before .if3 .left) (c .in-sequence .ensures)
+
+abbrev eval-star-Inv-loop : eval-star-lts.InvT-loop
+eval-star-Inv-loop words text table₀ count₀ a at left consumed₀ examined₀ deepest₀ table count consumed examined deepest =
+    (length table ≡ length table₀) × Rounds (length (text .now)) at left (nodeW words (text .now) left) a (roundsM (suc (length (text .now))) (nodeW words (text .now) left) a at table₀ count₀) table count consumed examined deepest
+
+abbrev eval-star-μ-loop : eval-star-lts.MeasureT-loop
+eval-star-μ-loop words text table₀ count₀ a at left consumed₀ examined₀ deepest₀ table count consumed examined deepest =
+    length (text .now) - (at + consumed)
+
+eval-star-loop-holds : (t : ℕ) → eval-star-lts.Need-loop-holds (eval-star-claims t) (eval-star-at t) eval-star.Post eval-star-Inv-loop eval-star-μ-loop
+eval-star-loop-holds t c =
+    (refl, rounds-start (length (c .before .args .text .now .now)) (c .before .args .at) (c .before .args .left) (nodeW (c .before .args .words .now) (c .before .args .text .now .now) (c .before .args .left)) (c .before .args .a) (c .before .args .table .now) (c .before .args .count .now) (c .before .pre .1 .0 .here))
+
+eval-star-add-eval-node : (t : ℕ) → eval-star-lts.Need-add-eval-node (eval-star-claims t) (eval-star-at t) eval-star.Post eval-star-Inv-loop eval-star-μ-loop
+eval-star-add-eval-node t c =
+    let pre = c .before .before .before .before .pre in
+    omega (arith, c .before .before .loop .inv .1 .in-text, pre .1 .0 .short)
+
+eval-star-eval-node-requires : (t : ℕ) → eval-star-lts.Need-eval-node-requires (eval-star-claims t) (eval-star-at t) eval-star.Post eval-star-Inv-loop eval-star-μ-loop
+eval-star-eval-node-requires t c κs =
+    let pre = c .before .before .before .before .pre in
+    (omega (arith, pre .0), (record { short = pre .1 .0 .short; here = c .before .before .loop .inv .1 .in-text; most = omega (arith, pre .1 .0 .most) }, pre .1 .1))
+
+eval-star-same-length : (t : ℕ) → eval-star-lts.Need-same-length (eval-star-claims t) (eval-star-at t) eval-star.Post eval-star-Inv-loop eval-star-μ-loop
+eval-star-same-length t c = search needs
+
+eval-star-returns : (t : ℕ) → eval-star-lts.Need-returns (eval-star-claims t) (eval-star-at t) eval-star.Post eval-star-Inv-loop eval-star-μ-loop
+unfolding kindM
+eval-star-returns t c =
+    let a = c .before .before .before .before .before .before .before .before .args in
+    let pre = c .before .before .before .before .before .before .before .before .pre in
+    let loop = c .before .before .before .before .before .before .loop in
+    let x = c .before .before .before .eval-node in
+    gives-refusal (round-refused (nodeW (a .words .now) (a .text .now .now) (a .left)) (a .a) (pre .1 .0 .short) (pre .1 .0 .most) (loop .inv .1) (x .ensures) (c .if1 .taken)) (was-refused (pre .1 .0 .short) (omega (arith, pre .1 .0 .most)) (x .ensures) (c .if1 .taken) .small)
+
+eval-star-examined-of-requires : (t : ℕ) → eval-star-lts.Need-examined-of-requires (eval-star-claims t) (eval-star-at t) eval-star.Post eval-star-Inv-loop eval-star-μ-loop
+eval-star-examined-of-requires t c κs = search needs
+
+eval-star-add-larger : (t : ℕ) → eval-star-lts.Need-add-larger (eval-star-claims t) (eval-star-at t) eval-star.Post eval-star-Inv-loop eval-star-μ-loop
+eval-star-add-larger t c =
+    let pre = c .before .before .before .before .before .before .before .before .before .pre in
+    let loop = c .before .before .before .before .before .before .before .loop in
+    omega (arith, c .examined-of .ensures .1, loop .inv .1 .in-text, pre .1 .0 .short)
+
+eval-star-larger-requires : (t : ℕ) → eval-star-lts.Need-larger-requires (eval-star-claims t) (eval-star-at t) eval-star.Post eval-star-Inv-loop eval-star-μ-loop
+eval-star-larger-requires t c κs = search needs
+
+eval-star-nesting-of-requires : (t : ℕ) → eval-star-lts.Need-nesting-of-requires (eval-star-claims t) (eval-star-at t) eval-star.Post eval-star-Inv-loop eval-star-μ-loop
+eval-star-nesting-of-requires t c κs = search needs
+
+eval-star-larger-requires-2 : (t : ℕ) → eval-star-lts.Need-larger-requires-2 (eval-star-claims t) (eval-star-at t) eval-star.Post eval-star-Inv-loop eval-star-μ-loop
+eval-star-larger-requires-2 t c κs = search needs
+
+eval-star-matched-of-requires : (t : ℕ) → eval-star-lts.Need-matched-of-requires (eval-star-claims t) (eval-star-at t) eval-star.Post eval-star-Inv-loop eval-star-μ-loop
+eval-star-matched-of-requires t c κs = search needs
+
+eval-star-add-answer : (t : ℕ) → eval-star-lts.Need-add-answer (eval-star-claims t) (eval-star-at t) eval-star.Post eval-star-Inv-loop eval-star-μ-loop
+eval-star-add-answer t c =
+    let a = c .before .before .before .before .before .before .before .before .before .before .before .before .before .before .args in
+    let pre = c .before .before .before .before .before .before .before .before .before .before .before .before .before .before .pre in
+    let loop = c .before .before .before .before .before .before .before .before .before .before .before .before .loop in
+    let x = c .before .before .before .before .before .before .before .before .before .eval-node in
+    let if1 = c .before .before .before .before .before .before .if1 in
+    let b = round-bounds (nodeW (a .words .now) (a .text .now .now) (a .left)) (a .a) (pre .1 .0 .short) (pre .1 .0 .most) (loop .inv .1) (x .ensures) (if1 .left) in
+    let e = (rw (c .before .before .before .nesting-of .ensures .0) at (c .before .before .larger2 .ensures)) in
+    omega (arith, b .1, pre .1 .0 .most)
+
+eval-star-answer-requires : (t : ℕ) → eval-star-lts.Need-answer-requires (eval-star-claims t) (eval-star-at t) eval-star.Post eval-star-Inv-loop eval-star-μ-loop
+eval-star-answer-requires t c κs =
+    let a = c .before .before .before .before .before .before .before .before .before .before .before .before .before .before .args in
+    let pre = c .before .before .before .before .before .before .before .before .before .before .before .before .before .before .pre in
+    let loop = c .before .before .before .before .before .before .before .before .before .before .before .before .loop in
+    let x = c .before .before .before .before .before .before .before .before .before .eval-node in
+    let if1 = c .before .before .before .before .before .before .if1 in
+    let examined-of = c .before .before .before .before .before .examined-of in
+    let larger = c .before .before .before .before .larger in
+    let b = round-bounds (nodeW (a .words .now) (a .text .now .now) (a .left)) (a .a) (pre .1 .0 .short) (pre .1 .0 .most) (loop .inv .1) (x .ensures) (if1 .left) in
+    let d = (rw (examined-of .ensures .0) at (larger .ensures)) in
+    let e = (rw (c .before .before .before .nesting-of .ensures .0) at (c .before .before .larger2 .ensures)) in
+    (omega (arith, b .1, pre .1 .0 .most), omega (arith, b .0, pre .1 .0 .short), omega (arith, loop .inv .1 .in-text, pre .1 .0 .short))
+
+eval-star-same-length-2 : (t : ℕ) → eval-star-lts.Need-same-length-2 (eval-star-claims t) (eval-star-at t) eval-star.Post eval-star-Inv-loop eval-star-μ-loop
+eval-star-same-length-2 t c = search needs
+
+eval-star-returns-2 : (t : ℕ) → eval-star-lts.Need-returns-2 (eval-star-claims t) (eval-star-at t) eval-star.Post eval-star-Inv-loop eval-star-μ-loop
+eval-star-returns-2 t c =
+    let a = c .before .before .before .before .before .before .before .before .before .before .before .before .before .before .before .args in
+    let pre = c .before .before .before .before .before .before .before .before .before .before .before .before .before .before .before .pre in
+    let loop = c .before .before .before .before .before .before .before .before .before .before .before .before .before .loop in
+    let x = c .before .before .before .before .before .before .before .before .before .before .eval-node in
+    let if1 = c .before .before .before .before .before .before .before .if1 in
+    let examined-of = c .before .before .before .before .before .before .examined-of in
+    let larger = c .before .before .before .before .before .larger in
+    let nesting-of = c .before .before .before .before .nesting-of in
+    let matched-of = c .before .before .matched-of in
+    round-fails (nodeW (a .words .now) (a .text .now .now) (a .left)) (a .a) (pre .1 .0 .short) (pre .1 .0 .most) (loop .inv .1) (x .ensures) (if1 .left) (a .text .now .now) (pairM (rulesIn (a .words .now)) 0 (a .text .now .now) (nodeW (a .words .now) (a .text .now .now) (a .left)) (a .left)) (a .table .now) (a .count .now) refl (sym (matched-of .ensures) ∙ not-true (matched-of .result) (c .before .if2 .taken)) (rw (examined-of .ensures .0) at (larger .ensures)) (rw (nesting-of .ensures .0) at (c .before .before .before .larger2 .ensures)) (c .answer .ensures)
+
+eval-star-length-of-requires : (t : ℕ) → eval-star-lts.Need-length-of-requires (eval-star-claims t) (eval-star-at t) eval-star.Post eval-star-Inv-loop eval-star-μ-loop
+eval-star-length-of-requires t c κs = search needs
+
+eval-star-same-length-3 : (t : ℕ) → eval-star-lts.Need-same-length-3 (eval-star-claims t) (eval-star-at t) eval-star.Post eval-star-Inv-loop eval-star-μ-loop
+eval-star-same-length-3 t c = search needs
+
+eval-star-returns-3 : (t : ℕ) → eval-star-lts.Need-returns-3 (eval-star-claims t) (eval-star-at t) eval-star.Post eval-star-Inv-loop eval-star-μ-loop
+unfolding kindM
+eval-star-returns-3 t c =
+    let a = c .before .before .before .before .before .before .before .before .before .before .before .before .before .before .before .before .args in
+    let pre = c .before .before .before .before .before .before .before .before .before .before .before .before .before .before .before .before .pre in
+    let loop = c .before .before .before .before .before .before .before .before .before .before .before .before .before .before .loop in
+    let x = c .before .before .before .before .before .before .before .before .before .before .before .eval-node in
+    let if1 = c .before .before .before .before .before .before .before .before .if1 in
+    let matched-of = c .before .before .before .matched-of in
+    gives-refusal (round-still (nodeW (a .words .now) (a .text .now .now) (a .left)) (a .a) (pre .1 .0 .short) (pre .1 .0 .most) (loop .inv .1) (x .ensures) (if1 .left) (sym (matched-of .ensures) ∙ not-false (matched-of .result) (c .before .before .if2 .left)) (sym (c .before .length-of .ensures .0) ∙ c .if3 .taken)) (omega arith)
+
+eval-star-add-consumed : (t : ℕ) → eval-star-lts.Need-add-consumed (eval-star-claims t) (eval-star-at t) eval-star.Post eval-star-Inv-loop eval-star-μ-loop
+eval-star-add-consumed t c =
+    let pre = c .before .before .before .before .before .before .before .before .before .before .before .before .before .before .before .before .pre in
+    let loop = c .before .before .before .before .before .before .before .before .before .before .before .before .before .before .loop in
+    omega (arith, c .before .length-of .ensures .1, loop .inv .1 .in-text, pre .1 .0 .short)
+
+eval-star-loop-less : (t : ℕ) → eval-star-lts.Need-loop-less (eval-star-claims t) (eval-star-at t) eval-star.Post eval-star-Inv-loop eval-star-μ-loop
+eval-star-loop-less t c =
+    let pre = c .before .before .before .before .before .before .before .before .before .before .before .before .before .before .before .before .pre in
+    let x = c .before .before .before .before .before .before .before .before .before .before .before .eval-node in
+    let if1 = c .before .before .before .before .before .before .before .before .if1 in
+    let ne = c .if3 .left in
+    omega (arith, length-within (pre .1 .0 .short) (omega (arith, pre .1 .0 .most)) (x .ensures) (if1 .left), c .before .length-of .ensures .0, ne)
+
+eval-star-loop-again : (t : ℕ) → eval-star-lts.Need-loop-again (eval-star-claims t) (eval-star-at t) eval-star.Post eval-star-Inv-loop eval-star-μ-loop
+eval-star-loop-again t c =
+    let a = c .before .before .before .before .before .before .before .before .before .before .before .before .before .before .before .before .args in
+    let pre = c .before .before .before .before .before .before .before .before .before .before .before .before .before .before .before .before .pre in
+    let loop = c .before .before .before .before .before .before .before .before .before .before .before .before .before .before .loop in
+    let x = c .before .before .before .before .before .before .before .before .before .before .before .eval-node in
+    let if1 = c .before .before .before .before .before .before .before .before .if1 in
+    let examined-of = c .before .before .before .before .before .before .before .examined-of in
+    let larger = c .before .before .before .before .before .before .larger in
+    let nesting-of = c .before .before .before .before .before .nesting-of in
+    let larger2 = c .before .before .before .before .larger2 in
+    let matched-of = c .before .before .before .matched-of in
+    (x .kept .1 .1 .0 ∙ loop .inv .0, round-goes (nodeW (a .words .now) (a .text .now .now) (a .left)) (a .a) (pre .1 .0 .short) (pre .1 .0 .most) (loop .inv .1) (x .ensures) (if1 .left) (sym (matched-of .ensures) ∙ not-false (matched-of .result) (c .before .before .if2 .left)) (rw (examined-of .ensures .0) at (larger .ensures)) (rw (nesting-of .ensures .0) at (larger2 .ensures)) (c .before .length-of .ensures .0) (c .if3 .left))
+
+eval-word-node-of-requires : (t : ℕ) → eval-word-lts.Need-node-of-requires (eval-word-claims t) (eval-word-at t) eval-word.Post
+eval-word-node-of-requires t c κs = search needs
+
+eval-word-any-byte-requires : (t : ℕ) → eval-word-lts.Need-any-byte-requires (eval-word-claims t) (eval-word-at t) eval-word.Post
+eval-word-any-byte-requires t c κs = search needs
+
+eval-word-byte-between-requires : (t : ℕ) → eval-word-lts.Need-byte-between-requires (eval-word-claims t) (eval-word-at t) eval-word.Post
+eval-word-byte-between-requires t c κs = search needs
+
+eval-word-sub-eval-sequence : (t : ℕ) → eval-word-lts.Need-sub-eval-sequence (eval-word-claims t) (eval-word-at t) eval-word.Post
+eval-word-sub-eval-sequence t c =
+    let pre = c .before .before .before .before .before .pre in
+    omega (arith, pre .1 .1)
+
+eval-word-eval-sequence-requires : (t : ℕ) → eval-word-lts.Need-eval-sequence-requires (eval-word-claims t) (eval-word-at t) eval-word.Post
+eval-word-eval-sequence-requires t c κs =
+    let pre = c .before .before .before .before .before .pre in
+    let node-of = c .before .before .before .node-of in
+    (omega (arith, pre .0, pre .1 .1), (record { short = pre .1 .0 .short; here = pre .1 .0 .here; most = omega (arith, pre .1 .0 .most, pre .1 .1) }, omega (arith, node-of .ensures .its-a), omega (arith, node-of .ensures .its-b)))
+
+eval-word-sub-eval-choice : (t : ℕ) → eval-word-lts.Need-sub-eval-choice (eval-word-claims t) (eval-word-at t) eval-word.Post
+eval-word-sub-eval-choice t c =
+    let pre = c .before .before .before .before .before .pre in
+    omega (arith, pre .1 .1)
+
+eval-word-eval-choice-requires : (t : ℕ) → eval-word-lts.Need-eval-choice-requires (eval-word-claims t) (eval-word-at t) eval-word.Post
+eval-word-eval-choice-requires t c κs =
+    let pre = c .before .before .before .before .before .pre in
+    let node-of = c .before .before .before .node-of in
+    (omega (arith, pre .0, pre .1 .1), (record { short = pre .1 .0 .short; here = pre .1 .0 .here; most = omega (arith, pre .1 .0 .most, pre .1 .1) }, omega (arith, node-of .ensures .its-a), omega (arith, node-of .ensures .its-b)))
+
+eval-word-sub-eval-star : (t : ℕ) → eval-word-lts.Need-sub-eval-star (eval-word-claims t) (eval-word-at t) eval-word.Post
+eval-word-sub-eval-star t c =
+    let pre = c .before .before .before .before .before .pre in
+    omega (arith, pre .1 .1)
+
+eval-word-eval-star-requires : (t : ℕ) → eval-word-lts.Need-eval-star-requires (eval-word-claims t) (eval-word-at t) eval-word.Post
+eval-word-eval-star-requires t c κs =
+    let pre = c .before .before .before .before .before .pre in
+    (omega (arith, pre .0, pre .1 .1), (record { short = pre .1 .0 .short; here = pre .1 .0 .here; most = omega (arith, pre .1 .0 .most, pre .1 .1) }, omega (arith, c .before .before .before .node-of .ensures .its-a)))
+
+eval-word-sub-eval-not : (t : ℕ) → eval-word-lts.Need-sub-eval-not (eval-word-claims t) (eval-word-at t) eval-word.Post
+eval-word-sub-eval-not t c =
+    let pre = c .before .before .before .before .before .pre in
+    omega (arith, pre .1 .1)
+
+eval-word-eval-not-requires : (t : ℕ) → eval-word-lts.Need-eval-not-requires (eval-word-claims t) (eval-word-at t) eval-word.Post
+eval-word-eval-not-requires t c κs =
+    let pre = c .before .before .before .before .before .pre in
+    (omega (arith, pre .0, pre .1 .1), (record { short = pre .1 .0 .short; here = pre .1 .0 .here; most = omega (arith, pre .1 .0 .most, pre .1 .1) }, omega (arith, c .before .before .before .node-of .ensures .its-a)))
+
+eval-word-sub-eval-call : (t : ℕ) → eval-word-lts.Need-sub-eval-call (eval-word-claims t) (eval-word-at t) eval-word.Post
+eval-word-sub-eval-call t c =
+    let pre = c .before .before .before .before .before .pre in
+    omega (arith, pre .1 .1)
+
+eval-word-eval-call-requires : (t : ℕ) → eval-word-lts.Need-eval-call-requires (eval-word-claims t) (eval-word-at t) eval-word.Post
+eval-word-eval-call-requires t c κs =
+    let pre = c .before .before .before .before .before .pre in
+    let node-of = c .before .before .before .node-of in
+    (omega (arith, pre .0, pre .1 .1), (record { short = pre .1 .0 .short; here = pre .1 .0 .here; most = omega (arith, pre .1 .0 .most, pre .1 .1) }, omega (arith, node-of .ensures .its-a), omega (arith, node-of .ensures .its-b)))
+
+eval-word-returns : (t : ℕ) → eval-word-lts.Need-returns (eval-word-claims t) (eval-word-at t) eval-word.Post
+unfolding kindM nodeOfKind wordOf
+eval-word-returns t c =
+    let a = c .before .before .before .args in
+    let pre = c .before .before .before .pre in
+    word-goes (a .words .now) (a .text .now .now) (a .left) (a .word) (a .at) (a .table .now) (a .count .now) (λ z. let l = pre .1 .1 in omega arith) (word-is (a .word) (c .before .node-of .ensures) {k = 0} (omega arith)) (gives-value emptyHere refl refl (empty-within (pre .1 .0 .here)) (omega arith))
+
+eval-word-returns-2 : (t : ℕ) → eval-word-lts.Need-returns-2 (eval-word-claims t) (eval-word-at t) eval-word.Post
+unfolding kindM nodeOfKind
+eval-word-returns-2 t c =
+    let a = c .before .before .before .before .before .args in
+    let pre = c .before .before .before .before .before .pre in
+    let s = shape any (a .text .now .now) (a .at) (pre .1 .0 .here) in
+    word-goes (a .words .now) (a .text .now .now) (a .left) (a .word) (a .at) (a .table .now) (a .count .now) (λ z. let l = pre .1 .1 in omega arith) (word-is (a .word) (c .before .before .before .node-of .ensures) {k = 1} (omega arith)) (gives-value (terminalAt any (a .text .now .now) (a .at)) refl (c .any-byte .ensures)
+    (record { in-text = s .in-text; up-to-end = s .up-to-end; in-examined = s .in-examined; failure = s .failure; nested = omega (arith, s .flat) })
+    (omega (arith, s .flat)))
+
+eval-word-returns-3 : (t : ℕ) → eval-word-lts.Need-returns-3 (eval-word-claims t) (eval-word-at t) eval-word.Post
+unfolding kindM nodeOfKind
+eval-word-returns-3 t c =
+    let a = c .before .before .before .before .before .args in
+    let pre = c .before .before .before .before .before .pre in
+    let node-of = c .before .before .before .node-of in
+    let s = shape (range (node-of .result .a) (node-of .result .b)) (a .text .now .now) (a .at) (pre .1 .0 .here) in
+    word-goes (a .words .now) (a .text .now .now) (a .left) (a .word) (a .at) (a .table .now) (a .count .now) (λ z. let l = pre .1 .1 in omega arith) (word-is (a .word) (node-of .ensures) {k = 2} (omega arith)) (gives-value (terminalAt (range (node-of .result .a) (node-of .result .b)) (a .text .now .now) (a .at)) refl (c .byte-between .ensures)
+    (record { in-text = s .in-text; up-to-end = s .up-to-end; in-examined = s .in-examined; failure = s .failure; nested = omega (arith, s .flat) })
+    (omega (arith, s .flat)))
+
+eval-word-same-length : (t : ℕ) → eval-word-lts.Need-same-length (eval-word-claims t) (eval-word-at t) eval-word.Post
+eval-word-same-length t c = search needs
+
+eval-word-returns-4 : (t : ℕ) → eval-word-lts.Need-returns-4 (eval-word-claims t) (eval-word-at t) eval-word.Post
+unfolding kindM nodeOfKind
+eval-word-returns-4 t c =
+    let a = c .before .before .before .before .before .before .before .before .args in
+    let pre = c .before .before .before .before .before .before .before .before .pre in
+    let node-of = c .before .before .before .before .before .before .node-of in
+    word-goes (a .words .now) (a .text .now .now) (a .left) (a .word) (a .at) (a .table .now) (a .count .now) (λ z. let l = pre .1 .1 in omega arith) (word-is (a .word) (node-of .ensures) {k = 3} (omega arith)) (c .before .before .eval-sequence .ensures)
+
+eval-word-same-length-2 : (t : ℕ) → eval-word-lts.Need-same-length-2 (eval-word-claims t) (eval-word-at t) eval-word.Post
+eval-word-same-length-2 t c = search needs
+
+eval-word-returns-5 : (t : ℕ) → eval-word-lts.Need-returns-5 (eval-word-claims t) (eval-word-at t) eval-word.Post
+unfolding kindM nodeOfKind
+eval-word-returns-5 t c =
+    let a = c .before .before .before .before .before .before .before .before .args in
+    let pre = c .before .before .before .before .before .before .before .before .pre in
+    let node-of = c .before .before .before .before .before .before .node-of in
+    word-goes (a .words .now) (a .text .now .now) (a .left) (a .word) (a .at) (a .table .now) (a .count .now) (λ z. let l = pre .1 .1 in omega arith) (word-is (a .word) (node-of .ensures) {k = 4} (omega arith)) (c .before .before .eval-choice .ensures)
+
+eval-word-same-length-3 : (t : ℕ) → eval-word-lts.Need-same-length-3 (eval-word-claims t) (eval-word-at t) eval-word.Post
+eval-word-same-length-3 t c = search needs
+
+eval-word-returns-6 : (t : ℕ) → eval-word-lts.Need-returns-6 (eval-word-claims t) (eval-word-at t) eval-word.Post
+unfolding kindM nodeOfKind
+eval-word-returns-6 t c =
+    let a = c .before .before .before .before .before .before .before .before .args in
+    let pre = c .before .before .before .before .before .before .before .before .pre in
+    let node-of = c .before .before .before .before .before .before .node-of in
+    word-goes (a .words .now) (a .text .now .now) (a .left) (a .word) (a .at) (a .table .now) (a .count .now) (λ z. let l = pre .1 .1 in omega arith) (word-is (a .word) (node-of .ensures) {k = 5} (omega arith)) (c .before .before .eval-star .ensures)
+
+eval-word-same-length-4 : (t : ℕ) → eval-word-lts.Need-same-length-4 (eval-word-claims t) (eval-word-at t) eval-word.Post
+eval-word-same-length-4 t c = search needs
+
+eval-word-returns-7 : (t : ℕ) → eval-word-lts.Need-returns-7 (eval-word-claims t) (eval-word-at t) eval-word.Post
+unfolding kindM nodeOfKind
+eval-word-returns-7 t c =
+    let a = c .before .before .before .before .before .before .before .before .args in
+    let pre = c .before .before .before .before .before .before .before .before .pre in
+    let node-of = c .before .before .before .before .before .before .node-of in
+    word-goes (a .words .now) (a .text .now .now) (a .left) (a .word) (a .at) (a .table .now) (a .count .now) (λ z. let l = pre .1 .1 in omega arith) (word-is (a .word) (node-of .ensures) {k = 6} (omega arith)) (c .before .before .eval-not .ensures)
+
+eval-word-same-length-5 : (t : ℕ) → eval-word-lts.Need-same-length-5 (eval-word-claims t) (eval-word-at t) eval-word.Post
+eval-word-same-length-5 t c = search needs
+
+eval-word-returns-8 : (t : ℕ) → eval-word-lts.Need-returns-8 (eval-word-claims t) (eval-word-at t) eval-word.Post
+unfolding kindM nodeOfKind
+eval-word-returns-8 t c =
+    let a = c .before .before .before .before .before .before .before .before .args in
+    let pre = c .before .before .before .before .before .before .before .before .pre in
+    let node-of = c .before .before .before .before .before .before .node-of in
+    call-goes (a .words .now) (a .text .now .now) (a .left) (a .word) (a .at) (a .table .now) (a .count .now) (λ z. let l = pre .1 .1 in omega arith) (node-of .ensures .its-b) (word-is (a .word) (node-of .ensures) {k = 7} (omega arith)) (c .before .before .eval-call .ensures)
+
+eval-word-returns-9 : (t : ℕ) → eval-word-lts.Need-returns-9 (eval-word-claims t) (eval-word-at t) eval-word.Post
+unfolding kindM
+eval-word-returns-9 t c =
+    let a = c .before .before .before .before .args in
+    let pre = c .before .before .before .before .pre in
+    let node-of = c .before .before .node-of in
+    let k = past-7 (node-of .result .kind) (c .before .match .rest .0 .0 .0 .0 .0 .0 .0 .1) (c .before .match .rest .0 .0 .0 .0 .0 .0 .1) (c .before .match .rest .0 .0 .0 .0 .0 .1) (c .before .match .rest .0 .0 .0 .0 .1) (c .before .match .rest .0 .0 .0 .1) (c .before .match .rest .0 .0 .1) (c .before .match .rest .0 .1) (c .before .match .rest .1) in
+    word-goes (a .words .now) (a .text .now .now) (a .left) (a .word) (a .at) (a .table .now) (a .count .now) (λ z. let l = pre .1 .1 in omega arith) (word-unlawful (a .word) (node-of .ensures) k) (gives-refusal refl (omega arith))
+
+eval-word-returns-10 : (t : ℕ) → eval-word-lts.Need-returns-10 (eval-word-claims t) (eval-word-at t) eval-word.Post
+unfolding kindM
+eval-word-returns-10 t c =
+    let a = c .before .before .before .before .args in
+    let pre = c .before .before .before .before .pre in
+    let node-of = c .before .before .node-of in
+    let k = past-7 (node-of .result .kind) (c .before .match .rest .0 .0 .0 .0 .0 .0 .0 .1) (c .before .match .rest .0 .0 .0 .0 .0 .0 .1) (c .before .match .rest .0 .0 .0 .0 .0 .1) (c .before .match .rest .0 .0 .0 .0 .1) (c .before .match .rest .0 .0 .0 .1) (c .before .match .rest .0 .0 .1) (c .before .match .rest .0 .1) (c .before .match .rest .1) in
+    word-goes (a .words .now) (a .text .now .now) (a .left) (a .word) (a .at) (a .table .now) (a .count .now) (λ z. let l = pre .1 .1 in omega arith) (word-unlawful (a .word) (node-of .ensures) k) (gives-refusal refl (omega arith))
+
+pub +eval-call+eval-choice+eval-node+eval-not+eval-rule+eval-sequence+eval-star+eval-word-spec :
+    {M : Type 1} → statement M
++eval-call+eval-choice+eval-node+eval-not+eval-rule+eval-sequence+eval-star+eval-word-spec =
+    close
+    μ-eval-call
+    μ-eval-choice
+    μ-eval-node
+    μ-eval-not
+    μ-eval-rule
+    μ-eval-sequence
+    μ-eval-star
+    μ-eval-word
+    (λ t. eval-call-lts.spec (eval-call-claims t)
+    (eval-call-at t)
+    eval-call.Post
+    (eval-call-eval-rule-requires t)
+    (eval-call-same-length t)
+    (eval-call-returns t)
+    (eval-call-taken-over-requires t)
+    (eval-call-same-length-2 t)
+    (eval-call-returns-2 t))
+    (λ t. eval-choice-lts.spec (eval-choice-claims t)
+    (eval-choice-at t)
+    eval-choice.Post
+    (eval-choice-eval-node-requires t)
+    (eval-choice-same-length t)
+    (eval-choice-returns t)
+    (eval-choice-matched-of-requires t)
+    (eval-choice-taken-over-requires t)
+    (eval-choice-same-length-2 t)
+    (eval-choice-returns-2 t)
+    (eval-choice-eval-node-requires-2 t)
+    (eval-choice-same-length-3 t)
+    (eval-choice-returns-3 t)
+    (eval-choice-second-choice-requires t)
+    (eval-choice-same-length-4 t)
+    (eval-choice-returns-4 t))
+    (λ t. eval-node-lts.spec (eval-node-claims t)
+    (eval-node-at t)
+    eval-node.Post
+    (eval-node-returns t)
+    (eval-node-mul-word t)
+    (eval-node-element-copy-out-word t)
+    (eval-node-node-of-requires t)
+    (eval-node-byte-between-requires t)
+    (eval-node-returns-2 t)
+    (eval-node-eval-word-requires t)
+    (eval-node-same-length t)
+    (eval-node-returns-3 t))
+    (λ t. eval-not-lts.spec (eval-not-claims t)
+    (eval-not-at t)
+    eval-not.Post
+    (eval-not-eval-node-requires t)
+    (eval-not-same-length t)
+    (eval-not-returns t)
+    (eval-not-negated-answer-requires t)
+    (eval-not-same-length-2 t)
+    (eval-not-returns-2 t))
+    (λ t. eval-rule-lts.spec (eval-rule-claims t)
+    (eval-rule-at t)
+    eval-rule.Post
+    (eval-rule-rules-in-requires t)
+    (eval-rule-look-requires t)
+    (eval-rule-is-held-requires t)
+    (eval-rule-from-word-requires t)
+    (eval-rule-enum-known-held t)
+    (eval-rule-enum-told t)
+    (eval-rule-same-length t)
+    (eval-rule-returns t)
+    (eval-rule-same-length-2 t)
+    (eval-rule-returns-2 t)
+    (eval-rule-word-requires t)
+    (eval-rule-same-length-3 t)
+    (eval-rule-returns-3 t)
+    (eval-rule-eval-node-requires t)
+    (eval-rule-same-length-4 t)
+    (eval-rule-returns-4 t)
+    (eval-rule-put-requires t)
+    (eval-rule-wrapping-add-u64-requires t)
+    (eval-rule-same-length-5 t)
+    (eval-rule-returns-5 t))
+    (λ t. eval-sequence-lts.spec (eval-sequence-claims t)
+    (eval-sequence-at t)
+    eval-sequence.Post
+    (eval-sequence-eval-node-requires t)
+    (eval-sequence-same-length t)
+    (eval-sequence-returns t)
+    (eval-sequence-matched-of-requires t)
+    (eval-sequence-first-failed-requires t)
+    (eval-sequence-same-length-2 t)
+    (eval-sequence-returns-2 t)
+    (eval-sequence-length-of-requires t)
+    (eval-sequence-add-eval-node t)
+    (eval-sequence-eval-node-requires-2 t)
+    (eval-sequence-same-length-3 t)
+    (eval-sequence-returns-3 t)
+    (eval-sequence-in-sequence-requires t)
+    (eval-sequence-same-length-4 t)
+    (eval-sequence-returns-4 t))
+    (λ t. eval-star-lts.spec (eval-star-claims t)
+    (eval-star-at t)
+    eval-star.Post
+    eval-star-Inv-loop
+    eval-star-μ-loop
+    (eval-star-loop-holds t)
+    (eval-star-add-eval-node t)
+    (eval-star-eval-node-requires t)
+    (eval-star-same-length t)
+    (eval-star-returns t)
+    (eval-star-examined-of-requires t)
+    (eval-star-add-larger t)
+    (eval-star-larger-requires t)
+    (eval-star-nesting-of-requires t)
+    (eval-star-larger-requires-2 t)
+    (eval-star-matched-of-requires t)
+    (eval-star-add-answer t)
+    (eval-star-answer-requires t)
+    (eval-star-same-length-2 t)
+    (eval-star-returns-2 t)
+    (eval-star-length-of-requires t)
+    (eval-star-same-length-3 t)
+    (eval-star-returns-3 t)
+    (eval-star-add-consumed t)
+    (eval-star-loop-less t)
+    (eval-star-loop-again t))
+    λ t. eval-word-lts.spec (eval-word-claims t)
+    (eval-word-at t)
+    eval-word.Post
+    (eval-word-node-of-requires t)
+    (eval-word-any-byte-requires t)
+    (eval-word-byte-between-requires t)
+    (eval-word-sub-eval-sequence t)
+    (eval-word-eval-sequence-requires t)
+    (eval-word-sub-eval-choice t)
+    (eval-word-eval-choice-requires t)
+    (eval-word-sub-eval-star t)
+    (eval-word-eval-star-requires t)
+    (eval-word-sub-eval-not t)
+    (eval-word-eval-not-requires t)
+    (eval-word-sub-eval-call t)
+    (eval-word-eval-call-requires t)
+    (eval-word-returns t)
+    (eval-word-returns-2 t)
+    (eval-word-returns-3 t)
+    (eval-word-same-length t)
+    (eval-word-returns-4 t)
+    (eval-word-same-length-2 t)
+    (eval-word-returns-5 t)
+    (eval-word-same-length-3 t)
+    (eval-word-returns-6 t)
+    (eval-word-same-length-4 t)
+    (eval-word-returns-7 t)
+    (eval-word-same-length-5 t)
+    (eval-word-returns-8 t)
+    (eval-word-returns-9 t)
+    (eval-word-returns-10 t)

@@ -1,0 +1,2 @@
+-- The words of a loaded grammar.
+pub mod LoadedWords

@@ -1,0 +1,2 @@
+-- The lemma of a slot's size.
+pub mod Fits

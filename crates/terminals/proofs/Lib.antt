@@ -1,0 +1,2 @@
+-- The words of a terminal's evaluations.
+pub mod TerminalWords
