@@ -4,12 +4,12 @@ use native.Mathlib.Omega.{arith}
 use mathlib.Core.Path.{_≡_, refl, ap}
 use Rattle.reading.specs.declared.plain.Outcome.{Outcome}
 use Rattle.reading.specs.declared.plain.Outcome.the-variants.{Whole, Part, Nothing}
-use Rattle.ledger.specs.declared.OpenAnswer.{OpenAnswer}
-use Rattle.ledger.specs.declared.EditAnswer.{EditAnswer}
-use Rattle.ledger.specs.declared.ReadAnswer.{ReadAnswer}
-use Rattle.ledger.specs.declared.SheetReading.{SheetReading}
-use Rattle.ledger.specs.declared.LookUpAnswer.{LookUpAnswer}
-use Rattle.ledger.specs.declared.ListAnswer.{ListAnswer}
+use Rattle.promises.specs.declared.OpenAnswer.{OpenAnswer}
+use Rattle.promises.specs.declared.EditAnswer.{EditAnswer}
+use Rattle.promises.specs.declared.ReadAnswer.{ReadAnswer}
+use Rattle.promises.specs.declared.SheetReading.{SheetReading}
+use Rattle.promises.specs.declared.LookUpAnswer.{LookUpAnswer}
+use Rattle.promises.specs.declared.ListAnswer.{ListAnswer}
 use Rattle.bridge.specs.declared.fields.Fields.{Fields}
 use Rattle.bridge.specs.Fields.{openFields, editFields, readingFields, readFields, lookUpFields, listFields, outcomeNumber}
 

@@ -2,14 +2,14 @@
 use Prim.Native.Nat.{ℕ}
 use mathlib.Core.Path.{_≡_}
 use mathlib.Core.List.{List}
-use Rattle.ledger.specs.declared.OpenAnswer.{OpenAnswer}
-use Rattle.ledger.specs.declared.EditAnswer.{EditAnswer}
-use Rattle.ledger.specs.declared.ReadAnswer.{ReadAnswer}
-use Rattle.ledger.specs.declared.LookUpAnswer.{LookUpAnswer}
-use Rattle.ledger.specs.declared.ListAnswer.{ListAnswer}
-use Rattle.ledger.specs.Promises.{OpenPromise, EditPromise, LookUpPromise}
-use Rattle.ledger.specs.Reading.{ReadPromise}
-use Rattle.ledger.specs.Listing.{ListPromise}
+use Rattle.promises.specs.declared.OpenAnswer.{OpenAnswer}
+use Rattle.promises.specs.declared.EditAnswer.{EditAnswer}
+use Rattle.promises.specs.declared.ReadAnswer.{ReadAnswer}
+use Rattle.promises.specs.declared.LookUpAnswer.{LookUpAnswer}
+use Rattle.promises.specs.declared.ListAnswer.{ListAnswer}
+use Rattle.promises.specs.Promises.{OpenPromise, EditPromise, LookUpPromise}
+use Rattle.promises.specs.Reading.{ReadPromise}
+use Rattle.promises.specs.Listing.{ListPromise}
 use Rattle.bridge.specs.declared.fields.Fields.{Fields}
 use Rattle.bridge.specs.Fields.{openFields, editFields, readFields, lookUpFields, listFields}
 

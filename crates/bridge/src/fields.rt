@@ -1,10 +1,10 @@
 // The seven numbers that a call answers with; which they are for each case of each answer is said in specs/Fields.antt.
-use ledger::EditAnswer;
-use ledger::ListAnswer;
-use ledger::LookUpAnswer;
-use ledger::OpenAnswer;
-use ledger::ReadAnswer;
-use ledger::SheetReading;
+use promises::EditAnswer;
+use promises::ListAnswer;
+use promises::LookUpAnswer;
+use promises::OpenAnswer;
+use promises::ReadAnswer;
+use promises::SheetReading;
 use reading::plain::Outcome;
 ghost use mathlib.Core.Path.{_≡_};
 ghost use Rattle.bridge.specs.Fields.{refusal, openFields, editFields, readingFields, readFields, lookUpFields, listFields, outcomeNumber};

@@ -9,10 +9,10 @@ use borrow.Author.Tests.{leb-true, le-leb, ltb-true, lt-ltb}
 use Rattle.grammar.specs.Image.{rules}
 use Rattle.grammar.specs.Questions.{First}
 use Rattle.editing.specs.Text.{newLength}
-use Rattle.ledger.specs.Questions.{Question9, Question10, Question11, ofSheet}
+use Rattle.promises.specs.Questions.{Question9, Question10, Question11, ofSheet}
 use Rattle.ledger.specs.Ledger.{Evaluations, Ledger, passes9, passes10, passes11}
 use Rattle.ledger.proofs.Bools.{both, joined}
-use Rattle.ledger.proofs.Asked.{sheet-first}
+use Rattle.promises.proofs.Asked.{sheet-first}
 use Rattle.ledger.proofs.Inv.{Inv, cap-is, lent}
 
 module _ {ev : Evaluations} {cap : ℕ} {rest : List ℕ} {l : Ledger} {B : List ℕ} {n : ℕ} {W : List ℕ} (v : Inv ev cap rest l B n W) where

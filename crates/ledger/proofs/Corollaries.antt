@@ -23,17 +23,17 @@ use Rattle.reading.specs.declared.plain.Reading.{Reading}
 use Rattle.reading.specs.declared.plain.PlainAnswer.{PlainAnswer}
 use Rattle.reading.specs.Plain.{Says, Reports, ShortText, DepthAllowed, ofPlain, PlainRead, outcomeOf}
 use Rattle.editing.specs.Table.{tableSize}
-use Rattle.ledger.specs.declared.ReadAnswer.{ReadAnswer}
-use Rattle.ledger.specs.declared.ListAnswer.{ListAnswer}
-use Rattle.ledger.specs.declared.SheetReading.{SheetReading}
-use Rattle.ledger.specs.Answers.{sheetReading, readNumber, listNumber}
-use Rattle.ledger.specs.Reading.{ReadPromise}
-use Rattle.ledger.specs.Listing.{ListPromise}
+use Rattle.promises.specs.declared.ReadAnswer.{ReadAnswer}
+use Rattle.promises.specs.declared.ListAnswer.{ListAnswer}
+use Rattle.promises.specs.declared.SheetReading.{SheetReading}
+use Rattle.promises.specs.Answers.{sheetReading, readNumber, listNumber}
+use Rattle.promises.specs.Reading.{ReadPromise}
+use Rattle.promises.specs.Listing.{ListPromise}
 use Rattle.ledger.specs.Ledger.{Evaluations, Call, edit, reading, look-up, listing, Reply, edits, reads, finds, lists, Ledger, openedLedger, turn, replies}
 use Rattle.ledger.specs.Ledger.{valueIn, rowsIn, newPairs, passes9, passes10, passes11, passes14, passes15, editTurn, readTurn, lookUpTurn, listTurn}
 use Rattle.ledger.specs.Demand.{loan, rowsGiven}
 use Rattle.ledger.specs.Corollaries.{LedgersNumber, All, OnlyTheseNumbers, inSession, AsPlain, inListing, rowsIf, ListsAsPlain}
-use Rattle.ledger.proofs.Asked.{first-rest, image-numbers}
+use Rattle.promises.proofs.Asked.{first-rest, image-numbers}
 use Rattle.ledger.proofs.Fresh.{evaluations}
 use Rattle.ledger.proofs.Inv.{Inv, text-is, short-text}
 use Rattle.ledger.proofs.StepRead.{read-step}

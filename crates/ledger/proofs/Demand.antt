@@ -10,13 +10,13 @@ use lib.ListN.{length, drop}
 use Rattle.grammar.specs.Image.{rules}
 use Rattle.grammar.specs.Questions.{Accepted}
 use Rattle.editing.specs.Table.{tableSize}
-use Rattle.ledger.specs.declared.OpenAnswer.{OpenAnswer}
-use Rattle.ledger.specs.Questions.{Question8}
-use Rattle.ledger.specs.Promises.{OpenPromise}
+use Rattle.promises.specs.declared.OpenAnswer.{OpenAnswer}
+use Rattle.promises.specs.Questions.{Question8}
+use Rattle.promises.specs.Promises.{OpenPromise}
 use Rattle.ledger.specs.Ledger.{Evaluations, Call, edit, reading, look-up, listing, Reply, Ledger, openedLedger, turn, replies, leftBy}
 use Rattle.ledger.specs.Ledger.{passes9, passes10, passes11, passes14, passes15, editTurn, readTurn, lookUpTurn, listTurn}
 use Rattle.ledger.specs.Demand.{Loan, loan, Link, edit-link, read-link, look-up-link, list-link, Trace, done, next, Agrees, Demand3}
-use Rattle.ledger.proofs.Asked.{sheet-passed}
+use Rattle.promises.proofs.Asked.{sheet-passed}
 use Rattle.ledger.proofs.Inv.{Inv, agrees}
 use Rattle.ledger.proofs.StepRead.{inv-empty, read-step}
 use Rattle.ledger.proofs.StepList.{list-step}

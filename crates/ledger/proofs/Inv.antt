@@ -19,8 +19,8 @@ use Rattle.packrat.specs.True.{IsTrue}
 use Rattle.packrat.proofs.OverTables.{word-possible}
 use Rattle.editing.specs.Text.{opened}
 use Rattle.editing.specs.Table.{pick, tableSize}
-use Rattle.ledger.specs.Questions.{Question8}
-use Rattle.ledger.specs.Reading.{NotForeign}
+use Rattle.promises.specs.Questions.{Question8}
+use Rattle.promises.specs.Reading.{NotForeign}
 use Rattle.ledger.specs.Ledger.{Evaluations, Ledger, valueIn}
 use Rattle.ledger.specs.Demand.{Agrees}
 

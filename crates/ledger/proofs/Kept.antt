@@ -9,13 +9,13 @@ use Rattle.grammar.specs.Questions.{First}
 use Rattle.packrat.specs.Over.{wordAt}
 use Rattle.editing.specs.Text.{newLength, textAfter, opened}
 use Rattle.editing.specs.Table.{wordsAfter, tableAfter, clearedTable, heldIn}
-use Rattle.ledger.specs.declared.OpenAnswer.{OpenAnswer}
-use Rattle.ledger.specs.declared.EditAnswer.{EditAnswer}
-use Rattle.ledger.specs.declared.EditedSheet.{EditedSheet}
-use Rattle.ledger.specs.declared.LookUpAnswer.{LookUpAnswer}
-use Rattle.ledger.specs.Questions.{Question9, Question10, Question11, ofSheet, ofEdit, ofLookUp}
-use Rattle.ledger.specs.Promises.{OpenPromise, EditPromise, LookUpPromise}
-use Rattle.ledger.proofs.Asked.{edit-0, look-up-0}
+use Rattle.promises.specs.declared.OpenAnswer.{OpenAnswer}
+use Rattle.promises.specs.declared.EditAnswer.{EditAnswer}
+use Rattle.promises.specs.declared.EditedSheet.{EditedSheet}
+use Rattle.promises.specs.declared.LookUpAnswer.{LookUpAnswer}
+use Rattle.promises.specs.Questions.{Question9, Question10, Question11, ofSheet, ofEdit, ofLookUp}
+use Rattle.promises.specs.Promises.{OpenPromise, EditPromise, LookUpPromise}
+use Rattle.promises.proofs.Asked.{edit-0, look-up-0}
 
 module _ (img text B W : List ℕ) where
   pub open-done :

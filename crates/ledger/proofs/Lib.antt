@@ -1,11 +1,6 @@
--- The theorems about the calls and the ledger.
+-- The theorems about the ledger and lists of calls.
 pub mod Bools
-pub mod Tables
-pub mod Asked
 pub mod Kept
-pub mod SheetReads
-pub mod LoadedImage
-pub mod SheetLists
 pub mod Fresh
 pub mod Inv
 pub mod Asks

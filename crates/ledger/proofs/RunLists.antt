@@ -18,17 +18,17 @@ use Rattle.rows.specs.Walk.{Walked, walked, stopped, Trail, trail, nodeV, start
 use Rattle.rows.specs.Bounds.{Bounded, May}
 use Rattle.rows.proofs.Bounds.{node-bounded, pair-bounded}
 use Rattle.editing.specs.Table.{clearedTable}
-use Rattle.ledger.specs.declared.ListAnswer.{ListAnswer}
-use Rattle.ledger.specs.declared.SheetReading.{SheetReading}
-use Rattle.ledger.specs.Answers.{sheetReading}
-use Rattle.ledger.specs.Questions.{Question8, ofSheet}
-use Rattle.ledger.specs.Listing.{SheetListed}
-use Rattle.ledger.specs.Run.{stoppedWords}
+use Rattle.promises.specs.declared.ListAnswer.{ListAnswer}
+use Rattle.promises.specs.declared.SheetReading.{SheetReading}
+use Rattle.promises.specs.Answers.{sheetReading}
+use Rattle.promises.specs.Questions.{Question8, ofSheet}
+use Rattle.promises.specs.Listing.{SheetListed}
+use Rattle.promises.specs.Run.{stoppedWords}
 use Rattle.ledger.specs.Ledger.{Reply, listing, lists}
 use Rattle.ledger.specs.Demand.{loan, Link, list-link, rowsGiven}
-use Rattle.ledger.proofs.Asked.{sheet-passed}
-use Rattle.ledger.proofs.LoadedImage.{loadedWords, image-loaded}
-use Rattle.ledger.proofs.SheetLists.{refused-listed, written-listed, stopped-listed, lists-done}
+use Rattle.promises.proofs.Asked.{sheet-passed}
+use Rattle.loaded.proofs.LoadedImage.{loadedWords, image-loaded}
+use Rattle.promises.proofs.SheetLists.{refused-listed, written-listed, stopped-listed, lists-done}
 
 -- The walk over the words that its reading left, its reply, and the words that are left then.
 abbrev pub walkOver : (slots : ℕ) (img text words : List ℕ) → Trail

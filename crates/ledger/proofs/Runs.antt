@@ -17,18 +17,18 @@ use Rattle.packrat.specs.Over.{wordAt}
 use Rattle.packrat.specs.Session.{startRun}
 use Rattle.editing.specs.Text.{newLength, textAfter, opened}
 use Rattle.editing.specs.Table.{wordsAfter, tableAfter, clearedTable, heldIn, tableSize}
-use Rattle.ledger.specs.declared.OpenAnswer.{OpenAnswer}
-use Rattle.ledger.specs.declared.EditAnswer.{EditAnswer}
-use Rattle.ledger.specs.declared.LookUpAnswer.{LookUpAnswer}
-use Rattle.ledger.specs.Questions.{Question8, Question9, ofSheet}
-use Rattle.ledger.specs.Promises.{OpenPromise, EditPromise, LookUpPromise}
-use Rattle.ledger.specs.Run.{answerOf, wordsOf}
+use Rattle.promises.specs.declared.OpenAnswer.{OpenAnswer}
+use Rattle.promises.specs.declared.EditAnswer.{EditAnswer}
+use Rattle.promises.specs.declared.LookUpAnswer.{LookUpAnswer}
+use Rattle.promises.specs.Questions.{Question8, Question9, ofSheet}
+use Rattle.promises.specs.Promises.{OpenPromise, EditPromise, LookUpPromise}
+use Rattle.promises.specs.Run.{answerOf, wordsOf}
 use Rattle.ledger.specs.Ledger.{Evaluations, Call, edit, reading, look-up, listing, Reply, edits, reads, finds, Ledger, openedLedger, replies}
 use Rattle.ledger.specs.Demand.{Loan, loan, Link, edit-link, read-link, look-up-link, nextLength, Trace, done, next, RunsExist}
 use Rattle.ledger.proofs.Bools.{both, joined}
-use Rattle.ledger.proofs.Asked.{sheet-first, sheet-passed, edit-9, edit-10, look-up-11}
+use Rattle.promises.proofs.Asked.{sheet-first, sheet-passed, edit-9, edit-10, look-up-11}
 use Rattle.ledger.proofs.Kept.{open-done, edit-refused, edit-done, look-up-refused, look-up-done}
-use Rattle.ledger.proofs.SheetReads.{reads-are}
+use Rattle.promises.proofs.SheetReads.{reads-are}
 use Rattle.ledger.proofs.RunLists.{listReply, listWords, list-linked}
 use Rattle.ledger.proofs.Fresh.{evaluations}
 use Rattle.ledger.proofs.Inv.{lent}

@@ -15,10 +15,10 @@ use Rattle.grammar.proofs.Determinism.{one}
 use Rattle.reading.specs.Plain.{TooDeep}
 use Rattle.editing.specs.Text.{opened}
 use Rattle.editing.specs.Table.{tableSize, clearedTable}
-use Rattle.ledger.specs.declared.OpenAnswer.{OpenAnswer}
-use Rattle.ledger.specs.declared.ReadAnswer.{ReadAnswer}
-use Rattle.ledger.specs.declared.ListAnswer.{ListAnswer}
-use Rattle.ledger.specs.Promises.{OpenPromise}
+use Rattle.promises.specs.declared.OpenAnswer.{OpenAnswer}
+use Rattle.promises.specs.declared.ReadAnswer.{ReadAnswer}
+use Rattle.promises.specs.declared.ListAnswer.{ListAnswer}
+use Rattle.promises.specs.Promises.{OpenPromise}
 use Rattle.ledger.specs.Ledger.{Evaluations, Call, reading, listing, Reply, reads, lists, openedLedger, replies, turn}
 use Rattle.ledger.specs.Ledger.{passes14, passes15, readTurn, listTurn}
 use Rattle.ledger.specs.Demand.{loan}

@@ -25,18 +25,18 @@ use Rattle.editing.specs.Text.{EditFits, newLength, textAfter}
 use Rattle.editing.specs.Table.{pick, tableSize, wordsAfter, tableAfter, heldIn}
 use Rattle.editing.proofs.Ledger.{ledger-after}
 use Rattle.editing.proofs.Loans.{edited-long, edit-opened, after-long, after-tail}
-use Rattle.ledger.specs.declared.EditAnswer.{EditAnswer}
-use Rattle.ledger.specs.Answers.{editNumber}
-use Rattle.ledger.specs.Questions.{ofEdit}
-use Rattle.ledger.specs.Promises.{EditValues, EditPromise}
+use Rattle.promises.specs.declared.EditAnswer.{EditAnswer}
+use Rattle.promises.specs.Answers.{editNumber}
+use Rattle.promises.specs.Questions.{ofEdit}
+use Rattle.promises.specs.Promises.{EditValues, EditPromise}
 use Rattle.ledger.specs.Demand.{nextLength}
 use Rattle.ledger.specs.Ledger.{Evaluations, Ledger, Turn, edit, edits, valueIn, editedText, standing, pairsOf}
 use Rattle.ledger.specs.Ledger.{passes9, passes10, editTurn, turn}
 use Rattle.ledger.proofs.Bools.{both}
-use Rattle.ledger.proofs.Asked.{edit-9, edit-10, edit-0, edit-one}
+use Rattle.promises.proofs.Asked.{edit-9, edit-10, edit-0, edit-one}
 use Rattle.ledger.proofs.Inv.{Inv, held-word, cap-is, short-text, lent, value-of}
 use Rattle.ledger.proofs.Asks.{good, passes-9, fails-9, passes-10, fails-10}
-use Rattle.ledger.proofs.Tables.{lent-table}
+use Rattle.promises.proofs.Tables.{lent-table}
 use Rattle.ledger.proofs.Sums.{count-cut}
 use Rattle.ledger.proofs.Called.{called-within, in-shifted, shifted-in}
 use Rattle.ledger.proofs.Edited.{Stays, Carried, stands-cases, stands-stay, stands-carry, front-length, s-in-after}

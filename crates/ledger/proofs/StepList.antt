@@ -12,14 +12,14 @@ use borrow.Author.Tests.{leb-true, leb-false}
 use Rattle.grammar.specs.Image.{start}
 use Rattle.grammar.specs.Evaluates.{Fresh, a-pair}
 use Rattle.rows.specs.Rows.{rowsOf, rowWords}
-use Rattle.ledger.specs.declared.ReadAnswer.{ReadAnswer}
-use Rattle.ledger.specs.declared.ListAnswer.{ListAnswer}
-use Rattle.ledger.specs.declared.SheetReading.{SheetReading}
-use Rattle.ledger.specs.Listing.{GivesRows, ListedAfter, RefusedAlso, ThenListed, SheetListed, ListPromise}
+use Rattle.promises.specs.declared.ReadAnswer.{ReadAnswer}
+use Rattle.promises.specs.declared.ListAnswer.{ListAnswer}
+use Rattle.promises.specs.declared.SheetReading.{SheetReading}
+use Rattle.promises.specs.Listing.{GivesRows, ListedAfter, RefusedAlso, ThenListed, SheetListed, ListPromise}
 use Rattle.ledger.specs.Ledger.{Evaluations, Ledger, Turn, Reply, listing, edits, reads, finds, lists, valueIn, rowsIn}
 use Rattle.ledger.specs.Ledger.{passes14, passes15, readAnswer, readTurn, listTurn, turn}
 use Rattle.ledger.specs.Demand.{rowsGiven}
-use Rattle.ledger.proofs.Asked.{sheet-first, sheet-one}
+use Rattle.promises.proofs.Asked.{sheet-first, sheet-one}
 use Rattle.ledger.proofs.Inv.{Inv, cap-is, text-is, lent, not-foreign}
 use Rattle.ledger.proofs.StepRead.{sheet-step}
 

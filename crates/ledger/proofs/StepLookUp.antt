@@ -6,11 +6,11 @@ use mathlib.Core.Bool.{Bool, true, false}
 use mathlib.Core.List.{List}
 use lib.ListN.{length}
 use Rattle.packrat.specs.Over.{wordAt}
-use Rattle.ledger.specs.declared.LookUpAnswer.{LookUpAnswer}
-use Rattle.ledger.specs.Answers.{lookUpNumber}
-use Rattle.ledger.specs.Promises.{LookUpPromise, LookUpValues}
+use Rattle.promises.specs.declared.LookUpAnswer.{LookUpAnswer}
+use Rattle.promises.specs.Answers.{lookUpNumber}
+use Rattle.promises.specs.Promises.{LookUpPromise, LookUpValues}
 use Rattle.ledger.specs.Ledger.{Evaluations, Ledger, look-up, finds, passes11, lookUpTurn, turn}
-use Rattle.ledger.proofs.Asked.{look-up-11, look-up-0, look-up-one}
+use Rattle.promises.proofs.Asked.{look-up-11, look-up-0, look-up-one}
 use Rattle.ledger.proofs.Asks.{good, passes-11, fails-11}
 use Rattle.ledger.proofs.Inv.{Inv}
 

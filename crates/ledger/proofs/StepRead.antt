@@ -31,14 +31,14 @@ use Rattle.packrat.proofs.TrueTables.{over-of-fresh, fresh-of-over, bodies-over
 use Rattle.editing.specs.Text.{opened}
 use Rattle.editing.specs.Table.{pick, tableSize, clearedTable}
 use Rattle.editing.proofs.Loans.{cleared-long, cleared-tail, cleared-word}
-use Rattle.ledger.specs.declared.ReadAnswer.{ReadAnswer}
-use Rattle.ledger.specs.Answers.{readNumber, sheetReading}
-use Rattle.ledger.specs.Reading.{AnswersWith, SheetRead, ReadPromise}
+use Rattle.promises.specs.declared.ReadAnswer.{ReadAnswer}
+use Rattle.promises.specs.Answers.{readNumber, sheetReading}
+use Rattle.promises.specs.Reading.{AnswersWith, SheetRead, ReadPromise}
 use Rattle.ledger.specs.Ledger.{Evaluations, Ledger, Turn, reading, reads, openedLedger, valueIn, reachedIn, pairsOf}
 use Rattle.ledger.specs.Ledger.{passes14, readTurn, turn}
 use Rattle.ledger.proofs.Bools.{either, or-left, or-right}
-use Rattle.ledger.proofs.Asked.{sheet-first, sheet-one}
-use Rattle.ledger.proofs.Tables.{lent-table}
+use Rattle.promises.proofs.Asked.{sheet-first, sheet-one}
+use Rattle.promises.proofs.Tables.{lent-table}
 use Rattle.ledger.proofs.Fresh.{same-test}
 use Rattle.ledger.proofs.Inv.{Inv, cap-is, text-is, short-text, lent, holds-is, not-foreign}
 

@@ -10,14 +10,14 @@ use lib.Dec.{leb}
 use Rattle.grammar.specs.Questions.{Accepted}
 use Rattle.reading.specs.declared.plain.PlainAnswer.{PlainAnswer}
 use Rattle.reading.specs.Plain.{PlainRead}
-use Rattle.ledger.specs.declared.OpenAnswer.{OpenAnswer}
-use Rattle.ledger.specs.declared.ReadAnswer.{ReadAnswer}
-use Rattle.ledger.specs.declared.ListAnswer.{ListAnswer}
-use Rattle.ledger.specs.declared.SheetReading.{SheetReading}
-use Rattle.ledger.specs.Answers.{editNumber, readNumber, lookUpNumber, listNumber}
-use Rattle.ledger.specs.Promises.{OpenPromise}
-use Rattle.ledger.specs.Reading.{ReadPromise}
-use Rattle.ledger.specs.Listing.{ListPromise}
+use Rattle.promises.specs.declared.OpenAnswer.{OpenAnswer}
+use Rattle.promises.specs.declared.ReadAnswer.{ReadAnswer}
+use Rattle.promises.specs.declared.ListAnswer.{ListAnswer}
+use Rattle.promises.specs.declared.SheetReading.{SheetReading}
+use Rattle.promises.specs.Answers.{editNumber, readNumber, lookUpNumber, listNumber}
+use Rattle.promises.specs.Promises.{OpenPromise}
+use Rattle.promises.specs.Reading.{ReadPromise}
+use Rattle.promises.specs.Listing.{ListPromise}
 use Rattle.ledger.specs.Ledger.{Evaluations, Call, Reply, edits, reads, finds, lists, openedLedger, rowsIn, newPairs, leftBy}
 use Rattle.ledger.specs.Demand.{loan, rowsGiven, Trace}
 

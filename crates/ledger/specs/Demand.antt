@@ -12,17 +12,17 @@ use Rattle.packrat.specs.Over.{wordAt}
 use Rattle.packrat.specs.True.{IsTrue}
 use Rattle.editing.specs.Text.{opened}
 use Rattle.editing.specs.Table.{pick, tableSize}
-use Rattle.ledger.specs.declared.OpenAnswer.{OpenAnswer}
-use Rattle.ledger.specs.declared.EditAnswer.{EditAnswer}
-use Rattle.ledger.specs.declared.LookUpAnswer.{LookUpAnswer}
-use Rattle.ledger.specs.declared.ReadAnswer.{ReadAnswer}
-use Rattle.ledger.specs.declared.ListAnswer.{ListAnswer}
-use Rattle.ledger.specs.Promises.{OpenPromise, EditPromise, LookUpPromise}
-use Rattle.ledger.specs.Reading.{ReadPromise}
-use Rattle.ledger.specs.Listing.{ListPromise}
+use Rattle.promises.specs.declared.OpenAnswer.{OpenAnswer}
+use Rattle.promises.specs.declared.EditAnswer.{EditAnswer}
+use Rattle.promises.specs.declared.LookUpAnswer.{LookUpAnswer}
+use Rattle.promises.specs.declared.ReadAnswer.{ReadAnswer}
+use Rattle.promises.specs.declared.ListAnswer.{ListAnswer}
+use Rattle.promises.specs.Promises.{OpenPromise, EditPromise, LookUpPromise}
+use Rattle.promises.specs.Reading.{ReadPromise}
+use Rattle.promises.specs.Listing.{ListPromise}
 use Rattle.ledger.specs.Ledger.{Evaluations, Call, Reply, edit, reading, look-up, listing, edits, reads, finds, lists}
 use Rattle.ledger.specs.Ledger.{Ledger, openedLedger, valueIn, replies, leftBy}
-use Rattle.ledger.specs.Questions.{Question8}
+use Rattle.promises.specs.Questions.{Question8}
 
 -- What a call is lent: the image, the text buffer, the text's length and the words.
 pub data Loan : Type 0 where

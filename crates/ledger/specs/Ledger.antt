@@ -18,12 +18,12 @@ use Rattle.rows.specs.Rows.{Row, rowsOf, rowWords}
 use Rattle.editing.specs.Text.{newLength, edited}
 use Rattle.editing.specs.Table.{pick}
 use Rattle.editing.specs.Pairs.{standsAfter}
-use Rattle.ledger.specs.declared.EditAnswer.{EditAnswer}
-use Rattle.ledger.specs.declared.LookUpAnswer.{LookUpAnswer}
-use Rattle.ledger.specs.declared.ReadAnswer.{ReadAnswer}
-use Rattle.ledger.specs.declared.ListAnswer.{ListAnswer}
-use Rattle.ledger.specs.declared.SheetReading.{SheetReading}
-use Rattle.ledger.specs.Answers.{sheetReading}
+use Rattle.promises.specs.declared.EditAnswer.{EditAnswer}
+use Rattle.promises.specs.declared.LookUpAnswer.{LookUpAnswer}
+use Rattle.promises.specs.declared.ReadAnswer.{ReadAnswer}
+use Rattle.promises.specs.declared.ListAnswer.{ListAnswer}
+use Rattle.promises.specs.declared.SheetReading.{SheetReading}
+use Rattle.promises.specs.Answers.{sheetReading}
 
 -- What the ledger knows of a text by an accepted image: the evaluation of each pair by Ford's rules without records, which pairs are
 -- reached, and the rows of the start pair's evaluation. Any functions that give these will do; proofs/Fresh.antt has such functions, and

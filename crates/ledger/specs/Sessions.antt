@@ -6,9 +6,9 @@ use lib.ListN.{length}
 use Rattle.grammar.specs.Image.{rules}
 use Rattle.grammar.specs.Questions.{Accepted}
 use Rattle.editing.specs.Table.{tableSize}
-use Rattle.ledger.specs.declared.OpenAnswer.{OpenAnswer}
-use Rattle.ledger.specs.Questions.{Question8}
-use Rattle.ledger.specs.Promises.{OpenPromise}
+use Rattle.promises.specs.declared.OpenAnswer.{OpenAnswer}
+use Rattle.promises.specs.Questions.{Question8}
+use Rattle.promises.specs.Promises.{OpenPromise}
 use Rattle.ledger.specs.Ledger.{Evaluations, Call, Reply, openedLedger, replies}
 use Rattle.ledger.specs.Demand.{loan, Trace}
 

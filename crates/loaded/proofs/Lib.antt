@@ -1,2 +1,3 @@
--- The words of a loaded grammar.
+-- The words of a loaded grammar, and that a lawful image has one.
 pub mod LoadedWords
+pub mod LoadedImage

@@ -15,14 +15,14 @@ use Rattle.evaluation.specs.Counts.{sumTo}
 use Rattle.records.specs.Words.{valueOf, matchedOf, nestingOf, examinedOf, lengthOf, spareOf, possible}
 use Rattle.packrat.specs.Over.{over}
 use Rattle.reading.specs.declared.plain.Outcome.{Outcome}
-use Rattle.ledger.specs.declared.ReadAnswer.{ReadAnswer}
-use Rattle.ledger.specs.declared.ListAnswer.{ListAnswer}
-use Rattle.ledger.specs.Answers.{readNumber}
-use Rattle.ledger.specs.Questions.{ofSheet}
-use Rattle.ledger.specs.Reading.{SheetRead, ReadPromise}
-use Rattle.ledger.specs.Listing.{ListPromise}
-use Rattle.ledger.proofs.Asked.{sheet-one, sheet-first}
-use Rattle.ledger.proofs.SheetLists.{impossible-listed}
+use Rattle.promises.specs.declared.ReadAnswer.{ReadAnswer}
+use Rattle.promises.specs.declared.ListAnswer.{ListAnswer}
+use Rattle.promises.specs.Answers.{readNumber}
+use Rattle.promises.specs.Questions.{ofSheet}
+use Rattle.promises.specs.Reading.{SheetRead, ReadPromise}
+use Rattle.promises.specs.Listing.{ListPromise}
+use Rattle.promises.proofs.Asked.{sheet-one, sheet-first}
+use Rattle.promises.proofs.SheetLists.{impossible-listed}
 use Rattle.marked.specs.Images.{D2}
 use Rattle.marked.specs.Sessions.{text12a}
 use Rattle.marked.proofs.Images.{d2-accepted}

@@ -25,7 +25,7 @@ use Rattle.reading.specs.declared.plain.Outcome.{Outcome}
 use Rattle.reading.specs.declared.plain.PlainAnswer.{PlainAnswer}
 use Rattle.reading.specs.Plain.{ShortText, DepthAllowed, PlainRead}
 use Rattle.ledger.specs.Sessions.{SessionSays}
-use Rattle.ledger.proofs.Asked.{image-numbers}
+use Rattle.promises.proofs.Asked.{image-numbers}
 use Rattle.ledger.proofs.Sessions.{session-deep}
 use Rattle.marked.specs.Images.{M10, brackets}
 use Rattle.marked.specs.Sessions.{callsDeep, repliesDeep}

@@ -19,7 +19,7 @@ use Rattle.editing.specs.Table.{tableSize, wordAfter, wordsAfter}
 use Rattle.ledger.specs.Ledger.{Call, Reply}
 use Rattle.ledger.specs.Demand.{loan}
 use Rattle.ledger.specs.Sessions.{SessionSays}
-use Rattle.ledger.proofs.LoadedImage.{wordsFrom}
+use Rattle.loaded.proofs.LoadedImage.{wordsFrom}
 use Rattle.ledger.proofs.Runs.{repliesOf}
 use Rattle.ledger.proofs.Sessions.{session-says}
 use Rattle.marked.specs.Images.{D2, parts}

@@ -4,11 +4,11 @@ use native.Mathlib.Omega.{arith}
 use mathlib.Core.Path.{_≡_, refl, ap}
 use mathlib.Core.List.{List}
 use lib.ListN.{length, take, drop, length-append}
-use Rattle.ledger.specs.declared.ReadAnswer.{ReadAnswer}
-use Rattle.ledger.specs.declared.ListAnswer.{ListAnswer}
-use Rattle.ledger.specs.declared.SheetReading.{SheetReading}
-use Rattle.ledger.specs.Answers.{listNumber}
-use Rattle.ledger.specs.Listing.{EndsAs, listed, no-slots, zeroed, ThenListed, SheetListed, ListPromise}
+use Rattle.promises.specs.declared.ReadAnswer.{ReadAnswer}
+use Rattle.promises.specs.declared.ListAnswer.{ListAnswer}
+use Rattle.promises.specs.declared.SheetReading.{SheetReading}
+use Rattle.promises.specs.Answers.{listNumber}
+use Rattle.promises.specs.Listing.{EndsAs, listed, no-slots, zeroed, ThenListed, SheetListed, ListPromise}
 use Rattle.replay.specs.Calls.{rowsIn}
 
 ended :

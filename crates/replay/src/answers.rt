@@ -1,10 +1,10 @@
 // The lines that are printed.
-use ledger::EditAnswer;
-use ledger::ListAnswer;
-use ledger::LookUpAnswer;
-use ledger::OpenAnswer;
-use ledger::ReadAnswer;
-use ledger::SheetReading;
+use promises::EditAnswer;
+use promises::ListAnswer;
+use promises::LookUpAnswer;
+use promises::OpenAnswer;
+use promises::ReadAnswer;
+use promises::SheetReading;
 use reading::plain::Outcome;
 
 fn wide(number: usize) -> u64 {

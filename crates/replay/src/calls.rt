@@ -3,8 +3,8 @@ use crate::answers;
 use crate::fields;
 use crate::fields::Decoded;
 use crate::fields::Numbers;
-use ledger::EditAnswer;
-use ledger::OpenAnswer;
+use promises::EditAnswer;
+use promises::OpenAnswer;
 ghost use mathlib.Core.Path.{_≡_};
 ghost use Rattle.replay.specs.Calls.{afterOpen, afterEdit, Opens, Edits, ReadsSheet};
 

@@ -2,7 +2,7 @@
 use crate::answers;
 use crate::fields;
 use crate::fields::Number;
-use ledger::ListAnswer;
+use promises::ListAnswer;
 ghost use Prim.Native.Nat.{_≤_};
 ghost use mathlib.Core.Path.{_≡_};
 ghost use lib.ListN.{length};

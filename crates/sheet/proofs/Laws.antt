@@ -11,12 +11,12 @@ use Rattle.grammar.specs.Questions.{First, Accepted}
 use Rattle.records.specs.Words.{valueOf}
 use Rattle.packrat.specs.Session.{StartOver}
 use Rattle.editing.specs.Table.{TableLent, clearedTable}
-use Rattle.ledger.specs.declared.ReadAnswer.{ReadAnswer}
-use Rattle.ledger.specs.Answers.{sheetReading}
-use Rattle.ledger.specs.Questions.{Question8, ofSheet}
-use Rattle.ledger.specs.Reading.{ReadPromise}
-use Rattle.ledger.proofs.Asked.{sheet-passed}
-use Rattle.ledger.proofs.SheetReads.{reads-word, reads-number}
+use Rattle.promises.specs.declared.ReadAnswer.{ReadAnswer}
+use Rattle.promises.specs.Answers.{sheetReading}
+use Rattle.promises.specs.Questions.{Question8, ofSheet}
+use Rattle.promises.specs.Reading.{ReadPromise}
+use Rattle.promises.proofs.Asked.{sheet-passed}
+use Rattle.promises.proofs.SheetReads.{reads-word, reads-number}
 
 -- The number of words of a table is far below a machine word.
 pub size-fits : (rules cap : ℕ) → rules ≤ 64 → cap ≤ 65535 → rules * (cap + 1) ≤ 4194304

@@ -20,13 +20,13 @@ use Rattle.listing.specs.declared.list.Listed.{Listed}
 use Rattle.listing.specs.declared.list.Listed.the-variants.{Rows, Refused}
 use Rattle.listing.specs.Listed.{Written, NotWritten, ListedIn, ListedOver}
 use Rattle.editing.specs.Table.{clearedTable}
-use Rattle.ledger.specs.declared.ListAnswer.{ListAnswer}
-use Rattle.ledger.specs.Answers.{sheetReading}
-use Rattle.ledger.specs.Questions.{Question8, ofSheet}
-use Rattle.ledger.specs.Listing.{ListPromise}
-use Rattle.ledger.specs.Run.{stoppedWords}
-use Rattle.ledger.proofs.LoadedImage.{image-loaded}
-use Rattle.ledger.proofs.SheetLists.{refused-listed, written-listed, stopped-listed, lists-done}
+use Rattle.promises.specs.declared.ListAnswer.{ListAnswer}
+use Rattle.promises.specs.Answers.{sheetReading}
+use Rattle.promises.specs.Questions.{Question8, ofSheet}
+use Rattle.promises.specs.Listing.{ListPromise}
+use Rattle.promises.specs.Run.{stoppedWords}
+use Rattle.loaded.proofs.LoadedImage.{image-loaded}
+use Rattle.promises.proofs.SheetLists.{refused-listed, written-listed, stopped-listed, lists-done}
 use Rattle.sheet.proofs.Laws.{accepted-image, loan}
 
 pub below-16 : {k : ℕ} → Number k → k < 16

@@ -1,11 +1,11 @@
 // What the evaluator's word makes of the answer of a reading and a listing.
-use ledger::SheetReading;
+use promises::SheetReading;
 ghost use Prim.Native.Nat.{_<_};
 ghost use mathlib.Core.Path.{_≡_};
 ghost use Rattle.grammar.specs.Image.{rules};
 ghost use Rattle.records.specs.Words.{valueOf};
 ghost use Rattle.editing.specs.Table.{TableLent, clearedTable};
-ghost use Rattle.ledger.specs.Answers.{sheetReading};
+ghost use Rattle.promises.specs.Answers.{sheetReading};
 
 // What a held word says of a text of n bytes, with so many evaluations.
 pub fn reading_of(word: u64, n: usize, evaluations: u64) -> SheetReading

@@ -1,8 +1,8 @@
 // "Edit (s, e, r), r of k bytes: bytes s to e − 1 give way to r".
 use crate::questions;
-use ledger::EditAnswer;
-use ledger::EditedSheet;
-ghost use Rattle.ledger.specs.Promises.{EditPromise};
+use promises::EditAnswer;
+use promises::EditedSheet;
+ghost use Rattle.promises.specs.Promises.{EditPromise};
 
 // Refused with 1 to 10, it leaves buffer and table as they were.
 pub fn edit(

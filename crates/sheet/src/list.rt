@@ -1,16 +1,16 @@
 // "Listing makes a reading, then writes the calls that made the match, parents first, left to right".
 use crate::answers;
 use crate::questions;
-use ledger::ListAnswer;
-use ledger::SheetListing;
 use listing::list::Listed;
+use promises::ListAnswer;
+use promises::SheetListing;
 ghost use mathlib.Core.Path.{_≡_};
 ghost use lib.Dec.{eqb};
 ghost use Rattle.rows.specs.Bounds.{Number};
 ghost use Rattle.editing.specs.Table.{TableLent};
 ghost use Rattle.grammar.specs.Image.{rules};
-ghost use Rattle.ledger.specs.Listing.{ListPromise};
-ghost use Rattle.ledger.specs.Run.{stoppedWords};
+ghost use Rattle.promises.specs.Listing.{ListPromise};
+ghost use Rattle.promises.specs.Run.{stoppedWords};
 
 // The number with which the walk stopped: 12, 14 or 15. "zeroes the table with 12 and 14"; with 15 the reading's records stay.
 fn stopped(image: &[u8], cap: usize, table: &mut [u64], number: usize) -> u8

@@ -1,7 +1,7 @@
 // "Look-up: gives the true word of a held pair, else 0. The program gives the slot's word whole."
 use crate::questions;
-use ledger::LookUpAnswer;
-ghost use Rattle.ledger.specs.Promises.{LookUpPromise};
+use promises::LookUpAnswer;
+ghost use Rattle.promises.specs.Promises.{LookUpPromise};
 
 // Refused with 1 to 8 or 11.
 pub fn look_up(

@@ -1,7 +1,7 @@
 // "Open: copies the text, zeroes the rest of the buffer and the table; the set is empty."
 use crate::questions;
-use ledger::OpenAnswer;
-ghost use Rattle.ledger.specs.Promises.{OpenPromise};
+use promises::OpenAnswer;
+ghost use Rattle.promises.specs.Promises.{OpenPromise};
 
 // Refused with 1 to 8, it leaves buffer and table as they were.
 pub fn open(image: &[u8], text: &[u8], buffer: &mut [u8], table: &mut [u64]) -> OpenAnswer

@@ -1,6 +1,6 @@
 // "Every call checks the image (1 to 7) and the loan (8), then its own."
 ghost use Rattle.grammar.specs.Questions.{First};
-ghost use Rattle.ledger.specs.Questions.{ofSheet};
+ghost use Rattle.promises.specs.Questions.{ofSheet};
 
 // The number of the first of questions 1 to 8 that fails, 0 where none does: for a buffer of cap bytes, a text of n and so many words.
 pub fn asked(image: &[u8], cap: usize, n: usize, words: usize) -> u8

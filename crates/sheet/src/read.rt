@@ -1,8 +1,8 @@
 // "Reading: the answer is the start pair's evaluation, as whole, part or none".
 use crate::answers;
 use crate::questions;
-use ledger::ReadAnswer;
-ghost use Rattle.ledger.specs.Reading.{ReadPromise};
+use promises::ReadAnswer;
+ghost use Rattle.promises.specs.Reading.{ReadPromise};
 
 // Refused with 1 to 8, it leaves the table as it was; with 12 or 14 the table becomes 0.
 pub fn read_sheet(image: &[u8], buffer: &[u8], n: usize, table: &mut [u64]) -> ReadAnswer

@@ -1,7 +1,7 @@
 use native.Mathlib.Omega.{arith}
 use mathlib.Core.Path.{refl}
 use lib.ListN.{length}
-use Rattle.ledger.proofs.Asked.{front-edit, edit-9, edit-10, edit-0}
+use Rattle.promises.proofs.Asked.{front-edit, edit-9, edit-10, edit-0}
 use Rattle.sheet.proofs.Laws.{passed, loan, table-lent}
 use borrow.Author.Needs.{needs}
 use Rattle.sheet.proofs.edit.edit.Statement.{statement}

@@ -2,7 +2,7 @@ use Prim.Native.Nat.{_-_}
 use native.Mathlib.Omega.{arith}
 use mathlib.Core.Path.{refl}
 use lib.ListN.{length}
-use Rattle.ledger.proofs.SheetLists.{lists-unasked}
+use Rattle.promises.proofs.SheetLists.{lists-unasked}
 use Rattle.sheet.proofs.Laws.{passed, loan, accepted-image, table-lent, part-short}
 use Rattle.sheet.proofs.ListLaws.{stop-number, list-refused, list-rows, list-stopped}
 use borrow.Author.Needs.{needs}

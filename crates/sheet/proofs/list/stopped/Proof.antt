@@ -1,7 +1,7 @@
 use mathlib.Core.Path.{sym, ap, _∙_}
 use mathlib.Core.Bool.{Bool}
 use borrow.Author.Tests.{eq-eqb, ne-eqb}
-use Rattle.ledger.specs.Run.{stoppedWords}
+use Rattle.promises.specs.Run.{stoppedWords}
 use Rattle.sheet.proofs.ListLaws.{below-16}
 use borrow.Author.Needs.{needs}
 use Rattle.sheet.proofs.list.stopped.Statement.{statement}

@@ -2,7 +2,7 @@ use Prim.Native.Nat.{ℕ}
 use native.Mathlib.Omega.{arith}
 use mathlib.Core.Path.{ap, _∙_}
 use lib.ListN.{length, getD}
-use Rattle.ledger.proofs.Asked.{front-look-up, look-up-11, look-up-0}
+use Rattle.promises.proofs.Asked.{front-look-up, look-up-11, look-up-0}
 use Rattle.records.specs.Slots.{slotOf}
 use Rattle.sheet.proofs.Laws.{passed, loan, few-rules}
 use borrow.Author.Needs.{needs}

@@ -3,7 +3,7 @@ use native.Mathlib.Omega.{arith}
 use mathlib.Core.Path.{subst}
 use Rattle.grammar.specs.Questions.{Checked}
 use Rattle.grammar.proofs.Acceptance.{accepted}
-use Rattle.ledger.proofs.Asked.{image-first, loan-first, sheet-first}
+use Rattle.promises.proofs.Asked.{image-first, loan-first, sheet-first}
 use Rattle.sheet.proofs.Laws.{size-fits}
 use borrow.Author.Needs.{needs}
 use Rattle.sheet.proofs.questions.asked.Statement.{statement}

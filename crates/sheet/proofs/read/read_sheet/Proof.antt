@@ -2,7 +2,7 @@ use Prim.Native.Nat.{_-_}
 use native.Mathlib.Omega.{arith}
 use mathlib.Core.Path.{refl}
 use lib.ListN.{length}
-use Rattle.ledger.proofs.SheetReads.{reads-unasked}
+use Rattle.promises.proofs.SheetReads.{reads-unasked}
 use Rattle.sheet.proofs.Laws.{passed, loan, accepted-image, table-lent, part-short, read-refused, read-answered}
 use borrow.Author.Needs.{needs}
 use Rattle.sheet.proofs.read.read_sheet.Statement.{statement}

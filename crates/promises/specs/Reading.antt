@@ -18,10 +18,10 @@ use Rattle.packrat.specs.True.{TrueTable}
 use Rattle.packrat.specs.Closed.{ClosedTable}
 use Rattle.packrat.specs.Stores.{Stores, evaluations}
 use Rattle.editing.specs.Table.{tableSize, clearedTable}
-use Rattle.ledger.specs.declared.ReadAnswer.{ReadAnswer}
-use Rattle.ledger.specs.declared.SheetReading.{SheetReading}
-use Rattle.ledger.specs.Answers.{readNumber, sheetReading}
-use Rattle.ledger.specs.Questions.{ofSheet}
+use Rattle.promises.specs.declared.ReadAnswer.{ReadAnswer}
+use Rattle.promises.specs.declared.SheetReading.{SheetReading}
+use Rattle.promises.specs.Answers.{readNumber, sheetReading}
+use Rattle.promises.specs.Questions.{ofSheet}
 
 -- No foreign records: every held word of a pair of the text is true, its nesting is at most 4,096 (TrueTable), and the pairs that its
 -- body calls are held (ClosedTable). Words at positions above n are not asked: a reading never meets them.

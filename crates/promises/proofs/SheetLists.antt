@@ -29,16 +29,16 @@ use Rattle.rows.specs.Bounds.{Number, impossible, too-deep, no-slot}
 use Rattle.rows.specs.Fits.{Fits, rows-fit, too-many}
 use Rattle.rows.proofs.Listed.{reading-lists}
 use Rattle.editing.specs.Table.{tableSize, clearedTable}
-use Rattle.ledger.specs.declared.ReadAnswer.{ReadAnswer}
-use Rattle.ledger.specs.declared.ListAnswer.{ListAnswer}
-use Rattle.ledger.specs.declared.SheetReading.{SheetReading}
-use Rattle.ledger.specs.Answers.{readNumber, sheetReading}
-use Rattle.ledger.specs.Questions.{ofSheet}
-use Rattle.ledger.specs.Reading.{NotForeign, SheetRead}
-use Rattle.ledger.specs.Listing.{GivesRows, listed, no-slots, zeroed, RefusedAlso, ThenListed, SheetListed, ListPromise}
-use Rattle.ledger.specs.Run.{answerOf, wordsOf, stoppedWords}
-use Rattle.ledger.proofs.Tables.{size-up}
-use Rattle.ledger.proofs.SheetReads.{sheet-read}
+use Rattle.promises.specs.declared.ReadAnswer.{ReadAnswer}
+use Rattle.promises.specs.declared.ListAnswer.{ListAnswer}
+use Rattle.promises.specs.declared.SheetReading.{SheetReading}
+use Rattle.promises.specs.Answers.{readNumber, sheetReading}
+use Rattle.promises.specs.Questions.{ofSheet}
+use Rattle.promises.specs.Reading.{NotForeign, SheetRead}
+use Rattle.promises.specs.Listing.{GivesRows, listed, no-slots, zeroed, RefusedAlso, ThenListed, SheetListed, ListPromise}
+use Rattle.promises.specs.Run.{answerOf, wordsOf, stoppedWords}
+use Rattle.promises.proofs.Tables.{size-up}
+use Rattle.promises.proofs.SheetReads.{sheet-read}
 
 -- The words of a walk, and the number of one that stopped.
 abbrev given : Trail → List ℕ

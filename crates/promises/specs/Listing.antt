@@ -11,12 +11,12 @@ use Rattle.grammar.specs.Evaluates.{Fresh, a-pair}
 use Rattle.grammar.specs.Questions.{First}
 use Rattle.rows.specs.Rows.{rowsOf, rowWords}
 use Rattle.editing.specs.Table.{clearedTable}
-use Rattle.ledger.specs.declared.ReadAnswer.{ReadAnswer}
-use Rattle.ledger.specs.declared.ListAnswer.{ListAnswer}
-use Rattle.ledger.specs.declared.SheetReading.{SheetReading}
-use Rattle.ledger.specs.Answers.{listNumber}
-use Rattle.ledger.specs.Questions.{ofSheet}
-use Rattle.ledger.specs.Reading.{NotForeign, SheetRead}
+use Rattle.promises.specs.declared.ReadAnswer.{ReadAnswer}
+use Rattle.promises.specs.declared.ListAnswer.{ListAnswer}
+use Rattle.promises.specs.declared.SheetReading.{SheetReading}
+use Rattle.promises.specs.Answers.{listNumber}
+use Rattle.promises.specs.Questions.{ofSheet}
+use Rattle.promises.specs.Reading.{NotForeign, SheetRead}
 
 -- After a reading that answered x, in the row slots R: "15. Rows: do the rows fit? No: 15." "The answer is the reading's and the number of
 -- rows. Rows past the last written stay."

@@ -33,13 +33,13 @@ use Rattle.packrat.proofs.TrueReads.{start-deep, only-14}
 use Rattle.packrat.specs.Session.{startRun}
 use Rattle.editing.specs.Table.{tableSize, TableLent, clearedTable}
 use Rattle.editing.proofs.Loans.{cleared-long, cleared-tail}
-use Rattle.ledger.specs.declared.ReadAnswer.{ReadAnswer}
-use Rattle.ledger.specs.Answers.{readNumber, sheetReading}
-use Rattle.ledger.specs.Questions.{Question8, ofSheet}
-use Rattle.ledger.specs.Reading.{NotForeign, AnswersWith, SheetRead, ReadPromise}
-use Rattle.ledger.specs.Run.{answerOf, wordsOf}
-use Rattle.ledger.proofs.Asked.{sheet-first}
-use Rattle.ledger.proofs.Tables.{slot-in, size-up, lent-table, same-rest}
+use Rattle.promises.specs.declared.ReadAnswer.{ReadAnswer}
+use Rattle.promises.specs.Answers.{readNumber, sheetReading}
+use Rattle.promises.specs.Questions.{Question8, ofSheet}
+use Rattle.promises.specs.Reading.{NotForeign, AnswersWith, SheetRead, ReadPromise}
+use Rattle.promises.specs.Run.{answerOf, wordsOf}
+use Rattle.promises.proofs.Asked.{sheet-first}
+use Rattle.promises.proofs.Tables.{slot-in, size-up, lent-table, same-rest}
 
 module _ (img text : List ℕ) (cap : ℕ) (W : List ℕ) (accepted : Accepted img) (small : cap ≤ 65535) (fits : length text ≤ cap)
     (whole : tableSize (rules img) cap ≤ length W)

@@ -9,12 +9,12 @@ use Rattle.grammar.specs.Questions.{First}
 use Rattle.packrat.specs.Over.{wordAt}
 use Rattle.editing.specs.Text.{newLength, textAfter, opened}
 use Rattle.editing.specs.Table.{wordsAfter, tableAfter, clearedTable, heldIn}
-use Rattle.ledger.specs.declared.OpenAnswer.{OpenAnswer}
-use Rattle.ledger.specs.declared.EditAnswer.{EditAnswer}
-use Rattle.ledger.specs.declared.EditedSheet.{EditedSheet}
-use Rattle.ledger.specs.declared.LookUpAnswer.{LookUpAnswer}
-use Rattle.ledger.specs.Answers.{openNumber, editNumber, lookUpNumber}
-use Rattle.ledger.specs.Questions.{ofSheet, ofEdit, ofLookUp}
+use Rattle.promises.specs.declared.OpenAnswer.{OpenAnswer}
+use Rattle.promises.specs.declared.EditAnswer.{EditAnswer}
+use Rattle.promises.specs.declared.EditedSheet.{EditedSheet}
+use Rattle.promises.specs.declared.LookUpAnswer.{LookUpAnswer}
+use Rattle.promises.specs.Answers.{openNumber, editNumber, lookUpNumber}
+use Rattle.promises.specs.Questions.{ofSheet, ofEdit, ofLookUp}
 
 -- A refused call: it has a number, and every byte and word is as it was.
 pub record Unchanged (number : ℕ) (B W B′ W′ : List ℕ) : Type 0 where

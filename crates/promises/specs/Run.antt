@@ -6,8 +6,8 @@ use mathlib.Core.List.{List}
 use Rattle.grammar.specs.Image.{rules}
 use Rattle.packrat.specs.Model.{answered, refused, Out, out}
 use Rattle.editing.specs.Table.{clearedTable}
-use Rattle.ledger.specs.declared.ReadAnswer.{ReadAnswer}
-use Rattle.ledger.specs.Answers.{sheetReading}
+use Rattle.promises.specs.declared.ReadAnswer.{ReadAnswer}
+use Rattle.promises.specs.Answers.{sheetReading}
 
 -- An answered run is reported, of a text of n bytes, with the count of evaluated pairs; a refused one gives its number.
 abbrev pub answerOf : (n : ℕ) → Out → ReadAnswer

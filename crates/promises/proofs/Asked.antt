@@ -7,7 +7,7 @@ use mathlib.Core.Logic.{inl, inr}
 use Rattle.grammar.specs.Questions.{Question, First, ofImage, Checked, Accepted}
 use Rattle.grammar.proofs.First.{Numbered, then-asked, refused-before, unique}
 use Rattle.grammar.proofs.Acceptance.{accepted, checked}
-use Rattle.ledger.specs.Questions.{Question8, Question9, Question10, Question11, ofSheet, ofEdit, ofLookUp}
+use Rattle.promises.specs.Questions.{Question8, Question9, Question10, Question11, ofSheet, ofEdit, ofLookUp}
 
 -- Where qs and then rs all hold, both do.
 first-parts : (qs rs : List Question) → Numbered qs → First (qs ++ rs) 0 → First qs 0 × First rs 0
