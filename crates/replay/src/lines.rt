@@ -1,10 +1,9 @@
 // What a line does to a session.
-use crate::answers;
-use crate::calls;
-use crate::fields;
-use crate::fields::Decoded;
-use crate::fields::Numbers;
-use crate::listing;
+use fields::Decoded;
+use fields::Numbers;
+use reporting::answers;
+use reporting::calls;
+use reporting::listing;
 use crate::verbs;
 use crate::verbs::Verb;
 

@@ -1,5 +1,4 @@
 // What a line asks for: its first field.
-use crate::fields;
 
 pub enum Verb {
     Blank,

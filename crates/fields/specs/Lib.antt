@@ -1,0 +1,2 @@
+-- What a field of a line means.
+pub mod Fields

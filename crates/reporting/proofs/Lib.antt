@@ -1,0 +1,2 @@
+-- The laws of the rows that are printed.
+pub mod Rows

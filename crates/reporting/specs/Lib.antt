@@ -1,0 +1,2 @@
+-- What a call that is made and reported keeps.
+pub mod Calls
