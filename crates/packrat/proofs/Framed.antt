@@ -117,7 +117,7 @@ module _ (img text : List ℕ) where
         → (t : List ℕ) (c : ℕ) → Framed img text t p (afterRound m z more p x t c)
     unfolding afterRound
     round-framed false z more p x w rest t c = still t p c _ (last-within w)
-    round-framed true true more p x w rest t c = still t p c (refused 12) (inl refl)
+    round-framed true true more p x w rest t c = still t p c _ (search (last-within, inl, refl))
     round-framed true false more p x w rest t c = remade (rest t c) (roundThen x) (λ y v. round-within w v)
 
     rounds-framed : (fuel a p : ℕ) → a < nodes img → p ≤ length text → (t : List ℕ) (c : ℕ) → Framed img text t p (roundsM fuel ev a p t c)

@@ -32,7 +32,7 @@ listNumber (ListAnswer.Listed x) = 0
 listNumber (ListAnswer.Refused k) = k
 
 -- "Reading: the answer is the start pair's evaluation, as whole, part or none": of a text of n bytes, the evaluation z and so many
--- evaluations. `outcomeOf` is whole where z matched and its length is n, part where it matched with another, and nothing where it failed.
+-- evaluations. The outcome is the one that `Says` of the plain reading names (crate `reading`, `OutcomeSays`).
 abbrev pub sheetReading : (n : ℕ) → Evaluation → (evaluations : ℕ) → SheetReading
 sheetReading n z count =
     record {

@@ -1,4 +1,5 @@
 -- The lemmas of the plain reading.
+pub mod Outcomes
 pub mod PlainReading
 pub mod Coding
 pub mod Consuming

@@ -22,7 +22,8 @@ use Rattle.records.specs.Words.{valueOf}
 use Rattle.reading.specs.declared.plain.Reading.{Reading}
 use Rattle.reading.specs.declared.plain.PlainAnswer.the-variants.{Read, Refused}
 use Rattle.packrat.specs.Model.{nodeM, ruleM}
-use Rattle.reading.specs.Plain.{Says, Reports, ShortText, DepthAllowed, PlainRead, outcomeOf, readingOf}
+use Rattle.reading.proofs.Outcomes.{outcome-says}
+use Rattle.reading.specs.Plain.{Reports, ShortText, DepthAllowed, PlainRead, readingOf}
 use Rattle.packrat.specs.Session.{StartWord}
 use Rattle.packrat.proofs.Gives.{found, was-refused, says}
 use Rattle.evaluation.specs.Calls.{bodiesOf}
@@ -32,12 +33,7 @@ use Rattle.packrat.proofs.OverTables.{Result, fine, deep, pair-over}
 
 -- What a reading reports.
 reported : (n : ℕ) (z : Evaluation) → z .length ≤ n → Reports n z (readingOf n z)
-reported n z h = record { outcome-is = go (z .matched) refl (eqb (z .length) n) refl; length-is = refl; examined-is = refl; nesting-is = refl }
-  where
-    go : (m : Bool) → z .matched ≡ m → (b : Bool) → eqb (z .length) n ≡ b → Says (outcomeOf m b) n z
-    go false e b f = e
-    go true e true f = (e, eqb-true (z .length) n f)
-    go true e false f = let ne = eqb-false (z .length) n f in (e, omega (arith, ne))
+reported n z h = record { outcome-is = outcome-says n z h; length-is = refl; examined-is = refl; nesting-is = refl }
 
 numbers : (img : List ℕ) → Rattle.grammar.proofs.First.Numbered (ofImage img)
 numbers img = (omega arith, (omega arith, (omega arith, (omega arith, (omega arith, (omega arith, (omega arith, tt)))))))

@@ -72,12 +72,17 @@ pub record PlainRead (img text : List ℕ) (r : PlainAnswer) : Type 0 where
   pub first : First (ofPlain img text) (numberOf r)
   pub values : Values img text r
 
--- For the functions inside: the reading that an evaluation is reported as.
+-- The outcome as a function: the answer of a sheet's reading is made by it (crate `promises`, `sheetReading`). It is the one that `Says` names,
+-- for every evaluation in a text of n bytes (proofs/Outcomes.antt, `outcome-says`).
 abbrev pub outcomeOf : (matched full : Bool) → Outcome
 outcomeOf false full = Nothing
 outcomeOf true true = Whole
 outcomeOf true false = Part
 
+abbrev pub OutcomeSays : Type 0
+OutcomeSays = (n : ℕ) (z : Evaluation) → z .length ≤ n → Says (outcomeOf (z .matched) (eqb (z .length) n)) n z
+
+-- For the functions inside: the reading that an evaluation is reported as.
 abbrev pub readingOf : ℕ → Evaluation → Reading
 readingOf n z =
     record {

@@ -1,11 +1,11 @@
 // What a line does to a session.
+use crate::verbs;
+use crate::verbs::Verb;
 use fields::Decoded;
 use fields::Numbers;
 use reporting::answers;
 use reporting::calls;
 use reporting::listing;
-use crate::verbs;
-use crate::verbs::Verb;
 
 // How much of each buffer is lent to the next call, and the text's length.
 pub struct Session {

@@ -129,16 +129,12 @@ start-rows img text a {z} u =
 pub fields-fit : {R from to top : ℕ} {r : Row} → R ≤ 64 → to ≤ 65535 → top ≤ 4096 → Inside R from to top r → Fields (rowWord r) r
 unfolding rowWord
 fields-fit {r = r} a b c i =
-    let rule : r .rule < 2 ^ 8 = omega (arith, i .rule-in) in
-    let depth : r .depth < 2 ^ 16 = omega (arith, i .shallow) in
-    let start : r .start < 2 ^ 16 = omega (arith, i .up-to) in
-    let length : r .length < 2 ^ 16 = omega (arith, i .up-to) in
     record {
-      rule-is = omega arith;
-      zero-bits = omega arith;
-      depth-is = omega arith;
-      start-is = omega arith;
-      length-is = omega arith;
+      rule-fits = omega (arith, i .rule-in);
+      depth-fits = omega (arith, i .shallow);
+      start-fits = omega (arith, i .up-to);
+      length-fits = omega (arith, i .up-to);
+      all-bits = omega arith;
     }
 
 all-fields : {R from to top : ℕ} {rs : List Row} → R ≤ 64 → to ≤ 65535 → top ≤ 4096 → AllInside R from to top rs → AllFields rs

@@ -1,12 +1,11 @@
 -- The rows of a listing: "the calls that made the match, parents first, left to right; calls under a not, in a failed choice or in a
 -- failed round give no row. The start rule has a row." They are read off an evaluation by Ford's rules, not off the walk that writes
 -- them; any two derivations of an evaluation have the same rows (proofs/RowsOnce).
-use Prim.Native.Nat.{ℕ, _+_, _*_, _^_}
+use Prim.Native.Nat.{ℕ, _+_, _*_, _^_, _<_}
 use mathlib.Core.Path.{_≡_}
 use mathlib.Core.Bool.{Bool, true, false}
 use mathlib.Core.List.{List, [], _∷_, _++_}
 use Rattle.grammar.specs.declared.Evaluation.{Evaluation}
-use Rattle.grammar.specs.Image.{field}
 use Rattle.grammar.specs.Evaluates.{Fresh, Subject}
 use Rattle.grammar.specs.Evaluates.{ev-empty, ev-terminal, ev-then-first-fails, ev-then, ev-else-first, ev-else-second}
 use Rattle.grammar.specs.Evaluates.{ev-star, ev-last-round, ev-round, ev-not, ev-call, ev-body, ev-record}
@@ -22,13 +21,14 @@ pub record Row : Type 0 where
 unfoldable pub rowWord : Row → ℕ
 rowWord r = r .rule * 2 ^ 56 + r .depth * 2 ^ 32 + r .start * 2 ^ 16 + r .length
 
--- A word that has a row's fields in these bits. The rows of a text that is not too deep have such words (proofs/RowsInside, `start-fields`).
+-- A word that has a row's fields, each in its bits, and nothing else: the five fields, most significant first, are all 64 bits of it. The
+-- rows of a text that is not too deep have such words (proofs/RowsInside, `start-fields`).
 pub record Fields (word : ℕ) (r : Row) : Type 0 where
-  pub rule-is : field word 56 8 ≡ r .rule
-  pub zero-bits : field word 48 8 ≡ 0
-  pub depth-is : field word 32 16 ≡ r .depth
-  pub start-is : field word 16 16 ≡ r .start
-  pub length-is : field word 0 16 ≡ r .length
+  pub rule-fits : r .rule < 2 ^ 8
+  pub depth-fits : r .depth < 2 ^ 16
+  pub start-fits : r .start < 2 ^ 16
+  pub length-fits : r .length < 2 ^ 16
+  pub all-bits : word ≡ (((r .rule * 2 ^ 8 + 0) * 2 ^ 16 + r .depth) * 2 ^ 16 + r .start) * 2 ^ 16 + r .length
 
 abbrev pub AllFields : List Row → Type 0
 AllFields [] = Unit {0}
