@@ -5,7 +5,6 @@ use native.Mathlib.Nat.{mul-le-mul}
 use mathlib.Core.Path.{_≡_, subst}
 use mathlib.Core.List.{List}
 use lib.ListN.{length, take}
-use lib.Seq.{length-take-le}
 use Rattle.grammar.specs.Image.{rules}
 use Rattle.grammar.specs.Questions.{First, Accepted}
 use Rattle.records.specs.Words.{valueOf}
@@ -16,6 +15,7 @@ use Rattle.promises.specs.Answers.{sheetReading}
 use Rattle.promises.specs.Questions.{Question8, ofSheet}
 use Rattle.promises.specs.Reading.{ReadPromise}
 use Rattle.promises.proofs.Asked.{sheet-passed}
+use Rattle.promises.proofs.Tables.{size-up}
 use Rattle.promises.proofs.SheetReads.{reads-word, reads-number}
 
 -- The number of words of a table is far below a machine word.
@@ -37,22 +37,18 @@ module _ (img : List ℕ) (cap n words : ℕ) (good : First (ofSheet img cap n w
   pub few-rules : rules img ≤ 64
   few-rules = accepted-image .lawful .counts .few-rules
 
-  pub table-lent : {R : ℕ} → R ≡ rules img → (W : List ℕ) → length W ≡ words → TableLent R cap W
-  table-lent e W l =
+  -- The table of a text of at most cap bytes.
+  pub table-lent : {R m : ℕ} → R ≡ rules img → m ≤ cap → (W : List ℕ) → length W ≡ words → TableLent R m W
+  table-lent {R} {m} e h W l =
       record {
-        most = loan .short;
+        most = omega (arith, loan .short);
         some-rules = omega (arith, accepted-image .lawful .counts .some-rules);
         most-rules = omega (arith, few-rules);
-        whole = rw (e, l) (loan .whole-table);
+        whole = rw (e, l) (omega (arith, size-up (rules img) m cap h, loan .whole-table));
       }
 
 -- A reading: the run's word, table and count. The code lends the bytes 0 to n of the buffer, which are n − 0.
 module _ (img B : List ℕ) (n : ℕ) (W : List ℕ) (good : First (ofSheet img (length B) n (length W)) 0) where
-  pub part-short : {m : ℕ} → m ≡ n → length (take m B) ≤ 65535
-  part-short e =
-      let q = loan img (length B) n (length W) good in
-      rw (e, length-take-le n B (q .text-fits)) (omega (arith, q .short, q .text-fits))
-
   module _ {m word count : ℕ} {after : List ℕ} (run : StartOver img (take m B) W 0 word after count) (e : m ≡ n) where
     whole-text : StartOver img (take n B) W 0 word after count
     whole-text = subst (λ (k : ℕ). StartOver img (take k B) W 0 word after count) e run

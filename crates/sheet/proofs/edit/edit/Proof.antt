@@ -79,7 +79,7 @@ edit-table-requires c κs =
     let n = c .before .before .before .before .before .before .before .before .before .before .before .args .n in
     let table = c .before .before .before .before .before .before .before .before .before .before .before .args .table .now in
     let good = passed image (length buffer) n (length table) (c .before .before .before .before .before .before .asked .ensures) (c .before .before .before .before .before .if1 .left) in
-    (table-lent image (length buffer) n (length table) good (c .before .header-of .ensures .its-rules) table refl, record { lent = loan image (length buffer) n (length table) good .text-fits; ordered = c .before .before .before .before .if2 .left; within = c .before .before .before .if3 .left; room = c .before .before .if4 .left })
+    (table-lent image (length buffer) n (length table) good (c .before .header-of .ensures .its-rules) (omega arith) table refl, record { lent = loan image (length buffer) n (length table) good .text-fits; ordered = c .before .before .before .before .if2 .left; within = c .before .before .before .if3 .left; room = c .before .before .if4 .left })
 
 edit-text-requires : tie.Need-edit-text-requires
 edit-text-requires c κs =
@@ -88,7 +88,10 @@ edit-text-requires c κs =
     let n = c .before .before .before .before .before .before .before .before .before .before .before .before .before .before .before .args .n in
     let table = c .before .before .before .before .before .before .before .before .before .before .before .before .before .before .before .args .table .now in
     let good = passed image (length buffer) n (length table) (c .before .before .before .before .before .before .before .before .before .before .asked .ensures) (c .before .before .before .before .before .before .before .before .before .if1 .left) in
-    record { lent = loan image (length buffer) n (length table) good .text-fits; ordered = c .before .before .before .before .before .before .before .before .if2 .left; within = c .before .before .before .before .before .before .before .if3 .left; room = c .before .before .before .before .before .before .if4 .left }
+    let fits = loan image (length buffer) n (length table) good .text-fits in
+    let within = c .before .before .before .before .before .before .before .if3 .left in
+    let room = c .before .before .before .before .before .before .if4 .left in
+    record { lent = omega (arith, fits, within); ordered = c .before .before .before .before .before .before .before .before .if2 .left; within = omega (arith, within); room = omega (arith, room) }
 
 same-length : tie.Need-same-length
 same-length c = search needs

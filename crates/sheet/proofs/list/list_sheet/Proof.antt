@@ -1,9 +1,9 @@
 use Prim.Native.Nat.{_-_}
 use native.Mathlib.Omega.{arith}
 use mathlib.Core.Path.{refl}
-use lib.ListN.{length}
+use lib.ListN.{length, length-take}
 use Rattle.promises.proofs.SheetLists.{lists-unasked}
-use Rattle.sheet.proofs.Laws.{passed, loan, accepted-image, table-lent, part-short}
+use Rattle.sheet.proofs.Laws.{passed, loan, accepted-image, table-lent}
 use Rattle.sheet.proofs.ListLaws.{stop-number, list-refused, list-rows, list-stopped}
 use borrow.Author.Needs.{needs}
 use Rattle.sheet.proofs.list.list_sheet.Statement.{statement}
@@ -29,7 +29,7 @@ part-start-over-end c =
     let n = c .before .before .before .before .before .before .args .n in
     let table = c .before .before .before .before .before .before .args .table .now in
     let good = passed image (length buffer) n (length table) (c .before .asked .ensures) (c .if1 .left) in
-    loan image (length buffer) n (length table) good .text-fits
+    omega (arith, loan image (length buffer) n (length table) good .text-fits)
 
 start-over-requires : tie.Need-start-over-requires
 start-over-requires c κs =
@@ -38,7 +38,7 @@ start-over-requires c κs =
     let n = c .before .before .before .before .before .before .before .before .before .args .n in
     let table = c .before .before .before .before .before .before .before .before .before .args .table .now in
     let good = passed image (length buffer) n (length table) (c .before .before .before .before .asked .ensures) (c .before .before .before .if1 .left) in
-    (accepted-image image (length buffer) n (length table) good, part-short image buffer n table good {m = n - 0} (omega arith))
+    (accepted-image image (length buffer) n (length table) good, simp length-take (omega (arith, loan image (length buffer) n (length table) good .short)))
 
 zeroed-requires : tie.Need-zeroed-requires
 zeroed-requires c κs =
@@ -47,7 +47,7 @@ zeroed-requires c κs =
     let n = c .before .before .before .before .before .before .before .before .before .before .before .before .before .before .args .n in
     let table = c .before .before .before .before .before .before .before .before .before .before .before .before .before .before .args .table .now in
     let good = passed image (length buffer) n (length table) (c .before .before .before .before .before .before .before .before .before .asked .ensures) (c .before .before .before .before .before .before .before .before .if1 .left) in
-    (c .before .if2 .taken, table-lent image (length buffer) n (length table) good refl _ (c .before .before .before .before .start-over .kept .1 .1 .0))
+    (omega (arith, c .before .if2 .taken), table-lent image (length buffer) n (length table) good refl (omega (arith, loan image (length buffer) n (length table) good .text-fits)) _ (c .before .before .before .before .start-over .kept .1 .1 .0))
 
 same-length : tie.Need-same-length
 same-length c = search needs
@@ -76,7 +76,7 @@ part-list-over-end c =
     let n = c .before .before .before .before .before .before .before .before .before .before .before .before .before .args .n in
     let table = c .before .before .before .before .before .before .before .before .before .before .before .before .before .args .table .now in
     let good = passed image (length buffer) n (length table) (c .before .before .before .before .before .before .before .before .asked .ensures) (c .before .before .before .before .before .before .before .if1 .left) in
-    loan image (length buffer) n (length table) good .text-fits
+    omega (arith, loan image (length buffer) n (length table) good .text-fits)
 
 list-over-requires : tie.Need-list-over-requires
 list-over-requires c κs =
@@ -85,7 +85,7 @@ list-over-requires c κs =
     let n = c .before .before .before .before .before .before .before .before .before .before .before .before .before .before .before .before .args .n in
     let table = c .before .before .before .before .before .before .before .before .before .before .before .before .before .before .before .before .args .table .now in
     let good = passed image (length buffer) n (length table) (c .before .before .before .before .before .before .before .before .before .before .before .asked .ensures) (c .before .before .before .before .before .before .before .before .before .before .if1 .left) in
-    (accepted-image image (length buffer) n (length table) good, part-short image buffer n table good {m = n - 0} (omega arith))
+    (accepted-image image (length buffer) n (length table) good, simp length-take (omega (arith, loan image (length buffer) n (length table) good .short)))
 
 enum-known-written : tie.Need-enum-known-written
 enum-known-written c = search needs
@@ -105,7 +105,7 @@ stopped-requires c κs =
     let good = passed image (length buffer) n (length table) (c .before .before .before .before .before .before .before .before .before .before .before .before .before .before .before .before .before .before .asked .ensures) (c .before .before .before .before .before .before .before .before .before .before .before .before .before .before .before .before .before .if1 .left) in
     let rows = c .before .before .before .before .before .before .before .before .before .before .before .before .before .before .before .before .before .before .before .before .before .before .before .args .rows .now in (
       stop-number image buffer n table rows good (n - 0) (c .before .before .before .before .before .before .list-over .ensures) (c .before .before .k .given .1),
-      table-lent image (length buffer) n (length table) good refl _ (c .before .before .before .before .before .before .before .before .before .before .before .before .before .start-over .kept .1 .1 .0),
+      table-lent image (length buffer) n (length table) good refl (omega (arith, loan image (length buffer) n (length table) good .text-fits)) _ (c .before .before .before .before .before .before .before .before .before .before .before .before .before .start-over .kept .1 .1 .0),
     )
 
 same-length-2 : tie.Need-same-length-2

@@ -1,3 +1,4 @@
+use native.Mathlib.Omega.{arith}
 use mathlib.Core.Path.{refl}
 use lib.ListN.{length}
 use Rattle.sheet.proofs.Laws.{passed, loan, table-lent}
@@ -30,7 +31,7 @@ clear-table-requires c κs =
     let buffer = c .before .before .before .before .before .before .before .before .before .before .before .before .args .buffer .now in
     let table = c .before .before .before .before .before .before .before .before .before .before .before .before .args .table .now in
     let good = passed image (length buffer) (length text) (length table) (c .before .before .before .before .before .before .before .asked .ensures) (c .before .before .before .before .before .before .if1 .left) in
-    table-lent image (length buffer) (length text) (length table) good (c .before .before .before .before .before .header-of .ensures .its-rules) table refl
+    table-lent image (length buffer) (length text) (length table) good (c .before .before .before .before .before .header-of .ensures .its-rules) (omega arith) table refl
 
 same-length : tie.Need-same-length
 same-length c = search needs
