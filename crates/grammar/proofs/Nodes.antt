@@ -74,6 +74,9 @@ module _ (f : NodeFields) where
   pub kind-of-call : {r : ℕ} → nodeOf f ≡ call r → f .kind ≡ 7
   kind-of-call e = omega (arith, read-back f, ap kindOf e)
 
+  pub kind-of-unlawful : nodeOf f ≡ unlawful → 8 ≤ f .kind
+  kind-of-unlawful e = omega (arith, read-back f, ap kindOf e)
+
 -- The rule that a node calls, read back from it.
 abbrev calledBy : Node → ℕ
 calledBy empty = 0
