@@ -1,11 +1,10 @@
--- Which node a word stands for, by its kind. Assumes nothing.
+-- Which node a word stands for, by the kind among its fields. Assumes nothing.
 use Prim.Native.Nat.{ℕ, zero, suc, _≤_, min}
 use native.Mathlib.Omega.{arith}
 use mathlib.Core.Path.{_≡_, refl, sym, ap, _∙_}
-use mathlib.Core.List.{List, [], _∷_}
 use lib.ListN.{getD, List·getD-eq-default}
 use Rattle.grammar.specs.declared.NodeFields.{NodeFields}
-use Rattle.grammar.specs.Image.{byKind, nodeOf, byteRange, any, range}
+use Rattle.grammar.specs.Image.{byKind, nodeOf, byteRange, any}
 use Rattle.grammar.specs.Image.{Node, empty, terminal, sequence, choice, star, not-predicate, call, unlawful}
 
 module _ (f : NodeFields) where
@@ -41,11 +40,10 @@ module _ (f : NodeFields) where
   unfolding nodeOf
   is-unlawful h = List·getD-eq-default (byKind f) unlawful h
 
--- The kind of a node, read back from it.
+-- The kind of a node, read back from it, which 1 and 2 need not be.
 abbrev kindOf : Node → ℕ
 kindOf empty = 0
-kindOf (terminal any) = 1
-kindOf (terminal (range from to)) = 2
+kindOf (terminal t) = 1
 kindOf (sequence a b) = 3
 kindOf (choice a b) = 4
 kindOf (star a) = 5
@@ -53,29 +51,29 @@ kindOf (not-predicate a) = 6
 kindOf (call r) = 7
 kindOf unlawful = 8
 
-read-back : (f : NodeFields) → kindOf (nodeOf f) ≡ min (f .kind) 8
+read-back : (f : NodeFields) → 3 ≤ kindOf (nodeOf f) → kindOf (nodeOf f) ≡ min (f .kind) 8
 read-back f = go (f .kind) refl
   where
-    go : (k : ℕ) → f .kind ≡ k → kindOf (nodeOf f) ≡ min (f .kind) 8
-    go zero e = ap kindOf (is-empty f e) ∙ omega arith
-    go (suc zero) e = ap kindOf (is-any f e) ∙ omega arith
-    go (suc (suc zero)) e = ap kindOf (is-range f e) ∙ omega arith
-    go (suc (suc (suc zero))) e = ap kindOf (is-sequence f e) ∙ omega arith
-    go (suc (suc (suc (suc zero)))) e = ap kindOf (is-choice f e) ∙ omega arith
-    go (suc (suc (suc (suc (suc zero))))) e = ap kindOf (is-star f e) ∙ omega arith
-    go (suc (suc (suc (suc (suc (suc zero)))))) e = ap kindOf (is-not f e) ∙ omega arith
-    go (suc (suc (suc (suc (suc (suc (suc zero))))))) e = ap kindOf (is-call f e) ∙ omega arith
-    go (suc (suc (suc (suc (suc (suc (suc (suc k)))))))) e = ap kindOf (is-unlawful f (omega arith)) ∙ omega arith
+    go : (k : ℕ) → f .kind ≡ k → 3 ≤ kindOf (nodeOf f) → kindOf (nodeOf f) ≡ min (f .kind) 8
+    go zero e h = absurd (omega (arith, ap kindOf (is-empty f e)))
+    go (suc zero) e h = absurd (omega (arith, ap kindOf (is-any f e)))
+    go (suc (suc zero)) e h = absurd (omega (arith, ap kindOf (is-range f e)))
+    go (suc (suc (suc zero))) e h = ap kindOf (is-sequence f e) ∙ omega arith
+    go (suc (suc (suc (suc zero)))) e h = ap kindOf (is-choice f e) ∙ omega arith
+    go (suc (suc (suc (suc (suc zero))))) e h = ap kindOf (is-star f e) ∙ omega arith
+    go (suc (suc (suc (suc (suc (suc zero)))))) e h = ap kindOf (is-not f e) ∙ omega arith
+    go (suc (suc (suc (suc (suc (suc (suc zero))))))) e h = ap kindOf (is-call f e) ∙ omega arith
+    go (suc (suc (suc (suc (suc (suc (suc (suc k)))))))) e h = ap kindOf (is-unlawful f (omega arith)) ∙ omega arith
 
 module _ (f : NodeFields) where
   pub kind-of-star : {a : ℕ} → nodeOf f ≡ star a → f .kind ≡ 5
-  kind-of-star e = omega (arith, read-back f, ap kindOf e)
+  kind-of-star e = let k = ap kindOf e in omega (arith, read-back f (omega arith))
 
   pub kind-of-call : {r : ℕ} → nodeOf f ≡ call r → f .kind ≡ 7
-  kind-of-call e = omega (arith, read-back f, ap kindOf e)
+  kind-of-call e = let k = ap kindOf e in omega (arith, read-back f (omega arith))
 
   pub kind-of-unlawful : nodeOf f ≡ unlawful → 8 ≤ f .kind
-  kind-of-unlawful e = omega (arith, read-back f, ap kindOf e)
+  kind-of-unlawful e = let k = ap kindOf e in omega (arith, read-back f (omega arith))
 
 -- The rule that a node calls, read back from it.
 abbrev calledBy : Node → ℕ

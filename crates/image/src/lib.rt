@@ -133,7 +133,7 @@ pub fn node_at(image: &[u8], node: usize) -> NodeFields
     node_of(node_word(image, node))
 }
 
-// The word of node n with the root of a called rule for field B, which is 0 in a lawful image.
+// The word of a node, a call's with the root of the called rule for field B, which is 0 in a lawful image.
 pub fn linked_word(image: &[u8], node: usize) -> u32
     ensures { λ r. ⌜ r ≡ linkedWord (now (image .entry)) node ⌝ }
 {

@@ -7,8 +7,7 @@ use mathlib.Core.List.{List, [], _∷_}
 use lib.ListN.{getD}
 use Rattle.grammar.specs.Image.{rules}
 use Rattle.grammar.specs.Questions.{Lawful}
-use Rattle.image.specs.Linked.{linkedWord}
-use Rattle.reading.specs.Loaded.{LoadedWord, Loaded}
+use Rattle.reading.specs.Loaded.{linkedWord, LoadedWord, Loaded}
 use Rattle.reading.proofs.LoadedWords.{linked-loaded, past-word}
 
 -- So many words from node i on, and then the number of rules.

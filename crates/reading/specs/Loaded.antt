@@ -1,11 +1,12 @@
 -- A grammar that was read once from its image, and the evaluator over it as a function.
--- A loaded grammar has a word for each number that a field of 12 bits can have, and then the number of rules. The words are those of
--- the nodes, but a call's field B, which is 0 in the image, is the root of the called rule.
+-- A loaded grammar has a word for each number that a field of 12 bits can have, and then the number of rules. The words are the
+-- linked words of the nodes: a call's field B, which is 0 in the image, is the root of the called rule.
 use Prim.Native.Nat.{ℕ, zero, suc}
 use mathlib.Core.Path.{_≡_}
 use mathlib.Core.List.{List}
 use lib.ListN.{getD}
 use Rattle.grammar.specs.Image.{Node, call, fieldsOf, nodeOf, node, rules, root}
+pub use Rattle.image.specs.Linked.{linkedWord}
 use Rattle.reading.specs.Model.{Out, out, refused, Evaluator, pairM, kindM}
 
 -- The node that a word stands for, and its field B.
