@@ -16,9 +16,7 @@ read c =
     fields-at (start .args .image .now) (start .args .node) (c .before .node-word .ensures) (c .node-of .ensures)
 
 small : (c : tie.After-rule-at) → c .rule-at .result .root < 4096
-small c =
-    let start = c .before .before .before .before .before .before in
-    omega (arith, root-small (start .args .image .now) (c .before .before .before .node-of .result .a), c .rule-at .ensures .its-root)
+small c = rw (c .rule-at .ensures .its-root) (root-small _ _)
 
 node-word-requires : tie.Need-node-word-requires
 node-word-requires c κs = search needs
