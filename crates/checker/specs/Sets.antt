@@ -45,9 +45,9 @@ starSet a = pack (bit fails a) (bit consumes a) false
 unfoldable pub notSet : ℕ → ℕ
 notSet a = pack (bit fails a) false (bit matches-empty a || bit consumes a)
 
--- The outcomes of a node of kind 0 to 7 from the sets a of its A and b of its B. Those of a call are its root's, here a.
+-- The outcomes of a node of kind 0 to 7 from the sets a of its A and b of its B. Those of a call are its root's, here b.
 unfoldable pub setOfKind : (kind a b : ℕ) → ℕ
-setOfKind kind a b = getD (1 ∷ 6 ∷ 6 ∷ thenSet a b ∷ elseSet a b ∷ starSet a ∷ notSet a ∷ a ∷ []) kind 0
+setOfKind kind a b = getD (1 ∷ 6 ∷ 6 ∷ thenSet a b ∷ elseSet a b ∷ starSet a ∷ notSet a ∷ b ∷ []) kind 0
 
 -- A table of them: for each kind a row for each set of B, with a column for each set of A.
 pub record SetTable (table : List (List (List ℕ))) : Type 0 where

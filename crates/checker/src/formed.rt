@@ -31,7 +31,8 @@ fn node_formed(
         3 => formed[a] & (!sets::has_empty(known[a]) | formed[b]),
         4 => formed[a] & formed[b],
         5 => formed[a] & !sets::has_empty(known[a]),
-        6 | 7 => formed[a],
+        6 => formed[a],
+        7 => formed[b],
         8..=15 => false,
         _ => false,
     }

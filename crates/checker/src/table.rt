@@ -38,8 +38,17 @@ const STAR: [[u8; 8]; 8] = [[0, 0, 2, 2, 1, 1, 3, 3]; 8];
 // "Not"
 const NOT: [[u8; 8]; 8] = [[0, 4, 4, 4, 1, 5, 5, 5]; 8];
 
-// A call has its root's outcomes.
-const CALL: [[u8; 8]; 8] = [[0, 1, 2, 3, 4, 5, 6, 7]; 8];
+// A call has the outcomes of its root, which is its B.
+const CALL: [[u8; 8]; 8] = [
+    [0; 8],
+    [1; 8],
+    [2; 8],
+    [3; 8],
+    [4; 8],
+    [5; 8],
+    [6; 8],
+    [7; 8],
+];
 
 // All of them, by kind.
 pub fn set_table() -> [[[u8; 8]; 8]; 8]

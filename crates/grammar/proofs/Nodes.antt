@@ -1,69 +1,49 @@
--- Which node a word stands for, by its kind. Assumes nothing.
-use Prim.Native.Nat.{ℕ, zero, suc, _≤_}
+-- Which node a word stands for, by the kind among its fields. Assumes nothing.
+use Prim.Native.Nat.{ℕ, zero, suc, _≤_, min}
 use native.Mathlib.Omega.{arith}
 use mathlib.Core.Path.{_≡_, refl, sym, ap, _∙_}
-use mathlib.Core.List.{List, [], _∷_}
-use lib.ListN.{List·getD-eq-default}
-use Rattle.grammar.specs.Image.{kind, fieldA, fieldB, any, range, node, nodeOfKind}
+use lib.ListN.{getD, List·getD-eq-default}
+use Rattle.grammar.specs.declared.NodeFields.{NodeFields}
+use Rattle.grammar.specs.Image.{byKind, nodeOf, byteRange, any}
 use Rattle.grammar.specs.Image.{Node, empty, terminal, sequence, choice, star, not-predicate, call, unlawful}
 
-module _ (img : List ℕ) (n : ℕ) where
-  of-kind : {k : ℕ} → kind img n ≡ k → node img n ≡ nodeOfKind k (fieldA img n) (fieldB img n)
-  unfolding node
-  of-kind e = ap (λ (k : ℕ). nodeOfKind k (fieldA img n) (fieldB img n)) e
+module _ (f : NodeFields) where
+  of-kind : {k : ℕ} → f .kind ≡ k → nodeOf f ≡ getD (byKind f) k unlawful
+  unfolding nodeOf
+  of-kind e = ap (λ (k : ℕ). getD (byKind f) k unlawful) e
 
-  pub is-empty : kind img n ≡ 0 → node img n ≡ empty
-  unfolding nodeOfKind
+  pub is-empty : f .kind ≡ 0 → nodeOf f ≡ empty
   is-empty e = of-kind e
 
-  pub is-any : kind img n ≡ 1 → node img n ≡ terminal any
-  unfolding nodeOfKind
+  pub is-any : f .kind ≡ 1 → nodeOf f ≡ terminal any
   is-any e = of-kind e
 
-  pub is-range : kind img n ≡ 2 → node img n ≡ terminal (range (fieldA img n) (fieldB img n))
-  unfolding nodeOfKind
+  pub is-range : f .kind ≡ 2 → nodeOf f ≡ terminal (byteRange f)
   is-range e = of-kind e
 
-  pub is-sequence : kind img n ≡ 3 → node img n ≡ sequence (fieldA img n) (fieldB img n)
-  unfolding nodeOfKind
+  pub is-sequence : f .kind ≡ 3 → nodeOf f ≡ sequence (f .a) (f .b)
   is-sequence e = of-kind e
 
-  pub is-choice : kind img n ≡ 4 → node img n ≡ choice (fieldA img n) (fieldB img n)
-  unfolding nodeOfKind
+  pub is-choice : f .kind ≡ 4 → nodeOf f ≡ choice (f .a) (f .b)
   is-choice e = of-kind e
 
-  pub is-star : kind img n ≡ 5 → node img n ≡ star (fieldA img n)
-  unfolding nodeOfKind
+  pub is-star : f .kind ≡ 5 → nodeOf f ≡ star (f .a)
   is-star e = of-kind e
 
-  pub is-not : kind img n ≡ 6 → node img n ≡ not-predicate (fieldA img n)
-  unfolding nodeOfKind
+  pub is-not : f .kind ≡ 6 → nodeOf f ≡ not-predicate (f .a)
   is-not e = of-kind e
 
-  pub is-call : kind img n ≡ 7 → node img n ≡ call (fieldA img n)
-  unfolding nodeOfKind
+  pub is-call : f .kind ≡ 7 → nodeOf f ≡ call (f .a)
   is-call e = of-kind e
 
-  pub is-unlawful : 8 ≤ kind img n → node img n ≡ unlawful
-  unfolding node nodeOfKind
-  is-unlawful h = List·getD-eq-default
-      (empty
-      ∷ terminal any
-      ∷ terminal (range (fieldA img n) (fieldB img n))
-      ∷ sequence (fieldA img n) (fieldB img n)
-      ∷ choice (fieldA img n) (fieldB img n)
-      ∷ star (fieldA img n)
-      ∷ not-predicate (fieldA img n)
-      ∷ call (fieldA img n)
-      ∷ [])
-      unlawful
-      h
+  pub is-unlawful : 8 ≤ f .kind → nodeOf f ≡ unlawful
+  unfolding nodeOf
+  is-unlawful h = List·getD-eq-default (byKind f) unlawful h
 
--- The kind of a node, read back from it.
+-- The kind of a node, read back from it, which 1 and 2 need not be.
 abbrev kindOf : Node → ℕ
 kindOf empty = 0
-kindOf (terminal any) = 1
-kindOf (terminal (range from to)) = 2
+kindOf (terminal t) = 1
 kindOf (sequence a b) = 3
 kindOf (choice a b) = 4
 kindOf (star a) = 5
@@ -71,25 +51,29 @@ kindOf (not-predicate a) = 6
 kindOf (call r) = 7
 kindOf unlawful = 8
 
-read-back : (k a b : ℕ) → k ≤ 7 → kindOf (nodeOfKind k a b) ≡ k
-unfolding nodeOfKind
-read-back zero a b h = refl
-read-back (suc zero) a b h = refl
-read-back (suc (suc zero)) a b h = refl
-read-back (suc (suc (suc zero))) a b h = refl
-read-back (suc (suc (suc (suc zero)))) a b h = refl
-read-back (suc (suc (suc (suc (suc zero))))) a b h = refl
-read-back (suc (suc (suc (suc (suc (suc zero)))))) a b h = refl
-read-back (suc (suc (suc (suc (suc (suc (suc zero))))))) a b h = refl
-read-back (suc (suc (suc (suc (suc (suc (suc (suc k)))))))) a b h = absurd (omega arith)
+read-back : (f : NodeFields) → 3 ≤ kindOf (nodeOf f) → kindOf (nodeOf f) ≡ min (f .kind) 8
+read-back f = go (f .kind) refl
+  where
+    go : (k : ℕ) → f .kind ≡ k → 3 ≤ kindOf (nodeOf f) → kindOf (nodeOf f) ≡ min (f .kind) 8
+    go zero e h = absurd (omega (arith, ap kindOf (is-empty f e)))
+    go (suc zero) e h = absurd (omega (arith, ap kindOf (is-any f e)))
+    go (suc (suc zero)) e h = absurd (omega (arith, ap kindOf (is-range f e)))
+    go (suc (suc (suc zero))) e h = ap kindOf (is-sequence f e) ∙ omega arith
+    go (suc (suc (suc (suc zero)))) e h = ap kindOf (is-choice f e) ∙ omega arith
+    go (suc (suc (suc (suc (suc zero))))) e h = ap kindOf (is-star f e) ∙ omega arith
+    go (suc (suc (suc (suc (suc (suc zero)))))) e h = ap kindOf (is-not f e) ∙ omega arith
+    go (suc (suc (suc (suc (suc (suc (suc zero))))))) e h = ap kindOf (is-call f e) ∙ omega arith
+    go (suc (suc (suc (suc (suc (suc (suc (suc k)))))))) e h = ap kindOf (is-unlawful f (omega arith)) ∙ omega arith
 
-pub kind-of-star : (img : List ℕ) (n a : ℕ) → kind img n ≤ 7 → node img n ≡ star a → kind img n ≡ 5
-unfolding node
-kind-of-star img n a h e = sym (read-back (kind img n) (fieldA img n) (fieldB img n) h) ∙ ap kindOf e
+module _ (f : NodeFields) where
+  pub kind-of-star : {a : ℕ} → nodeOf f ≡ star a → f .kind ≡ 5
+  kind-of-star e = let k = ap kindOf e in omega (arith, read-back f (omega arith))
 
-pub kind-of-call : (img : List ℕ) (n r : ℕ) → kind img n ≤ 7 → node img n ≡ call r → kind img n ≡ 7
-unfolding node
-kind-of-call img n r h e = sym (read-back (kind img n) (fieldA img n) (fieldB img n) h) ∙ ap kindOf e
+  pub kind-of-call : {r : ℕ} → nodeOf f ≡ call r → f .kind ≡ 7
+  kind-of-call e = let k = ap kindOf e in omega (arith, read-back f (omega arith))
+
+  pub kind-of-unlawful : nodeOf f ≡ unlawful → 8 ≤ f .kind
+  kind-of-unlawful e = let k = ap kindOf e in omega (arith, read-back f (omega arith))
 
 -- The rule that a node calls, read back from it.
 abbrev calledBy : Node → ℕ
@@ -102,5 +86,5 @@ calledBy (not-predicate a) = 0
 calledBy (call r) = r
 calledBy unlawful = 0
 
-pub rule-of-call : (img : List ℕ) (n r : ℕ) → kind img n ≡ 7 → node img n ≡ call r → fieldA img n ≡ r
-rule-of-call img n r k e = ap calledBy (sym (is-call img n k) ∙ e)
+pub rule-of-call : (f : NodeFields) {r : ℕ} → nodeOf f ≡ call r → f .a ≡ r
+rule-of-call f e = ap calledBy (sym (is-call f (kind-of-call f e)) ∙ e)

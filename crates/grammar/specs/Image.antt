@@ -4,6 +4,7 @@
 use Prim.Native.Nat.{ℕ, _+_, _*_, _/_, _%_, _^_}
 use mathlib.Core.List.{List, [], _∷_}
 use lib.ListN.{getD}
+use Rattle.grammar.specs.declared.NodeFields.{NodeFields}
 
 -- The byte at a place of a byte string.
 abbrev pub byteAt : List ℕ → ℕ → ℕ
@@ -47,17 +48,25 @@ root img r = field (ruleWord img r) 0 12
 unfoldable pub nodeWord : List ℕ → ℕ → ℕ
 nodeWord img n = word32 img (4 + 2 * rules img + 4 * n)
 
-unfoldable pub kind : List ℕ → ℕ → ℕ
-kind img n = field (nodeWord img n) 28 4
+abbrev pub fieldsOf : (word : ℕ) → NodeFields
+fieldsOf word = record { kind = field word 28 4; zero = field word 24 4; a = field word 12 12; b = field word 0 12 }
 
-unfoldable pub nodeZero : List ℕ → ℕ → ℕ
-nodeZero img n = field (nodeWord img n) 24 4
+-- The fields of a node's word,
+unfoldable pub fieldsAt : List ℕ → ℕ → NodeFields
+fieldsAt img n = fieldsOf (nodeWord img n)
 
-unfoldable pub fieldA : List ℕ → ℕ → ℕ
-fieldA img n = field (nodeWord img n) 12 12
+-- and each of them.
+abbrev pub kind : List ℕ → ℕ → ℕ
+kind img n = fieldsAt img n .kind
 
-unfoldable pub fieldB : List ℕ → ℕ → ℕ
-fieldB img n = field (nodeWord img n) 0 12
+abbrev pub nodeZero : List ℕ → ℕ → ℕ
+nodeZero img n = fieldsAt img n .zero
+
+abbrev pub fieldA : List ℕ → ℕ → ℕ
+fieldA img n = fieldsAt img n .a
+
+abbrev pub fieldB : List ℕ → ℕ → ℕ
+fieldB img n = fieldsAt img n .b
 
 -- The kinds that look at the text itself: "1 any byte; 2 byte from A to B inclusive".
 pub data Terminal : Type 0 where
@@ -75,17 +84,29 @@ pub data Node : Type 0 where
   call : (rule : ℕ) → Node
   unlawful : Node
 
+-- Kind 2: "byte from A to B inclusive".
+abbrev pub byteRange : NodeFields → Terminal
+byteRange f = range (f .a) (f .b)
+
 -- "Kinds: 0 empty; 1 any byte; 2 byte from A to B inclusive; 3 A then B; 4 A, else B; 5 A zero or more times; 6 not A; 7 call of
 -- rule A."
-unfoldable pub nodeOfKind : (kind a b : ℕ) → Node
-nodeOfKind k a b =
-    getD
-    (empty ∷ terminal any ∷ terminal (range a b) ∷ sequence a b ∷ choice a b ∷ star a ∷ not-predicate a ∷ call a ∷ [])
-    k
-    unlawful
+abbrev pub byKind : NodeFields → List Node
+byKind f =
+    empty
+    ∷ terminal any
+    ∷ terminal (byteRange f)
+    ∷ sequence (f .a) (f .b)
+    ∷ choice (f .a) (f .b)
+    ∷ star (f .a)
+    ∷ not-predicate (f .a)
+    ∷ call (f .a)
+    ∷ []
 
-unfoldable pub node : List ℕ → ℕ → Node
-node img n = nodeOfKind (kind img n) (fieldA img n) (fieldB img n)
+unfoldable pub nodeOf : NodeFields → Node
+nodeOf f = getD (byKind f) (f .kind) unlawful
+
+abbrev pub node : List ℕ → ℕ → Node
+node img n = nodeOf (fieldsAt img n)
 
 -- "the rule's body, its root node"
 unfoldable pub body : List ℕ → ℕ → Node

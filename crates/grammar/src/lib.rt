@@ -8,3 +8,11 @@ pub struct Evaluation {
     pub examined: usize,
     pub nesting: usize,
 }
+
+// What a node's word has: "kind 4, zero 4, A 12, B 12".
+pub struct NodeFields {
+    pub kind: usize,
+    pub zero: usize,
+    pub a: usize,
+    pub b: usize,
+}

@@ -1,3 +1,4 @@
 -- The laws that the readers of an image need.
 pub mod PastTheEnd
-pub mod NodeWords
+pub mod SameFields
+pub mod Linked

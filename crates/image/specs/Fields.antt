@@ -2,10 +2,10 @@
 use Prim.Native.Nat.{ℕ}
 use mathlib.Core.Path.{_≡_}
 use mathlib.Core.List.{List}
-use Rattle.grammar.specs.Image.{field, edition, rules, nodes, start, ruleZero, root, kind, nodeZero, fieldA, fieldB}
+use Rattle.grammar.specs.Image.{edition, rules, nodes, start, ruleZero, root}
+use Rattle.grammar.specs.declared.NodeFields.{NodeFields}
 use Rattle.image.specs.declared.Header.{Header}
 use Rattle.image.specs.declared.Rule.{Rule}
-use Rattle.image.specs.declared.Node.{Node}
 
 pub record HeaderFields (img : List ℕ) (h : Header) : Type 0 where
   pub its-edition : h .edition ≡ edition img
@@ -17,15 +17,9 @@ pub record RuleFields (img : List ℕ) (r : ℕ) (w : Rule) : Type 0 where
   pub its-zero : w .zero ≡ ruleZero img r
   pub its-root : w .root ≡ root img r
 
--- "One 32-bit word per node: kind 4, zero 4, A 12, B 12."
-pub record WordFields (word : ℕ) (w : Node) : Type 0 where
-  pub its-kind : w .kind ≡ field word 28 4
-  pub its-zero : w .zero ≡ field word 24 4
-  pub its-a : w .a ≡ field word 12 12
-  pub its-b : w .b ≡ field word 0 12
-
-pub record NodeFields (img : List ℕ) (n : ℕ) (w : Node) : Type 0 where
-  pub its-kind : w .kind ≡ kind img n
-  pub its-zero : w .zero ≡ nodeZero img n
-  pub its-a : w .a ≡ fieldA img n
-  pub its-b : w .b ≡ fieldB img n
+-- The fields of a node's word, one by one. Two records with the same fields are equal (proofs/SameFields).
+pub record SameFields (f g : NodeFields) : Type 0 where
+  pub its-kind : f .kind ≡ g .kind
+  pub its-zero : f .zero ≡ g .zero
+  pub its-a : f .a ≡ g .a
+  pub its-b : f .b ≡ g .b

@@ -1,9 +1,11 @@
 // Reads the fields of a grammar image. Every function answers for every byte string and every number: a byte past the end reads
 // as 0. Which bits are which field is said in the crate `grammar`, specs/Image.antt.
+use grammar::NodeFields;
 ghost use mathlib.Core.Path.{_≡_};
 ghost use Prim.Native.Nat.{_<_};
-ghost use Rattle.grammar.specs.Image.{byteAt, word16, word32, nodeWord};
-ghost use Rattle.image.specs.Fields.{HeaderFields, RuleFields, WordFields, NodeFields};
+ghost use Rattle.grammar.specs.Image.{byteAt, word16, word32, nodeWord, fieldsOf, fieldsAt};
+ghost use Rattle.image.specs.Fields.{HeaderFields, RuleFields, SameFields};
+ghost use Rattle.image.specs.Linked.{linkedWord};
 
 pub struct Header {
     pub edition: usize,
@@ -15,13 +17,6 @@ pub struct Header {
 pub struct Rule {
     pub zero: usize,
     pub root: usize,
-}
-
-pub struct Node {
-    pub kind: usize,
-    pub zero: usize,
-    pub a: usize,
-    pub b: usize,
 }
 
 // A byte as a number that later sums can use.
@@ -119,11 +114,11 @@ fn wide_word(word: u32) -> usize
 }
 
 // The fields of a word that is a node's.
-pub fn node_of(word: u32) -> Node
-    ensures { λ r. ⌜ WordFields word r ⌝ }
+pub fn node_of(word: u32) -> NodeFields
+    ensures { λ r. ⌜ SameFields r (fieldsOf word) ⌝ }
 {
     let bits = wide_word(word);
-    Node {
+    NodeFields {
         kind: bits / 268435456 % 16,
         zero: bits / 16777216 % 16,
         a: bits / 4096 % 4096,
@@ -132,8 +127,21 @@ pub fn node_of(word: u32) -> Node
 }
 
 // The fields of a node's word.
-pub fn node_at(image: &[u8], node: usize) -> Node
-    ensures { λ r. ⌜ NodeFields (now (image .entry)) node r ⌝ }
+pub fn node_at(image: &[u8], node: usize) -> NodeFields
+    ensures { λ r. ⌜ SameFields r (fieldsAt (now (image .entry)) node) ⌝ }
 {
     node_of(node_word(image, node))
+}
+
+// The word of a node, a call's with the root of the called rule for field B, which is 0 in a lawful image.
+pub fn linked_word(image: &[u8], node: usize) -> u32
+    ensures { λ r. ⌜ r ≡ linkedWord (now (image .entry)) node ⌝ }
+{
+    let word = node_word(image, node);
+    let fields = node_of(word);
+    if fields.kind != 7 {
+        return word;
+    }
+    let rule = rule_at(image, fields.a);
+    (wide_word(word) / 4096 * 4096 + rule.root) as u32
 }

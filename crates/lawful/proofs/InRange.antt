@@ -4,7 +4,7 @@ use Prim.Native.Nat.{ℕ, zero, suc, _≤_, _<_}
 use native.Mathlib.Omega.{arith}
 use mathlib.Core.Path.{_≡_, refl, ap}
 use mathlib.Core.List.{List, [], _∷_}
-use Rattle.grammar.specs.Image.{rules, nodes, root, kind, fieldA, fieldB, node, children}
+use Rattle.grammar.specs.Image.{rules, nodes, root, fieldsAt, kind, fieldA, fieldB, node, children}
 use Rattle.grammar.specs.Questions.{Question2, Question4}
 use Rattle.grammar.proofs.Nodes.{is-empty, is-any, is-range, is-sequence, is-choice, is-star, is-not, is-call}
 
@@ -28,8 +28,8 @@ module _ (img : List ℕ) (n : ℕ) where
   children-3-4 h k = go (kind img n) refl
     where
       go : (i : ℕ) → kind img n ≡ i → children (node img n) ≡ fieldA img n ∷ fieldB img n ∷ []
-      go (suc (suc (suc zero))) e = ap children (is-sequence img n e)
-      go (suc (suc (suc (suc zero)))) e = ap children (is-choice img n e)
+      go (suc (suc (suc zero))) e = ap children (is-sequence (fieldsAt img n) e)
+      go (suc (suc (suc (suc zero)))) e = ap children (is-choice (fieldsAt img n) e)
       go zero e = absurd (omega arith)
       go (suc zero) e = absurd (omega arith)
       go (suc (suc zero)) e = absurd (omega arith)
@@ -39,8 +39,8 @@ module _ (img : List ℕ) (n : ℕ) where
   children-5-6 h k = go (kind img n) refl
     where
       go : (i : ℕ) → kind img n ≡ i → children (node img n) ≡ fieldA img n ∷ []
-      go (suc (suc (suc (suc (suc zero))))) e = ap children (is-star img n e)
-      go (suc (suc (suc (suc (suc (suc zero)))))) e = ap children (is-not img n e)
+      go (suc (suc (suc (suc (suc zero))))) e = ap children (is-star (fieldsAt img n) e)
+      go (suc (suc (suc (suc (suc (suc zero)))))) e = ap children (is-not (fieldsAt img n) e)
       go zero e = absurd (omega arith)
       go (suc zero) e = absurd (omega arith)
       go (suc (suc zero)) e = absurd (omega arith)
@@ -52,10 +52,10 @@ module _ (img : List ℕ) (n : ℕ) where
   childless-below-3 h = go (kind img n) refl
     where
       go : (i : ℕ) → kind img n ≡ i → children (node img n) ≡ []
-      go zero e = ap children (is-empty img n e)
-      go (suc zero) e = ap children (is-any img n e)
-      go (suc (suc zero)) e = ap children (is-range img n e)
+      go zero e = ap children (is-empty (fieldsAt img n) e)
+      go (suc zero) e = ap children (is-any (fieldsAt img n) e)
+      go (suc (suc zero)) e = ap children (is-range (fieldsAt img n) e)
       go (suc (suc (suc i))) e = absurd (omega arith)
 
   pub childless-from-7 : 7 ≤ kind img n → kind img n ≤ 7 → children (node img n) ≡ []
-  childless-from-7 h k = ap children (is-call img n (omega arith))
+  childless-from-7 h k = ap children (is-call (fieldsAt img n) (omega arith))

@@ -1,4 +1,4 @@
--- The words of a loaded grammar: a node's own word, a call's with its root, and 0 past the last node. Assumes nothing.
+-- The words of a loaded grammar: linked words, and 0 past the last node. Assumes nothing.
 use Prim.Native.Nat.{ℕ, _+_, _*_, _≤_, _<_}
 use native.Mathlib.Omega.{arith}
 use mathlib.Core.Path.{_≡_, refl, sym, ap, _∙_}
@@ -8,41 +8,34 @@ use lib.ListN.{length, getD, set, replicate}
 use lib.Seq.{getD-set-same, getD-set-other}
 use lib.Dec.{eqb, ltb}
 use borrow.Author.Tests.{eqb-true, eqb-false, ltb-true, ltb-false}
-use Rattle.grammar.specs.Image.{empty, field, nodeOfKind, nodeWord, kind, fieldA, fieldB, node, rules, nodes, root}
+use Rattle.grammar.specs.Image.{nodeWord, fieldsOf, fieldsAt, kind, rules, nodes, root}
 use Rattle.grammar.specs.Questions.{Question2, Question3}
-use Rattle.grammar.proofs.Nodes.{is-empty, is-call, kind-of-call, rule-of-call}
+use Rattle.grammar.proofs.Nodes.{is-empty, kind-of-call, rule-of-call}
 use Rattle.lawful.proofs.Writes.{all-the-same}
+use Rattle.image.specs.Linked.{linkedWord}
 use Rattle.image.proofs.PastTheEnd.{past-word32}
-use Rattle.packrat.specs.Loaded.{wordB, wordNode, LoadedWord, Loaded}
+use Rattle.image.proofs.Linked.{linked, same-node}
+use Rattle.packrat.specs.Loaded.{wordNode, LoadedWord, Loaded}
 
 module _ (img : List ℕ) (n : ℕ) where
-  pub kept-word : kind img n ≤ 7 → (kind img n ≡ 7 → ⊥) → LoadedWord img n (nodeWord img n)
-  unfolding wordNode node kind fieldA fieldB
-  kept-word h ne = record { node-is = refl; root-is = λ r e. absurd (ne (kind-of-call img n r h e)) }
-
-  pub call-word : kind img n ≡ 7 → fieldB img n ≡ 0 → LoadedWord img n (nodeWord img n + root img (fieldA img n))
-  unfolding wordNode nodeOfKind kind fieldA fieldB root
-  call-word k z =
-      let r : root img (fieldA img n) < 4096 = omega arith in
-      let a : field (nodeWord img n + root img (fieldA img n)) 28 4 ≡ 7 = omega (arith, k, z) in
-      let b : field (nodeWord img n + root img (fieldA img n)) 12 12 ≡ fieldA img n = omega (arith, z) in
-      let c : wordB (nodeWord img n + root img (fieldA img n)) ≡ root img (fieldA img n) = omega (arith, z) in
+  pub linked-loaded : LoadedWord img n (linkedWord img n)
+  unfolding wordNode
+  linked-loaded =
+      let l = linked img n in
       record {
-        node-is = (λ i. nodeOfKind (a i) (b i) (wordB (nodeWord img n + root img (fieldA img n)))) ∙ sym (is-call img n k);
-        root-is = λ s e. c ∙ ap (root img) (rule-of-call img n s k e);
+        node-is = same-node img n (fieldsOf (linkedWord img n)) l;
+        root-is = λ r e. l .root-for-b (kind-of-call (fieldsAt img n) e) ∙ ap (root img) (rule-of-call (fieldsAt img n) e);
       }
 
   -- A word below 2^28 stands for the empty node, and so does what lies past the last node.
   pub past-word : Question3 img → nodes img ≤ n → {w : ℕ} → w < 268435456 → LoadedWord img n w
-  unfolding wordNode nodeOfKind kind nodeWord
+  unfolding wordNode fieldsAt nodeWord
   past-word q h {w} small =
-      let zero : nodeWord img n ≡ 0 = past-word32 img (4 + 2 * rules img + 4 * n) (omega (arith, q .exact)) in
-      let k : kind img n ≡ 0 = omega (arith, zero) in
-      let e : node img n ≡ empty = is-empty img n k in
-      let f : field w 28 4 ≡ 0 = omega arith in
+      let past : nodeWord img n ≡ 0 = past-word32 img (4 + 2 * rules img + 4 * n) (omega (arith, q .exact)) in
+      let k : kind img n ≡ 0 = omega (arith, past) in
       record {
-        node-is = ap (λ (j : ℕ). nodeOfKind j (field w 12 12) (wordB w)) f ∙ sym e;
-        root-is = λ r c. absurd (let d = kind-of-call img n r (omega arith) c in omega arith);
+        node-is = is-empty (fieldsOf w) (omega arith) ∙ sym (is-empty (fieldsAt img n) k);
+        root-is = λ r c. absurd (let d = kind-of-call (fieldsAt img n) c in omega arith);
       }
 
 -- While a grammar is loaded: the first n words are there, the others are still 0.
@@ -91,12 +84,3 @@ loaded img xs r q2 q3 l e h =
     go k false d false f =
         let past = ltb-false k (nodes img) f in
         rw (getD-set-other xs 4096 k r 0 (eqb-false k 4096 d), h k .past past) (past-word img k q3 past (omega arith))
-
-pub root-small : (img : List ℕ) (r : ℕ) → root img r < 4096
-unfolding root
-root-small img r = omega arith
-
--- A call's word has room for the root.
-pub call-fits : (img : List ℕ) (n r : ℕ) → fieldB img n ≡ 0 → nodeWord img n < 4294967296 → nodeWord img n + root img r < 4294967296
-unfolding fieldB
-call-fits img n r z l = omega (arith, root-small img r)

@@ -8,8 +8,8 @@ use mathlib.Core.List.{List, []}
 use mathlib.Core.Logic.{inl, inr}
 use lib.Dec.{eqb, lit<, lit≤}
 use borrow.Author.Tests.{eqb-true}
-use Rattle.grammar.specs.Image.{edition, rules, nodes, start, ruleZero, root, ruleWord, kind, nodeZero, nodeWord, fieldA, fieldB}
-use Rattle.grammar.specs.Image.{node, nodeOfKind, body, Terminal}
+use Rattle.grammar.specs.Image.{edition, rules, nodes, start, ruleZero, root, ruleWord, nodeWord, fieldsAt}
+use Rattle.grammar.specs.Image.{node, nodeOf, body, Terminal}
 use Rattle.grammar.specs.Image.{Node, empty, terminal, sequence, choice, star, not-predicate, call, unlawful}
 use Rattle.grammar.specs.Outcomes.{Has, matches-empty, call-body, then-00, else-0, else-second, not-0, terminal-f}
 use Rattle.grammar.specs.WellFormed.{WellFormed, wf-empty, wf-terminal, wf-call, wf-then, wf-else, wf-star, wf-not}
@@ -24,7 +24,7 @@ abbrev Passes : List ℕ → Type 0
 Passes img = (headerTest img ≡ true) × (wordsTest img ≡ true) × (every (nodes img) (onceTest img) ≡ true)
 
 passes : Passes D2 × Passes M7 × Passes M8 × Passes M9 × Passes parts
-unfolding D2 M7 M8 M9 parts every headerTest ruleTest nodeTest wordsTest onceTest edition rules nodes start ruleZero root ruleWord kind nodeZero nodeWord fieldA fieldB node nodeOfKind roots childrenBelow occurrences
+unfolding D2 M7 M8 M9 parts every headerTest ruleTest nodeTest wordsTest onceTest edition rules nodes start ruleZero root ruleWord fieldsAt nodeWord nodeOf roots childrenBelow occurrences
 passes = ((refl, refl, refl), (refl, refl, refl), (refl, refl, refl), (refl, refl, refl), (refl, refl, refl))
 
 lawful : {img : List ℕ} → Passes img → Lawful img
@@ -35,7 +35,7 @@ terminal-lacks-0 = elim [ ]
 
 -- D2: every node is well formed.
 d2-formed : Question7 D2
-unfolding D2 rules nodes root ruleWord kind nodeWord fieldA fieldB node nodeOfKind body
+unfolding D2 rules nodes root ruleWord fieldsAt nodeWord nodeOf body
 d2-formed = record { every-node = go }
   where
     digit-consumes : Has D2 (call 1) matches-empty → ⊥
@@ -54,7 +54,7 @@ d2-accepted = checked (record { lawful = lawful (passes .0); well-formed = d2-fo
 
 -- parts: every node is well formed, rule 1 because each of its choices consumes.
 parts-formed : Question7 parts
-unfolding parts rules nodes root ruleWord kind nodeWord fieldA fieldB node nodeOfKind body
+unfolding parts rules nodes root ruleWord fieldsAt nodeWord nodeOf body
 parts-formed = record { every-node = go }
   where
     digit : WellFormed parts (call 2)
@@ -135,7 +135,7 @@ ring img p q (wf-not {a} w) e = ring img p q w (ap (λ (k : ℕ). onRing (node i
 
 -- M7: no star.
 m7-stars : Question6 M7
-unfolding M7 rules nodes kind nodeWord fieldA fieldB node nodeOfKind
+unfolding M7 rules nodes fieldsAt nodeWord nodeOf
 m7-stars = record { stars = go }
   where
     go : (n a : ℕ) → n < 3 → node M7 n ≡ star a → Has M7 (node M7 a) matches-empty → ⊥
@@ -145,12 +145,12 @@ m7-stars = record { stars = go }
     go (suc (suc (suc n))) a l e h = absurd (omega arith)
 
 pub m7-refused : Checked M7 7
-unfolding M7 onRing rules nodes root ruleWord kind nodeWord fieldA fieldB node nodeOfKind body
+unfolding M7 onRing rules nodes root ruleWord fieldsAt nodeWord nodeOf body
 m7-refused = refused-7 (lawful (passes .1)) m7-stars (λ q. ring M7 refl refl (q .every-node 0 (lit< tt)) refl)
 
 -- M8: no star.
 m8-stars : Question6 M8
-unfolding M8 rules nodes kind nodeWord fieldA fieldB node nodeOfKind
+unfolding M8 rules nodes fieldsAt nodeWord nodeOf
 m8-stars = record { stars = go }
   where
     go : (n a : ℕ) → n < 2 → node M8 n ≡ star a → Has M8 (node M8 a) matches-empty → ⊥
@@ -159,12 +159,12 @@ m8-stars = record { stars = go }
     go (suc (suc n)) a l e h = absurd (omega arith)
 
 pub m8-refused : Checked M8 7
-unfolding M8 onRing rules nodes root ruleWord kind nodeWord fieldA fieldB node nodeOfKind body
+unfolding M8 onRing rules nodes root ruleWord fieldsAt nodeWord nodeOf body
 m8-refused = refused-7 (lawful (passes .2)) m8-stars (λ q. ring M8 refl refl (q .every-node 0 (lit< tt)) refl)
 
 -- M9: the star's body matches nothing long where there is no byte.
 pub m9-refused : Checked M9 6
-unfolding M9 rules nodes kind nodeWord fieldA fieldB node nodeOfKind
+unfolding M9 rules nodes fieldsAt nodeWord nodeOf
 m9-refused = refused-6 (lawful (passes .3)) (λ q. q .stars 0 1 (lit< tt) refl (not-0 terminal-f))
 
 -- The witnesses.
@@ -198,7 +198,7 @@ size-refused =
     }
 
 pub child-refused : Checked ownChild 4
-unfolding ownChild headerTest edition rules nodes start kind nodeWord fieldA
+unfolding ownChild headerTest edition rules nodes start fieldsAt nodeWord
 child-refused =
     let q = header-asked ownChild refl in
     record {
@@ -217,7 +217,7 @@ child-refused =
     }
 
 pub orphan-refused : Checked orphan 5
-unfolding orphan every headerTest ruleTest nodeTest wordsTest onceTest edition rules nodes start ruleZero root ruleWord kind nodeZero nodeWord fieldA fieldB node nodeOfKind roots childrenBelow occurrences
+unfolding orphan every headerTest ruleTest nodeTest wordsTest onceTest edition rules nodes start ruleZero root ruleWord fieldsAt nodeWord nodeOf roots childrenBelow occurrences
 orphan-refused =
     let q = header-asked orphan refl in
     record {

@@ -9,8 +9,8 @@ use lib.ListN.{length, length-replicate, getD-replicate}
 use lib.Dec.{ltb}
 use borrow.Author.Tests.{lt-ltb, le-ltb}
 use Rattle.grammar.specs.declared.Evaluation.{Evaluation}
-use Rattle.grammar.specs.Image.{edition, rules, nodes, start, ruleZero, root, ruleWord, kind, nodeZero, nodeWord, fieldA, fieldB}
-use Rattle.grammar.specs.Image.{node, nodeOfKind, body, Terminal, range, terminal, byteAt}
+use Rattle.grammar.specs.Image.{edition, rules, nodes, start, ruleZero, root, ruleWord, nodeWord, fieldsAt}
+use Rattle.grammar.specs.Image.{node, nodeOf, body, Terminal, range, terminal, byteAt}
 use Rattle.grammar.specs.Outcomes.{Has, matches-empty}
 use Rattle.grammar.specs.WellFormed.{WellFormed, wf-empty, wf-terminal, wf-call, wf-then, wf-else}
 use Rattle.grammar.specs.Questions.{Question7, Checked, ofImage, roots, childrenBelow, occurrences}
@@ -32,15 +32,15 @@ use Rattle.marked.specs.Sessions.{callsDeep, repliesDeep}
 
 -- The image is accepted.
 passes : (headerTest M10 ≡ true) × (wordsTest M10 ≡ true) × (every (nodes M10) (onceTest M10) ≡ true)
-unfolding M10 every headerTest ruleTest nodeTest wordsTest onceTest edition rules nodes start ruleZero root ruleWord kind nodeZero
-    nodeWord fieldA fieldB node nodeOfKind roots childrenBelow occurrences
+unfolding M10 every headerTest ruleTest nodeTest wordsTest onceTest edition rules nodes start ruleZero root ruleWord fieldsAt
+    nodeWord nodeOf roots childrenBelow occurrences
 passes = (refl, refl, refl)
 
 terminal-lacks-0 : {img : List ℕ} {t : Terminal} → Has img (terminal t) matches-empty → ⊥
 terminal-lacks-0 = elim [ ]
 
 formed : Question7 M10
-unfolding M10 rules nodes root ruleWord kind nodeWord fieldA fieldB node nodeOfKind body
+unfolding M10 rules nodes root ruleWord fieldsAt nodeWord nodeOf body
 formed = record { every-node = go }
   where
     go : (n : ℕ) → n < 5 → WellFormed M10 (node M10 n)
@@ -85,7 +85,7 @@ deeper : (j : ℕ) → 3 * (suc j + 1) ≡ 1 + (1 + max 1 (1 + 3 * (j + 1)))
 deeper j = omega arith
 
 bracketed : (k j p : ℕ) → p + j ≡ k → Fresh M10 (brackets k) (a-pair 0) p (opening j)
-unfolding M10 rules root ruleWord kind nodeWord fieldA fieldB node nodeOfKind body
+unfolding M10 rules root ruleWord fieldsAt nodeWord nodeOf body
 bracketed k zero p h =
     let e = subst (λ (q : ℕ). tested false ≡ terminalAt (range 0x28 0x28) (brackets k) q) (let d : k ≡ p = omega arith in d) (at-end k) in
     ev-body refl (ev-else-second (ev-then-first-fails (ev-terminal e) refl refl) refl (ev-empty refl) refl)

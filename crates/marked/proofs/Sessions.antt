@@ -4,7 +4,7 @@ use native.Mathlib.Omega.{arith}
 use mathlib.Core.Path.{_≡_, refl}
 use mathlib.Core.List.{List, []}
 use lib.ListN.{length, replicate}
-use Rattle.grammar.specs.Image.{rules, nodes, start, ruleWord, root, nodeWord, kind, fieldA, fieldB, nodeOfKind, node, body}
+use Rattle.grammar.specs.Image.{rules, nodes, start, ruleWord, root, nodeWord, fieldsAt, nodeOf, body}
 use Rattle.grammar.specs.Terminal.{accepts, terminalAt}
 use Rattle.grammar.proofs.Acceptance.{accepted}
 use Rattle.records.specs.Words.{matchedOf, spareOf, nestingOf, examinedOf, lengthOf, valueOf, wordOf, possible}
@@ -43,7 +43,7 @@ computed :
     × Computed [] calls5 replies5
     × Computed text12a callsOver repliesOver
     × Computed text12a callsRefused repliesRefused
-unfolding D2 rules nodes start ruleWord root nodeWord kind fieldA fieldB nodeOfKind node body accepts terminalAt matchedOf
+unfolding D2 rules nodes start ruleWord root nodeWord fieldsAt nodeOf body accepts terminalAt matchedOf
     spareOf nestingOf examinedOf lengthOf valueOf wordOf possible afterFirst afterChoice afterRound roundsM met looked pairM
     kindM nodeM textAfter wordAfter wordsAfter
 computed = (refl, refl, refl, refl, refl, refl, refl)
@@ -53,7 +53,7 @@ listed :
     Computed text12 calls6 replies6
     × Computed text12 callsListed repliesListed
     × ComputedBy parts 3 textParts callsParts repliesParts
-unfolding D2 parts rules nodes start ruleWord root nodeWord kind fieldA fieldB nodeOfKind node body accepts terminalAt matchedOf
+unfolding D2 parts rules nodes start ruleWord root nodeWord fieldsAt nodeOf body accepts terminalAt matchedOf
     spareOf nestingOf examinedOf lengthOf valueOf wordOf possible afterFirst afterChoice afterRound roundsM met looked pairM
     kindM nodeM textAfter wordAfter wordsAfter wordsFrom wordNode after bind afterLook partV joined walk.afterFirst walk.afterChoice walk.afterRound
     roundsV entered walk.met pairV kindV nodeV startV touches rowWord rowWords

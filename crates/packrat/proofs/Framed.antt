@@ -12,11 +12,11 @@ use lib.ListN.{length, getD, set, length-set}
 use lib.Seq.{getD-set-other}
 use lib.Dec.{eqb, leb}
 use Rattle.grammar.specs.declared.Evaluation.{Evaluation}
-use Rattle.grammar.specs.Image.{rules, nodes, root, kind, node}
+use Rattle.grammar.specs.Image.{rules, nodes, root, fieldsAt, node}
 use Rattle.grammar.specs.Image.{Node, empty, terminal, sequence, choice, star, not-predicate, call, unlawful}
 use Rattle.grammar.specs.Questions.{Question4}
 use Rattle.grammar.specs.Evaluates.{inSequence, takenOver, secondChoice, roundThen, negated}
-use Rattle.grammar.proofs.Nodes.{is-empty, is-any, is-range, is-sequence, is-choice, is-star, is-not, is-call}
+use Rattle.grammar.proofs.Nodes.{kind-of-unlawful}
 use Rattle.grammar.proofs.References.{Refers, refers, root-in-range}
 use Rattle.grammar.proofs.Terminals.{shape}
 use Rattle.evaluation.specs.Within.{Within}
@@ -32,18 +32,7 @@ use Rattle.packrat.proofs.Rules.{possible-within}
 
 -- No node of a lawful image is unlawful.
 lawful-node : (img : List ℕ) → Question4 img → (n : ℕ) → n < nodes img → node img n ≡ unlawful → ⊥
-lawful-node img words n l u = by-kind (kind img n) (omega arith)
-  where
-    by-kind : (k : ℕ) → kind img n ≡ k → ⊥
-    by-kind zero e = let s = is-empty img n e in let z : _≡_ {A = ℕ} 0 1 = cc in omega arith
-    by-kind (suc zero) e = let s = is-any img n e in let z : _≡_ {A = ℕ} 0 1 = cc in omega arith
-    by-kind (suc (suc zero)) e = let s = is-range img n e in let z : _≡_ {A = ℕ} 0 1 = cc in omega arith
-    by-kind (suc (suc (suc zero))) e = let s = is-sequence img n e in let z : _≡_ {A = ℕ} 0 1 = cc in omega arith
-    by-kind (suc (suc (suc (suc zero)))) e = let s = is-choice img n e in let z : _≡_ {A = ℕ} 0 1 = cc in omega arith
-    by-kind (suc (suc (suc (suc (suc zero))))) e = let s = is-star img n e in let z : _≡_ {A = ℕ} 0 1 = cc in omega arith
-    by-kind (suc (suc (suc (suc (suc (suc zero)))))) e = let s = is-not img n e in let z : _≡_ {A = ℕ} 0 1 = cc in omega arith
-    by-kind (suc (suc (suc (suc (suc (suc (suc zero))))))) e = let s = is-call img n e in let z : _≡_ {A = ℕ} 0 1 = cc in omega arith
-    by-kind (suc (suc (suc (suc (suc (suc (suc (suc k)))))))) e = let h = words .node-words n l .known-kind in omega arith
+lawful-node img words n l u = omega (arith, kind-of-unlawful (fieldsAt img n) u, words .node-words n l .known-kind)
 
 module _ (img text : List ℕ) where
   -- A run that changes nothing.

@@ -2,16 +2,17 @@
 -- pair's word over records and over none. Assumes nothing.
 use Prim.Native.Nat.{ℕ, zero, suc, _≤_}
 use native.Mathlib.Omega.{arith}
-use mathlib.Core.Path.{_≡_, refl, sym, _∙_, subst}
+use mathlib.Core.Path.{_≡_, refl, sym, ap, _∙_, subst}
 use mathlib.Core.Bool.{Bool, true, false}
-use mathlib.Core.List.{List, [], _∷_}
-use lib.ListN.{length, getD, List·getD-eq-default}
+use mathlib.Core.List.{List, []}
+use lib.ListN.{length, getD}
 use lib.Dec.{ltb}
 use borrow.Author.Tests.{ltb-true, ltb-false}
-use Rattle.grammar.specs.Image.{Node, empty, terminal, any, range, sequence, choice, star, not-predicate, call, unlawful}
-use Rattle.grammar.specs.Image.{nodeOfKind, node, rules, root, start}
-use Rattle.image.specs.Fields.{WordFields}
-use Rattle.image.specs.declared.Node as image
+use Rattle.grammar.specs.declared.NodeFields.{NodeFields}
+use Rattle.grammar.specs.Image.{Node, empty, terminal, sequence, choice, star, not-predicate, call, unlawful}
+use Rattle.grammar.specs.Image.{fieldsOf, nodeOf, node, rules, root, start}
+use Rattle.image.specs.Fields.{SameFields}
+use Rattle.image.proofs.SameFields.{same-record}
 use Rattle.packrat.specs.Model.{Out, Evaluator, pairM, ruleM, kindM, nodeM}
 use Rattle.packrat.specs.Loaded.{wordB, wordNode, rulesIn, Loaded, nodeW, wordM}
 use Rattle.packrat.specs.Gives.{Gives}
@@ -19,27 +20,10 @@ use Rattle.packrat.specs.Session.{StartWord}
 use Rattle.packrat.specs.Session.{StartOver}
 use Rattle.packrat.proofs.Rules.{node-goes, rule-refused, rule-stored}
 
-module _ (w : ℕ) {f : image.Node} (s : WordFields w f) where
-  pub word-is : {k : ℕ} → f .kind ≡ k → wordNode w ≡ nodeOfKind k (f .a) (f .b)
-  unfolding wordNode
-  word-is e = λ i. nodeOfKind ((sym (s .its-kind) ∙ e) i) (sym (s .its-a) i) (sym (s .its-b) i)
-
-  pub word-unlawful : 8 ≤ f .kind → wordNode w ≡ unlawful
-  unfolding nodeOfKind
-  word-unlawful h =
-      word-is refl
-      ∙ List·getD-eq-default
-      (empty
-      ∷ terminal any
-      ∷ terminal (range (f .a) (f .b))
-      ∷ sequence (f .a) (f .b)
-      ∷ choice (f .a) (f .b)
-      ∷ star (f .a)
-      ∷ not-predicate (f .a)
-      ∷ call (f .a)
-      ∷ [])
-      unlawful
-      h
+-- The node of a word, from the fields that were read from it.
+pub word-is : (w : ℕ) {f : NodeFields} → SameFields f (fieldsOf w) → {m : Node} → nodeOf f ≡ m → wordNode w ≡ m
+unfolding wordNode
+word-is w s e = ap nodeOf (sym (same-record s)) ∙ e
 
 -- Only a call uses the root.
 same-root :

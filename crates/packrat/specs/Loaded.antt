@@ -1,19 +1,20 @@
 -- A grammar that was read once from its image, and the evaluator over it as a function.
--- A loaded grammar has a word for each number that a field of 12 bits can have, and then the number of rules. The words are those of
--- the nodes, but a call's field B, which is 0 in the image, is the root of the called rule.
+-- A loaded grammar has a word for each number that a field of 12 bits can have, and then the number of rules. The words are the
+-- linked words of the nodes: a call's field B, which is 0 in the image, is the root of the called rule.
 use Prim.Native.Nat.{ℕ, zero, suc}
 use mathlib.Core.Path.{_≡_}
 use mathlib.Core.List.{List}
 use lib.ListN.{getD}
-use Rattle.grammar.specs.Image.{Node, call, field, nodeOfKind, node, rules, root}
+use Rattle.grammar.specs.Image.{Node, call, fieldsOf, nodeOf, node, rules, root}
+pub use Rattle.image.specs.Linked.{linkedWord}
 use Rattle.packrat.specs.Model.{Out, out, refused, Evaluator, pairM, kindM}
 
--- "One 32-bit word per node: kind 4, zero 4, A 12, B 12."
-abbrev pub wordB : ℕ → ℕ
-wordB w = field w 0 12
-
+-- The node that a word stands for, and its field B.
 unfoldable pub wordNode : ℕ → Node
-wordNode w = nodeOfKind (field w 28 4) (field w 12 12) (wordB w)
+wordNode w = nodeOf (fieldsOf w)
+
+abbrev pub wordB : ℕ → ℕ
+wordB w = fieldsOf w .b
 
 abbrev pub rulesIn : List ℕ → ℕ
 rulesIn ws = getD ws 4096 0

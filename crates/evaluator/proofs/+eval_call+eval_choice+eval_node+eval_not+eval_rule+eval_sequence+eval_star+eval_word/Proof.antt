@@ -2,7 +2,7 @@
 -- proofs/Runs, Stars or Rules. The measure is four times the allowance: a word below a node, a node below a rule, a rule below the kinds.
 -- Assumes nothing.
 use Rattle.packrat.proofs.Rules.{was-possible, was-impossible, rule-impossible, rule-too-deep, rule-met, rule-refused, rule-stored, node-too-deep, node-goes, word-goes, call-goes, past-7}
-use Rattle.packrat.proofs.LoadedRuns.{word-is, word-unlawful}
+use Rattle.packrat.proofs.LoadedRuns.{word-is}
 use Rattle.packrat.proofs.Stars.{Rounds, rounds-start, round-refused, round-still, round-fails, round-goes, round-bounds}
 use Rattle.packrat.proofs.Runs.{not-refused, not-answered, call-refused, call-answered, nesting-allowed, says-itself, length-within}
 use Rattle.packrat.proofs.Runs.{choice-refused, choice-first, choice-second-refused, choice-second}
@@ -16,7 +16,8 @@ use Rattle.evaluation.proofs.Shape.{empty-within}
 use Rattle.grammar.proofs.Terminals.{shape}
 use Rattle.grammar.specs.Evaluates.{emptyHere}
 use Rattle.grammar.specs.Terminal.{terminalAt}
-use Rattle.grammar.specs.Image.{nodeOfKind, any, range}
+use Rattle.grammar.proofs.Nodes.{is-empty, is-any, is-range, is-sequence, is-choice, is-star, is-not, is-call, is-unlawful}
+use Rattle.grammar.specs.Image.{any, byteRange}
 use lib.ListN.{length, getD}
 use mathlib.Core.Path.{_≡_, refl, sym, ap, _∙_}
 use borrow.Author.Tests.{not-true, not-false}
@@ -318,15 +319,15 @@ eval-node-byte-between-requires : (t : ℕ) → eval-node-lts.Need-byte-between-
 eval-node-byte-between-requires t c κs = search needs
 
 eval-node-returns-2 : (t : ℕ) → eval-node-lts.Need-returns-2 (eval-node-claims t) (eval-node-at t) eval-node.Post
-unfolding kindM nodeOfKind
+unfolding kindM
 eval-node-returns-2 t c =
     let a = c .before .before .before .before .before .before .before .before .args in
     let pre = c .before .before .before .before .before .before .before .before .pre in
     let if1 = c .before .before .before .before .before .before .if1 in
     let node-of = c .before .before .before .before .node-of in
-    let s = shape (range (node-of .result .a) (node-of .result .b)) (a .text .now .now) (a .at) (pre .1 .0 .here) in
-    node-goes (a .words .now) (a .text .now .now) (a .left) (a .node) (a .at) (a .table .now) (a .count .now) (if1 .left) (word-goes (a .words .now) (a .text .now .now) (a .left) (getD (a .words .now) (a .node) 0) (a .at) (a .table .now) (a .count .now) (if1 .left) (word-is (getD (a .words .now) (a .node) 0) (node-of .ensures) {k = 2} (c .before .before .if2 .taken))
-    (gives-value (terminalAt (range (node-of .result .a) (node-of .result .b)) (a .text .now .now) (a .at)) refl (c .byte-between .ensures)
+    let s = shape (byteRange (node-of .result)) (a .text .now .now) (a .at) (pre .1 .0 .here) in
+    node-goes (a .words .now) (a .text .now .now) (a .left) (a .node) (a .at) (a .table .now) (a .count .now) (if1 .left) (word-goes (a .words .now) (a .text .now .now) (a .left) (getD (a .words .now) (a .node) 0) (a .at) (a .table .now) (a .count .now) (if1 .left) (word-is (getD (a .words .now) (a .node) 0) (node-of .ensures) (is-range _ (c .before .before .if2 .taken)))
+    (gives-value (terminalAt (byteRange (node-of .result)) (a .text .now .now) (a .at)) refl (c .byte-between .ensures)
     (record { in-text = s .in-text; up-to-end = s .up-to-end; in-examined = s .in-examined; failure = s .failure; nested = omega (arith, s .flat) })
     (omega (arith, s .flat))))
 
@@ -774,30 +775,30 @@ eval-word-eval-call-requires t c κs =
     (omega (arith, pre .0, pre .1 .1), (record { short = pre .1 .0 .short; here = pre .1 .0 .here; most = omega (arith, pre .1 .0 .most, pre .1 .1) }, omega (arith, node-of .ensures .its-a), omega (arith, node-of .ensures .its-b)))
 
 eval-word-returns : (t : ℕ) → eval-word-lts.Need-returns (eval-word-claims t) (eval-word-at t) eval-word.Post
-unfolding kindM nodeOfKind wordOf
+unfolding kindM wordOf
 eval-word-returns t c =
     let a = c .before .before .before .args in
     let pre = c .before .before .before .pre in
-    word-goes (a .words .now) (a .text .now .now) (a .left) (a .word) (a .at) (a .table .now) (a .count .now) (λ z. let l = pre .1 .1 in omega arith) (word-is (a .word) (c .before .node-of .ensures) {k = 0} (omega arith)) (gives-value emptyHere refl refl (empty-within (pre .1 .0 .here)) (omega arith))
+    word-goes (a .words .now) (a .text .now .now) (a .left) (a .word) (a .at) (a .table .now) (a .count .now) (λ z. let l = pre .1 .1 in omega arith) (word-is (a .word) (c .before .node-of .ensures) (is-empty _ (omega arith))) (gives-value emptyHere refl refl (empty-within (pre .1 .0 .here)) (omega arith))
 
 eval-word-returns-2 : (t : ℕ) → eval-word-lts.Need-returns-2 (eval-word-claims t) (eval-word-at t) eval-word.Post
-unfolding kindM nodeOfKind
+unfolding kindM
 eval-word-returns-2 t c =
     let a = c .before .before .before .before .before .args in
     let pre = c .before .before .before .before .before .pre in
     let s = shape any (a .text .now .now) (a .at) (pre .1 .0 .here) in
-    word-goes (a .words .now) (a .text .now .now) (a .left) (a .word) (a .at) (a .table .now) (a .count .now) (λ z. let l = pre .1 .1 in omega arith) (word-is (a .word) (c .before .before .before .node-of .ensures) {k = 1} (omega arith)) (gives-value (terminalAt any (a .text .now .now) (a .at)) refl (c .any-byte .ensures)
+    word-goes (a .words .now) (a .text .now .now) (a .left) (a .word) (a .at) (a .table .now) (a .count .now) (λ z. let l = pre .1 .1 in omega arith) (word-is (a .word) (c .before .before .before .node-of .ensures) (is-any _ (omega arith))) (gives-value (terminalAt any (a .text .now .now) (a .at)) refl (c .any-byte .ensures)
     (record { in-text = s .in-text; up-to-end = s .up-to-end; in-examined = s .in-examined; failure = s .failure; nested = omega (arith, s .flat) })
     (omega (arith, s .flat)))
 
 eval-word-returns-3 : (t : ℕ) → eval-word-lts.Need-returns-3 (eval-word-claims t) (eval-word-at t) eval-word.Post
-unfolding kindM nodeOfKind
+unfolding kindM
 eval-word-returns-3 t c =
     let a = c .before .before .before .before .before .args in
     let pre = c .before .before .before .before .before .pre in
     let node-of = c .before .before .before .node-of in
-    let s = shape (range (node-of .result .a) (node-of .result .b)) (a .text .now .now) (a .at) (pre .1 .0 .here) in
-    word-goes (a .words .now) (a .text .now .now) (a .left) (a .word) (a .at) (a .table .now) (a .count .now) (λ z. let l = pre .1 .1 in omega arith) (word-is (a .word) (node-of .ensures) {k = 2} (omega arith)) (gives-value (terminalAt (range (node-of .result .a) (node-of .result .b)) (a .text .now .now) (a .at)) refl (c .byte-between .ensures)
+    let s = shape (byteRange (node-of .result)) (a .text .now .now) (a .at) (pre .1 .0 .here) in
+    word-goes (a .words .now) (a .text .now .now) (a .left) (a .word) (a .at) (a .table .now) (a .count .now) (λ z. let l = pre .1 .1 in omega arith) (word-is (a .word) (node-of .ensures) (is-range _ (omega arith))) (gives-value (terminalAt (byteRange (node-of .result)) (a .text .now .now) (a .at)) refl (c .byte-between .ensures)
     (record { in-text = s .in-text; up-to-end = s .up-to-end; in-examined = s .in-examined; failure = s .failure; nested = omega (arith, s .flat) })
     (omega (arith, s .flat)))
 
@@ -805,56 +806,56 @@ eval-word-same-length : (t : ℕ) → eval-word-lts.Need-same-length (eval-word-
 eval-word-same-length t c = search needs
 
 eval-word-returns-4 : (t : ℕ) → eval-word-lts.Need-returns-4 (eval-word-claims t) (eval-word-at t) eval-word.Post
-unfolding kindM nodeOfKind
+unfolding kindM
 eval-word-returns-4 t c =
     let a = c .before .before .before .before .before .before .before .before .args in
     let pre = c .before .before .before .before .before .before .before .before .pre in
     let node-of = c .before .before .before .before .before .before .node-of in
-    word-goes (a .words .now) (a .text .now .now) (a .left) (a .word) (a .at) (a .table .now) (a .count .now) (λ z. let l = pre .1 .1 in omega arith) (word-is (a .word) (node-of .ensures) {k = 3} (omega arith)) (c .before .before .eval-sequence .ensures)
+    word-goes (a .words .now) (a .text .now .now) (a .left) (a .word) (a .at) (a .table .now) (a .count .now) (λ z. let l = pre .1 .1 in omega arith) (word-is (a .word) (node-of .ensures) (is-sequence _ (omega arith))) (c .before .before .eval-sequence .ensures)
 
 eval-word-same-length-2 : (t : ℕ) → eval-word-lts.Need-same-length-2 (eval-word-claims t) (eval-word-at t) eval-word.Post
 eval-word-same-length-2 t c = search needs
 
 eval-word-returns-5 : (t : ℕ) → eval-word-lts.Need-returns-5 (eval-word-claims t) (eval-word-at t) eval-word.Post
-unfolding kindM nodeOfKind
+unfolding kindM
 eval-word-returns-5 t c =
     let a = c .before .before .before .before .before .before .before .before .args in
     let pre = c .before .before .before .before .before .before .before .before .pre in
     let node-of = c .before .before .before .before .before .before .node-of in
-    word-goes (a .words .now) (a .text .now .now) (a .left) (a .word) (a .at) (a .table .now) (a .count .now) (λ z. let l = pre .1 .1 in omega arith) (word-is (a .word) (node-of .ensures) {k = 4} (omega arith)) (c .before .before .eval-choice .ensures)
+    word-goes (a .words .now) (a .text .now .now) (a .left) (a .word) (a .at) (a .table .now) (a .count .now) (λ z. let l = pre .1 .1 in omega arith) (word-is (a .word) (node-of .ensures) (is-choice _ (omega arith))) (c .before .before .eval-choice .ensures)
 
 eval-word-same-length-3 : (t : ℕ) → eval-word-lts.Need-same-length-3 (eval-word-claims t) (eval-word-at t) eval-word.Post
 eval-word-same-length-3 t c = search needs
 
 eval-word-returns-6 : (t : ℕ) → eval-word-lts.Need-returns-6 (eval-word-claims t) (eval-word-at t) eval-word.Post
-unfolding kindM nodeOfKind
+unfolding kindM
 eval-word-returns-6 t c =
     let a = c .before .before .before .before .before .before .before .before .args in
     let pre = c .before .before .before .before .before .before .before .before .pre in
     let node-of = c .before .before .before .before .before .before .node-of in
-    word-goes (a .words .now) (a .text .now .now) (a .left) (a .word) (a .at) (a .table .now) (a .count .now) (λ z. let l = pre .1 .1 in omega arith) (word-is (a .word) (node-of .ensures) {k = 5} (omega arith)) (c .before .before .eval-star .ensures)
+    word-goes (a .words .now) (a .text .now .now) (a .left) (a .word) (a .at) (a .table .now) (a .count .now) (λ z. let l = pre .1 .1 in omega arith) (word-is (a .word) (node-of .ensures) (is-star _ (omega arith))) (c .before .before .eval-star .ensures)
 
 eval-word-same-length-4 : (t : ℕ) → eval-word-lts.Need-same-length-4 (eval-word-claims t) (eval-word-at t) eval-word.Post
 eval-word-same-length-4 t c = search needs
 
 eval-word-returns-7 : (t : ℕ) → eval-word-lts.Need-returns-7 (eval-word-claims t) (eval-word-at t) eval-word.Post
-unfolding kindM nodeOfKind
+unfolding kindM
 eval-word-returns-7 t c =
     let a = c .before .before .before .before .before .before .before .before .args in
     let pre = c .before .before .before .before .before .before .before .before .pre in
     let node-of = c .before .before .before .before .before .before .node-of in
-    word-goes (a .words .now) (a .text .now .now) (a .left) (a .word) (a .at) (a .table .now) (a .count .now) (λ z. let l = pre .1 .1 in omega arith) (word-is (a .word) (node-of .ensures) {k = 6} (omega arith)) (c .before .before .eval-not .ensures)
+    word-goes (a .words .now) (a .text .now .now) (a .left) (a .word) (a .at) (a .table .now) (a .count .now) (λ z. let l = pre .1 .1 in omega arith) (word-is (a .word) (node-of .ensures) (is-not _ (omega arith))) (c .before .before .eval-not .ensures)
 
 eval-word-same-length-5 : (t : ℕ) → eval-word-lts.Need-same-length-5 (eval-word-claims t) (eval-word-at t) eval-word.Post
 eval-word-same-length-5 t c = search needs
 
 eval-word-returns-8 : (t : ℕ) → eval-word-lts.Need-returns-8 (eval-word-claims t) (eval-word-at t) eval-word.Post
-unfolding kindM nodeOfKind
+unfolding kindM
 eval-word-returns-8 t c =
     let a = c .before .before .before .before .before .before .before .before .args in
     let pre = c .before .before .before .before .before .before .before .before .pre in
     let node-of = c .before .before .before .before .before .before .node-of in
-    call-goes (a .words .now) (a .text .now .now) (a .left) (a .word) (a .at) (a .table .now) (a .count .now) (λ z. let l = pre .1 .1 in omega arith) (node-of .ensures .its-b) (word-is (a .word) (node-of .ensures) {k = 7} (omega arith)) (c .before .before .eval-call .ensures)
+    call-goes (a .words .now) (a .text .now .now) (a .left) (a .word) (a .at) (a .table .now) (a .count .now) (λ z. let l = pre .1 .1 in omega arith) (node-of .ensures .its-b) (word-is (a .word) (node-of .ensures) (is-call _ (omega arith))) (c .before .before .eval-call .ensures)
 
 eval-word-returns-9 : (t : ℕ) → eval-word-lts.Need-returns-9 (eval-word-claims t) (eval-word-at t) eval-word.Post
 unfolding kindM
@@ -863,7 +864,7 @@ eval-word-returns-9 t c =
     let pre = c .before .before .before .before .pre in
     let node-of = c .before .before .node-of in
     let k = past-7 (node-of .result .kind) (c .before .match .rest .0 .0 .0 .0 .0 .0 .0 .1) (c .before .match .rest .0 .0 .0 .0 .0 .0 .1) (c .before .match .rest .0 .0 .0 .0 .0 .1) (c .before .match .rest .0 .0 .0 .0 .1) (c .before .match .rest .0 .0 .0 .1) (c .before .match .rest .0 .0 .1) (c .before .match .rest .0 .1) (c .before .match .rest .1) in
-    word-goes (a .words .now) (a .text .now .now) (a .left) (a .word) (a .at) (a .table .now) (a .count .now) (λ z. let l = pre .1 .1 in omega arith) (word-unlawful (a .word) (node-of .ensures) k) (gives-refusal refl (omega arith))
+    word-goes (a .words .now) (a .text .now .now) (a .left) (a .word) (a .at) (a .table .now) (a .count .now) (λ z. let l = pre .1 .1 in omega arith) (word-is (a .word) (node-of .ensures) (is-unlawful _ k)) (gives-refusal refl (omega arith))
 
 eval-word-returns-10 : (t : ℕ) → eval-word-lts.Need-returns-10 (eval-word-claims t) (eval-word-at t) eval-word.Post
 unfolding kindM
@@ -872,7 +873,7 @@ eval-word-returns-10 t c =
     let pre = c .before .before .before .before .pre in
     let node-of = c .before .before .node-of in
     let k = past-7 (node-of .result .kind) (c .before .match .rest .0 .0 .0 .0 .0 .0 .0 .1) (c .before .match .rest .0 .0 .0 .0 .0 .0 .1) (c .before .match .rest .0 .0 .0 .0 .0 .1) (c .before .match .rest .0 .0 .0 .0 .1) (c .before .match .rest .0 .0 .0 .1) (c .before .match .rest .0 .0 .1) (c .before .match .rest .0 .1) (c .before .match .rest .1) in
-    word-goes (a .words .now) (a .text .now .now) (a .left) (a .word) (a .at) (a .table .now) (a .count .now) (λ z. let l = pre .1 .1 in omega arith) (word-unlawful (a .word) (node-of .ensures) k) (gives-refusal refl (omega arith))
+    word-goes (a .words .now) (a .text .now .now) (a .left) (a .word) (a .at) (a .table .now) (a .count .now) (λ z. let l = pre .1 .1 in omega arith) (word-is (a .word) (node-of .ensures) (is-unlawful _ k)) (gives-refusal refl (omega arith))
 
 pub +eval-call+eval-choice+eval-node+eval-not+eval-rule+eval-sequence+eval-star+eval-word-spec :
     {M : Type 1} → statement M

@@ -3,7 +3,7 @@ use native.Mathlib.Omega.{arith}
 use mathlib.Core.Path.{_≡_, sym, _∙_}
 use lib.ListN.{length, getD, length-set, length-replicate}
 use Rattle.grammar.specs.Image.{nodes}
-use Rattle.loaded.proofs.LoadedWords.{LoadedTo, none-loaded, next-loaded, loaded}
+use Rattle.loaded.proofs.LoadedWords.{linked-loaded, LoadedTo, none-loaded, next-loaded, loaded}
 use borrow.Author.Needs.{needs}
 use Rattle.loaded.proofs.load.Statement.{statement}
 use Rattle.loaded.proofs.load.Tie as tie
@@ -22,9 +22,8 @@ loop-holds : tie.Need-loop-holds Inv-loop μ-loop
 loop-holds c =
     (omega arith, length-replicate {A = ℕ} 4097 0, none-loaded (c .before .before .args .image .now) 4097)
 
-loaded-word-requires : tie.Need-loaded-word-requires Inv-loop μ-loop
-loaded-word-requires c κs =
-    (c .before .before .before .before .pre, omega (arith, c .before .before .header-of .ensures .its-nodes))
+linked-word-requires : tie.Need-linked-word-requires Inv-loop μ-loop
+linked-word-requires c κs = search needs
 
 mul-words : tie.Need-mul-words Inv-loop μ-loop
 mul-words c = search needs
@@ -42,7 +41,7 @@ loop-less c = search needs
 loop-again : tie.Need-loop-again Inv-loop μ-loop
 loop-again c =
     let l : c .before .before .loop .n < length (c .before .before .loop .words) = omega (arith, c .before .before .before .before .before .pre .counts .few-nodes, c .before .before .before .header-of .ensures .its-nodes, c .before .before .loop .inv .1) in
-    (omega arith, length-set (c .before .before .loop .words) (c .before .before .loop .n) _ ∙ c .before .before .loop .inv .1, next-loaded (c .before .before .before .before .before .args .image .now) (c .before .before .loop .words) (c .before .before .loop .n) _ l (c .loaded-word .ensures) (c .before .before .loop .inv .2))
+    (omega arith, length-set (c .before .before .loop .words) (c .before .before .loop .n) _ ∙ c .before .before .loop .inv .1, next-loaded (c .before .before .before .before .before .args .image .now) (c .before .before .loop .words) (c .before .before .loop .n) _ l (rw (c .linked-word .ensures) (linked-loaded (c .before .before .before .before .before .args .image .now) (c .before .before .loop .n))) (c .before .before .loop .inv .2))
 
 cast-words : tie.Need-cast-words Inv-loop μ-loop
 cast-words c =
@@ -64,7 +63,7 @@ load-spec =
     μ-loop
     header-of-requires
     loop-holds
-    loaded-word-requires
+    linked-word-requires
     mul-words
     array-write-words
     add-n

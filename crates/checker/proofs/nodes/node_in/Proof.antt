@@ -1,3 +1,5 @@
+use Rattle.image.proofs.SameFields.{same-record}
+use Rattle.image.proofs.Linked.{linked}
 use borrow.Author.Needs.{needs}
 use Rattle.checker.proofs.nodes.node_in.Statement.{statement}
 use Rattle.checker.proofs.nodes.node_in.Tie as tie
@@ -13,8 +15,9 @@ node-of-requires c κs = search needs
 
 returns : tie.Need-returns
 returns c =
-    let f = c .node-of .ensures in
-    rw (f .its-kind, f .its-a, f .its-b) (c .before .before .before .pre .0 .word-of (c .before .before .before .args .n) (c .before .before .before .pre .1))
+    let start = c .before .before .before in
+    let word = start .pre .0 .word-of (start .args .n) (start .pre .1) in
+    rw (same-record (c .node-of .ensures), word) (linked (start .args .image .now) (start .args .n))
 
 pub node-in-spec : {M : Type 1} → statement M
 node-in-spec = tie.close (tie.spec mul-node-of element-copy-out-node-of node-of-requires returns)

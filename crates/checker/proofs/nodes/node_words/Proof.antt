@@ -1,5 +1,5 @@
-use Rattle.checker.specs.Nodes.{LinkedWord}
-use Rattle.checker.proofs.Links.{next-linked}
+use Rattle.image.specs.Linked.{linkedWord}
+use Rattle.lawful.proofs.Writes.{next-written}
 use native.Mathlib.Omega.{arith}
 use lib.ListN.{length, getD, length-set}
 use mathlib.Core.Path.{_≡_, _∙_}
@@ -9,7 +9,7 @@ use Rattle.checker.proofs.nodes.node_words.Statement.{statement}
 use Rattle.checker.proofs.nodes.node_words.Tie as tie
 
 abbrev Inv-loop : tie.InvT-loop
-Inv-loop image count words₀ n₀ words n = (n ≤ count) × (length words ≡ 1024) × ((k : ℕ) → k < n → LinkedWord image k (getD words k 0))
+Inv-loop image count words₀ n₀ words n = (n ≤ count) × (length words ≡ 1024) × ((k : ℕ) → k < n → getD words k 0 ≡ linkedWord image k)
 
 abbrev μ-loop : tie.MeasureT-loop
 μ-loop image count words₀ n₀ words n = count - n
@@ -42,7 +42,7 @@ loop-again c =
     let l : at-loop .loop .n < length (at-loop .loop .words) = omega (arith, start .pre .few-nodes) in (
       search needs,
       length-set (at-loop .loop .words) (at-loop .loop .n) _ ∙ at-loop .loop .inv .1,
-      next-linked (start .args .image .now) (at-loop .loop .words) (at-loop .loop .n) _ l (c .linked-word .ensures) (at-loop .loop .inv .2),
+      next-written (linkedWord (start .args .image .now)) (at-loop .loop .words) (at-loop .loop .n) _ l (c .linked-word .ensures) (at-loop .loop .inv .2),
     )
 
 returns : tie.Need-returns Inv-loop μ-loop

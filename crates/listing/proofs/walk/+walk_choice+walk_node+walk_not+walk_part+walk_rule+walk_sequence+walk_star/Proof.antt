@@ -3,13 +3,14 @@
 use Rattle.listing.proofs.Paths.{sequence-first, sequence-ends, sequence-second-ends, sequence-second, sequence-both, not-stops, not-fails, not-matches, part-found, part-ends, part-missed, part-goes, choice-first, choice-failed, choice-second, Rounds, star-start, star-stops, star-last, star-found, star-still, star-more}
 use Rattle.listing.proofs.Rules.{rule-empty, rule-impossible, rule-failed, rule-in-text, rule-missed, rule-full, rule-stops, rule-goes, node-too-deep, node-goes, empty-goes, unlawful-goes, terminal-goes}
 use Rattle.packrat.proofs.Rules.{was-possible, was-impossible, past-7}
-use Rattle.packrat.proofs.LoadedRuns.{word-is, word-unlawful}
+use Rattle.packrat.proofs.LoadedRuns.{word-is}
 use Rattle.packrat.specs.Loaded.{rulesIn}
 use Rattle.rows.specs.Walk.{nodeV, pairV, kindV}
 use Rattle.rows.proofs.Bounds.{node-bounded}
 use Rattle.records.specs.Words.{possible, recordOf}
 use Rattle.records.specs.declared.Record.{Record}
-use Rattle.grammar.specs.Image.{nodeOfKind, any, range, star}
+use Rattle.grammar.proofs.Nodes.{is-empty, is-any, is-range, is-sequence, is-choice, is-star, is-not, is-call, is-unlawful}
+use Rattle.grammar.specs.Image.{any, byteRange, star}
 use lib.ListN.{length, getD}
 use mathlib.Core.Path.{_≡_, refl, sym, ap, _∙_}
 use borrow.Author.Tests.{not-true, not-false}
@@ -278,80 +279,77 @@ walk-node-add-result-3 : (t : ℕ) → walk-node-lts.Need-add-result-3 (walk-nod
 walk-node-add-result-3 t c = search needs
 
 walk-node-returns-2 : (t : ℕ) → walk-node-lts.Need-returns-2 (walk-node-claims t) (walk-node-at t) walk-node.Post
-unfolding nodeOfKind
 walk-node-returns-2 t c =
     let given = c .before .before .before .before .before .args in
-    node-goes (given .room) (given .words .now) (given .text .now .now) (given .table .now .now) (given .node) (given .at) (given .lo) (given .hi) (given .depth) (given .count .now) (given .rows .now) (given .left) (c .before .before .before .if1 .left) (word-is (getD (given .words .now) (given .node) 0) (c .before .node-of .ensures) {k = 0} (omega arith)) (empty-goes (given .room) (given .words .now) (given .text .now .now) (given .table .now .now) (given .node) (given .at) (given .lo) (given .hi) (given .depth) (given .count .now) (given .rows .now) (given .left - 1))
+    node-goes (given .room) (given .words .now) (given .text .now .now) (given .table .now .now) (given .node) (given .at) (given .lo) (given .hi) (given .depth) (given .count .now) (given .rows .now) (given .left) (c .before .before .before .if1 .left) (word-is (getD (given .words .now) (given .node) 0) (c .before .node-of .ensures) (is-empty _ (omega arith))) (empty-goes (given .room) (given .words .now) (given .text .now .now) (given .table .now .now) (given .node) (given .at) (given .lo) (given .hi) (given .depth) (given .count .now) (given .rows .now) (given .left - 1))
 
 walk-node-returns-3 : (t : ℕ) → walk-node-lts.Need-returns-3 (walk-node-claims t) (walk-node-at t) walk-node.Post
-unfolding nodeOfKind
 walk-node-returns-3 t c =
     let given = c .before .before .before .before .before .before .before .args in
     let if1 = c .before .before .before .before .before .if1 in
-    node-goes (given .room) (given .words .now) (given .text .now .now) (given .table .now .now) (given .node) (given .at) (given .lo) (given .hi) (given .depth) (given .count .now) (given .rows .now) (given .left) (if1 .left) (word-is (getD (given .words .now) (given .node) 0) (c .before .before .before .node-of .ensures) {k = 1} (omega arith)) (terminal-goes (given .room) (given .words .now) (given .text .now .now) (given .table .now .now) (given .node) (given .at) (given .lo) (given .hi) (given .depth) (given .count .now) (given .rows .now) (given .left - 1) any (c .any-byte .ensures))
+    node-goes (given .room) (given .words .now) (given .text .now .now) (given .table .now .now) (given .node) (given .at) (given .lo) (given .hi) (given .depth) (given .count .now) (given .rows .now) (given .left) (if1 .left) (word-is (getD (given .words .now) (given .node) 0) (c .before .before .before .node-of .ensures) (is-any _ (omega arith))) (terminal-goes (given .room) (given .words .now) (given .text .now .now) (given .table .now .now) (given .node) (given .at) (given .lo) (given .hi) (given .depth) (given .count .now) (given .rows .now) (given .left - 1) any (c .any-byte .ensures))
 
 walk-node-returns-4 : (t : ℕ) → walk-node-lts.Need-returns-4 (walk-node-claims t) (walk-node-at t) walk-node.Post
-unfolding nodeOfKind
 walk-node-returns-4 t c =
     let given = c .before .before .before .before .before .before .before .args in
     let if1 = c .before .before .before .before .before .if1 in
     let node-of = c .before .before .before .node-of in
-    node-goes (given .room) (given .words .now) (given .text .now .now) (given .table .now .now) (given .node) (given .at) (given .lo) (given .hi) (given .depth) (given .count .now) (given .rows .now) (given .left) (if1 .left) (word-is (getD (given .words .now) (given .node) 0) (node-of .ensures) {k = 2} (omega arith)) (terminal-goes (given .room) (given .words .now) (given .text .now .now) (given .table .now .now) (given .node) (given .at) (given .lo) (given .hi) (given .depth) (given .count .now) (given .rows .now) (given .left - 1) (range (node-of .result .a) (node-of .result .b)) (c .byte-between .ensures))
+    node-goes (given .room) (given .words .now) (given .text .now .now) (given .table .now .now) (given .node) (given .at) (given .lo) (given .hi) (given .depth) (given .count .now) (given .rows .now) (given .left) (if1 .left) (word-is (getD (given .words .now) (given .node) 0) (node-of .ensures) (is-range _ (omega arith))) (terminal-goes (given .room) (given .words .now) (given .text .now .now) (given .table .now .now) (given .node) (given .at) (given .lo) (given .hi) (given .depth) (given .count .now) (given .rows .now) (given .left - 1) (byteRange (node-of .result)) (c .byte-between .ensures))
 
 walk-node-same-length : (t : ℕ) → walk-node-lts.Need-same-length (walk-node-claims t) (walk-node-at t) walk-node.Post
 walk-node-same-length t c = search needs
 
 walk-node-returns-5 : (t : ℕ) → walk-node-lts.Need-returns-5 (walk-node-claims t) (walk-node-at t) walk-node.Post
-unfolding nodeOfKind kindV
+unfolding kindV
 walk-node-returns-5 t c =
     let given = c .before .before .before .before .before .before .before .before .before .before .args in
     let if1 = c .before .before .before .before .before .before .before .before .if1 in
     let node-of = c .before .before .before .before .before .before .node-of in
-    node-goes (given .room) (given .words .now) (given .text .now .now) (given .table .now .now) (given .node) (given .at) (given .lo) (given .hi) (given .depth) (given .count .now) (given .rows .now) (given .left) (if1 .left) (word-is (getD (given .words .now) (given .node) 0) (node-of .ensures) {k = 3} (omega arith)) (c .before .before .walk-sequence .ensures)
+    node-goes (given .room) (given .words .now) (given .text .now .now) (given .table .now .now) (given .node) (given .at) (given .lo) (given .hi) (given .depth) (given .count .now) (given .rows .now) (given .left) (if1 .left) (word-is (getD (given .words .now) (given .node) 0) (node-of .ensures) (is-sequence _ (omega arith))) (c .before .before .walk-sequence .ensures)
 
 walk-node-same-length-2 : (t : ℕ) → walk-node-lts.Need-same-length-2 (walk-node-claims t) (walk-node-at t) walk-node.Post
 walk-node-same-length-2 t c = search needs
 
 walk-node-returns-6 : (t : ℕ) → walk-node-lts.Need-returns-6 (walk-node-claims t) (walk-node-at t) walk-node.Post
-unfolding nodeOfKind kindV
+unfolding kindV
 walk-node-returns-6 t c =
     let given = c .before .before .before .before .before .before .before .before .before .before .args in
     let if1 = c .before .before .before .before .before .before .before .before .if1 in
     let node-of = c .before .before .before .before .before .before .node-of in
-    node-goes (given .room) (given .words .now) (given .text .now .now) (given .table .now .now) (given .node) (given .at) (given .lo) (given .hi) (given .depth) (given .count .now) (given .rows .now) (given .left) (if1 .left) (word-is (getD (given .words .now) (given .node) 0) (node-of .ensures) {k = 4} (omega arith)) (c .before .before .walk-choice .ensures)
+    node-goes (given .room) (given .words .now) (given .text .now .now) (given .table .now .now) (given .node) (given .at) (given .lo) (given .hi) (given .depth) (given .count .now) (given .rows .now) (given .left) (if1 .left) (word-is (getD (given .words .now) (given .node) 0) (node-of .ensures) (is-choice _ (omega arith))) (c .before .before .walk-choice .ensures)
 
 walk-node-same-length-3 : (t : ℕ) → walk-node-lts.Need-same-length-3 (walk-node-claims t) (walk-node-at t) walk-node.Post
 walk-node-same-length-3 t c = search needs
 
 walk-node-returns-7 : (t : ℕ) → walk-node-lts.Need-returns-7 (walk-node-claims t) (walk-node-at t) walk-node.Post
-unfolding nodeOfKind kindV
+unfolding kindV
 walk-node-returns-7 t c =
     let given = c .before .before .before .before .before .before .before .before .before .before .args in
     let if1 = c .before .before .before .before .before .before .before .before .if1 in
     let node-of = c .before .before .before .before .before .before .node-of in
-    node-goes (given .room) (given .words .now) (given .text .now .now) (given .table .now .now) (given .node) (given .at) (given .lo) (given .hi) (given .depth) (given .count .now) (given .rows .now) (given .left) (if1 .left) (word-is (getD (given .words .now) (given .node) 0) (node-of .ensures) {k = 5} (omega arith)) (c .before .before .walk-star .ensures)
+    node-goes (given .room) (given .words .now) (given .text .now .now) (given .table .now .now) (given .node) (given .at) (given .lo) (given .hi) (given .depth) (given .count .now) (given .rows .now) (given .left) (if1 .left) (word-is (getD (given .words .now) (given .node) 0) (node-of .ensures) (is-star _ (omega arith))) (c .before .before .walk-star .ensures)
 
 walk-node-same-length-4 : (t : ℕ) → walk-node-lts.Need-same-length-4 (walk-node-claims t) (walk-node-at t) walk-node.Post
 walk-node-same-length-4 t c = search needs
 
 walk-node-returns-8 : (t : ℕ) → walk-node-lts.Need-returns-8 (walk-node-claims t) (walk-node-at t) walk-node.Post
-unfolding nodeOfKind kindV
+unfolding kindV
 walk-node-returns-8 t c =
     let given = c .before .before .before .before .before .before .before .before .before .before .args in
     let if1 = c .before .before .before .before .before .before .before .before .if1 in
     let node-of = c .before .before .before .before .before .before .node-of in
-    node-goes (given .room) (given .words .now) (given .text .now .now) (given .table .now .now) (given .node) (given .at) (given .lo) (given .hi) (given .depth) (given .count .now) (given .rows .now) (given .left) (if1 .left) (word-is (getD (given .words .now) (given .node) 0) (node-of .ensures) {k = 6} (omega arith)) (c .before .before .walk-not .ensures)
+    node-goes (given .room) (given .words .now) (given .text .now .now) (given .table .now .now) (given .node) (given .at) (given .lo) (given .hi) (given .depth) (given .count .now) (given .rows .now) (given .left) (if1 .left) (word-is (getD (given .words .now) (given .node) 0) (node-of .ensures) (is-not _ (omega arith))) (c .before .before .walk-not .ensures)
 
 walk-node-same-length-5 : (t : ℕ) → walk-node-lts.Need-same-length-5 (walk-node-claims t) (walk-node-at t) walk-node.Post
 walk-node-same-length-5 t c = search needs
 
 walk-node-returns-9 : (t : ℕ) → walk-node-lts.Need-returns-9 (walk-node-claims t) (walk-node-at t) walk-node.Post
-unfolding nodeOfKind kindV
+unfolding kindV
 walk-node-returns-9 t c =
     let given = c .before .before .before .before .before .before .before .before .before .before .args in
     let if1 = c .before .before .before .before .before .before .before .before .if1 in
     let node-of = c .before .before .before .before .before .before .node-of in
-    node-goes (given .room) (given .words .now) (given .text .now .now) (given .table .now .now) (given .node) (given .at) (given .lo) (given .hi) (given .depth) (given .count .now) (given .rows .now) (given .left) (if1 .left) (word-is (getD (given .words .now) (given .node) 0) (node-of .ensures) {k = 7} (omega arith)) (rw (node-of .ensures .its-b) at (c .before .before .walk-rule .ensures))
+    node-goes (given .room) (given .words .now) (given .text .now .now) (given .table .now .now) (given .node) (given .at) (given .lo) (given .hi) (given .depth) (given .count .now) (given .rows .now) (given .left) (if1 .left) (word-is (getD (given .words .now) (given .node) 0) (node-of .ensures) (is-call _ (omega arith))) (rw (node-of .ensures .its-b) at (c .before .before .walk-rule .ensures))
 
 walk-node-returns-10 : (t : ℕ) → walk-node-lts.Need-returns-10 (walk-node-claims t) (walk-node-at t) walk-node.Post
 walk-node-returns-10 t c =
@@ -359,7 +357,7 @@ walk-node-returns-10 t c =
     let if1 = c .before .before .before .before .if1 in
     let node-of = c .before .before .node-of in
     let k = past-7 (node-of .result .kind) (c .before .match .rest .0 .0 .0 .0 .0 .0 .0 .1) (c .before .match .rest .0 .0 .0 .0 .0 .0 .1) (c .before .match .rest .0 .0 .0 .0 .0 .1) (c .before .match .rest .0 .0 .0 .0 .1) (c .before .match .rest .0 .0 .0 .1) (c .before .match .rest .0 .0 .1) (c .before .match .rest .0 .1) (c .before .match .rest .1) in
-    node-goes (given .room) (given .words .now) (given .text .now .now) (given .table .now .now) (given .node) (given .at) (given .lo) (given .hi) (given .depth) (given .count .now) (given .rows .now) (given .left) (if1 .left) (word-unlawful (getD (given .words .now) (given .node) 0) (node-of .ensures) k) (unlawful-goes (given .room) (given .words .now) (given .text .now .now) (given .table .now .now) (given .node) (given .at) (given .lo) (given .hi) (given .depth) (given .count .now) (given .rows .now) (given .left - 1))
+    node-goes (given .room) (given .words .now) (given .text .now .now) (given .table .now .now) (given .node) (given .at) (given .lo) (given .hi) (given .depth) (given .count .now) (given .rows .now) (given .left) (if1 .left) (word-is (getD (given .words .now) (given .node) 0) (node-of .ensures) (is-unlawful _ k)) (unlawful-goes (given .room) (given .words .now) (given .text .now .now) (given .table .now .now) (given .node) (given .at) (given .lo) (given .hi) (given .depth) (given .count .now) (given .rows .now) (given .left - 1))
 
 walk-node-returns-11 : (t : ℕ) → walk-node-lts.Need-returns-11 (walk-node-claims t) (walk-node-at t) walk-node.Post
 walk-node-returns-11 t c =
@@ -367,7 +365,7 @@ walk-node-returns-11 t c =
     let if1 = c .before .before .before .before .if1 in
     let node-of = c .before .before .node-of in
     let k = past-7 (node-of .result .kind) (c .before .match .rest .0 .0 .0 .0 .0 .0 .0 .1) (c .before .match .rest .0 .0 .0 .0 .0 .0 .1) (c .before .match .rest .0 .0 .0 .0 .0 .1) (c .before .match .rest .0 .0 .0 .0 .1) (c .before .match .rest .0 .0 .0 .1) (c .before .match .rest .0 .0 .1) (c .before .match .rest .0 .1) (c .before .match .rest .1) in
-    node-goes (given .room) (given .words .now) (given .text .now .now) (given .table .now .now) (given .node) (given .at) (given .lo) (given .hi) (given .depth) (given .count .now) (given .rows .now) (given .left) (if1 .left) (word-unlawful (getD (given .words .now) (given .node) 0) (node-of .ensures) k) (unlawful-goes (given .room) (given .words .now) (given .text .now .now) (given .table .now .now) (given .node) (given .at) (given .lo) (given .hi) (given .depth) (given .count .now) (given .rows .now) (given .left - 1))
+    node-goes (given .room) (given .words .now) (given .text .now .now) (given .table .now .now) (given .node) (given .at) (given .lo) (given .hi) (given .depth) (given .count .now) (given .rows .now) (given .left) (if1 .left) (word-is (getD (given .words .now) (given .node) 0) (node-of .ensures) (is-unlawful _ k)) (unlawful-goes (given .room) (given .words .now) (given .text .now .now) (given .table .now .now) (given .node) (given .at) (given .lo) (given .hi) (given .depth) (given .count .now) (given .rows .now) (given .left - 1))
 
 walk-not-add-walk-node : (t : ℕ) → walk-not-lts.Need-add-walk-node (walk-not-claims t) (walk-not-at t) walk-not.Post
 walk-not-add-walk-node t c =

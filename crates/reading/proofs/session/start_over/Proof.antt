@@ -1,7 +1,7 @@
 use native.Mathlib.Omega.{arith}
 use mathlib.Core.Path.{_≡_, ap, _∙_}
 use Rattle.grammar.specs.Image.{root, start}
-use Rattle.loaded.proofs.LoadedWords.{root-small}
+use Rattle.image.proofs.Linked.{root-small}
 use Rattle.packrat.proofs.LoadedRuns.{start-over-given}
 use borrow.Author.Needs.{needs}
 use Rattle.reading.proofs.session.start_over.Statement.{statement}
