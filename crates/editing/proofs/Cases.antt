@@ -11,11 +11,11 @@ use borrow.Author.Tests.{le-leb, lt-leb, lt-ltb, le-ltb}
 use Rattle.buffers.specs.Filled.{at}
 use Rattle.buffers.proofs.Fill.{cut}
 use Rattle.records.specs.Words.{isHeld, examinedOf}
+use Rattle.records.specs.Slots.{slotOf}
+use Rattle.records.proofs.Slots.{before-row, in-row}
 use Rattle.editing.specs.Text.{newLength}
 use Rattle.editing.specs.Table.{pick, stays, comes, cameFrom, tabulate}
-use Rattle.records.specs.Slots.{slotOf}
 use Rattle.editing.specs.Words.{onlyHeld, keptWord}
-use Rattle.editing.proofs.Slots.{row-room}
 
 -- A tabulated list.
 pub tabulate-long : (f : ℕ → ℕ) (n : ℕ) → length (tabulate f n) ≡ n
@@ -77,40 +77,41 @@ came-is a b c d u v p q w = ap₂ (λ (x y : Bool). pick (x && y) (onlyHeld v) 0
 
 module _ (R s k rule : ℕ) (below : rule < R) where
   -- Which slots lie behind the new words.
-  pub from-new : (d : ℕ) → leb (k * R) (d * R + rule) ≡ leb (s + k) (s + d)
+  pub from-new : (d : ℕ) → leb (k * R) (slotOf R rule d) ≡ leb (s + k) (s + d)
   from-new d = ⊎-elim
-      (λ (p : d < k).
-      let m = row-room R d k p in
-      lt-leb (k * R) (d * R + rule) (omega arith) ∙ sym (lt-leb (s + k) (s + d) (omega arith)))
+      (λ (p : d < k). lt-leb (k * R) (slotOf R rule d) (before-row R rule d k below p) ∙ sym (lt-leb (s + k) (s + d) (omega arith)))
       (λ (p : k ≤ d).
       let m : k * R ≤ d * R = mul-le-mul-right R p in
-      le-leb (k * R) (d * R + rule) (omega arith) ∙ sym (le-leb (s + k) (s + d) (omega arith)))
+      let o = in-row R rule d in
+      le-leb (k * R) (slotOf R rule d) (omega arith) ∙ sym (le-leb (s + k) (s + d) (omega arith)))
       (cut d k)
 
   -- And before the end of the carried ones.
-  pub to-end : (d t m : ℕ) → m ≡ s + k + t → ltb (d * R + rule) (k * R + (t + 1) * R) ≡ leb (s + d) m
+  pub to-end : (d t m : ℕ) → m ≡ s + k + t → ltb (slotOf R rule d) (k * R + (t + 1) * R) ≡ leb (s + d) m
   to-end d t m e = ⊎-elim
       (λ (p : d < k + (t + 1)).
-      let l = row-room R d (k + (t + 1)) p in
-      lt-ltb (d * R + rule) (k * R + (t + 1) * R) (omega arith) ∙ sym (le-leb (s + d) m (omega arith)))
+      let l = before-row R rule d (k + (t + 1)) below p in
+      lt-ltb (slotOf R rule d) (k * R + (t + 1) * R) (omega arith) ∙ sym (le-leb (s + d) m (omega arith)))
       (λ (p : k + (t + 1) ≤ d).
       let l : (k + (t + 1)) * R ≤ d * R = mul-le-mul-right R p in
-      le-ltb (d * R + rule) (k * R + (t + 1) * R) (omega arith) ∙ sym (lt-leb (s + d) m (omega arith)))
+      let o = in-row R rule d in
+      le-ltb (slotOf R rule d) (k * R + (t + 1) * R) (omega arith) ∙ sym (lt-leb (s + d) m (omega arith)))
       (cut d (k + (t + 1)))
 
-  moved : (i g : ℕ) → s * R + (g * R + ((k + i) * R + rule - k * R)) ≡ (s + i + g) * R + rule
+  moved : (i g : ℕ) → s * R + (g * R + (slotOf R rule (k + i) - k * R)) ≡ slotOf R rule (s + i + g)
   moved i g =
-      let e : (k + i) * R + rule - k * R ≡ i * R + rule = omega arith in
-      ap (λ (x : ℕ). s * R + (g * R + x)) e ∙ (let o : s * R + (g * R + (i * R + rule)) ≡ (s + i + g) * R + rule = omega arith in o)
+      let a = in-row R rule (k + i) in
+      let b = in-row R rule (s + i + g) in
+      omega arith
 
   -- Where a carried word was.
-  pub came-from : (d e : ℕ) → k ≤ d → s * R + ((e - s) * R + (d * R + rule - k * R)) ≡ slotOf R rule (cameFrom s e k (s + d))
+  pub came-from : (d e : ℕ) → k ≤ d → s * R + ((e - s) * R + (slotOf R rule d - k * R)) ≡ slotOf R rule (cameFrom s e k (s + d))
   came-from d e h =
       let i : ℕ = d - k in
       let a : d ≡ k + i = omega arith in
-      ap (λ (x : ℕ). s * R + ((e - s) * R + (x * R + rule - k * R))) a
+      ap (λ (x : ℕ). s * R + ((e - s) * R + (slotOf R rule x - k * R))) a
       ∙ moved i (e - s)
-      ∙ ap (λ (x : ℕ). x * R + rule) (let o : s + i + (e - s) ≡ s + d - k + (e - s) = omega arith in o)
+      ∙ ap (slotOf R rule) (let o : s + i + (e - s) ≡ s + d - k + (e - s) = omega arith in o)
 
 -- A position that a carried pair had is in the old text.
 pub was-inside :

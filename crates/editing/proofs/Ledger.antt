@@ -16,13 +16,13 @@ use Rattle.buffers.proofs.Parts.{joined-first}
 use Rattle.grammar.specs.Questions.{oneIf}
 use Rattle.evaluation.specs.Counts.{sumTo, countPairs}
 use Rattle.records.specs.Words.{isHeld, examinedOf}
+use Rattle.records.specs.Slots.{slotOf, tableSize}
+use Rattle.records.proofs.Slots.{slot-in, in-row, position-of, rule-of}
 use Rattle.editing.specs.Text.{EditFits, newLength}
-use Rattle.editing.specs.Table.{pick, tableWord, tableSize, stays, comes, cameFrom, wordAfter, tabulate, wordsAfter, tableAfter, heldIn}
-use Rattle.records.specs.Slots.{slotOf}
+use Rattle.editing.specs.Table.{pick, tableWord, stays, comes, cameFrom, wordAfter, tabulate, wordsAfter, tableAfter, heldIn}
 use Rattle.editing.specs.Pairs.{standsAfter}
 use Rattle.editing.specs.Words.{heldBit, heldTo}
 use Rattle.editing.proofs.Held.{pick-by, held-add, held-same, held-list}
-use Rattle.editing.proofs.Slots.{row-room, position-of, rule-of}
 use Rattle.editing.proofs.Cases.{tabulate-long, tabulate-at, was-inside}
 
 and-first : (a b : Bool) → (a && b) ≡ true → a ≡ true
@@ -164,21 +164,25 @@ module _
     unfolding wordsAfter
     ledger-after rule q below inside =
         let f : ℕ → ℕ = λ j. wordAfter R n s e k t (j % R) (j / R) in
-        let m = row-room R q (cap + 1) (omega arith) in
-        let slot : slotOf R rule q < tableSize R cap = omega arith in
+        let slot = slot-in R cap rule q below inside in
         joined-first (tabulate f (tableSize R cap)) (drop (tableSize R cap) t) (tableSize R cap) (slotOf R rule q) (tabulate-long f (tableSize R cap)) slot
         ∙ tabulate-at f (tableSize R cap) (slotOf R rule q) slot
-        ∙ ap₂ (wordAfter R n s e k t) (rule-of R some rule q below) (position-of R some rule q below)
+        ∙ ap₂ (wordAfter R n s e k t) (rule-of R rule q below) (position-of R rule q below)
         ∙ word-after rule q below inside
 
-    row-count : (q : ℕ) → q ≤ cap → (m : ℕ) → m ≤ R → heldTo (λ rule. wordAfter R n s e k t ((q * R + rule) % R) ((q * R + rule) / R)) m ≡ sumTo m (λ rule. oneIf (stands rule q))
+    row-count :
+        (q : ℕ)
+        → q ≤ cap
+        → (m : ℕ)
+        → m ≤ R
+        → heldTo (λ rule. wordAfter R n s e k t (slotOf R rule q % R) (slotOf R rule q / R)) m ≡ sumTo m (λ rule. oneIf (stands rule q))
     unfolding sumTo
     row-count q l zero h = refl
     row-count q l (suc m) h =
         let a = row-count q l m (omega arith) in
         let below : m < R = omega arith in
-        let b : heldBit (wordAfter R n s e k t ((q * R + m) % R) ((q * R + m) / R)) ≡ oneIf (stands m q) =
-        ap heldBit (ap₂ (wordAfter R n s e k t) (rule-of R some m q below) (position-of R some m q below)) ∙ bit-after m q below l in
+        let b : heldBit (wordAfter R n s e k t (slotOf R m q % R) (slotOf R m q / R)) ≡ oneIf (stands m q) =
+        ap heldBit (ap₂ (wordAfter R n s e k t) (rule-of R m q below) (position-of R m q below)) ∙ bit-after m q below l in
         omega arith
 
     rows-count :
@@ -191,6 +195,7 @@ module _
         let f : ℕ → ℕ = λ j. wordAfter R n s e k t (j % R) (j / R) in
         let a = rows-count p (omega arith) in
         let b = held-add f (p * R) R in
+        let c = held-same (λ j. f (p * R + j)) (λ rule. f (slotOf R rule p)) R (λ rule l. ap f (sym (in-row R rule p))) in
         let d = row-count p (omega arith) R (omega arith) in
         let z : suc p * R ≡ p * R + R = omega arith in
         let i = ap (heldTo f) z in

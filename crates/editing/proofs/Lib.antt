@@ -6,7 +6,6 @@ pub mod Kept
 pub mod Turns
 pub mod ScanLaw
 pub mod Rows
-pub mod Slots
 pub mod BackLaw
 pub mod Cases
 pub mod TableLaw

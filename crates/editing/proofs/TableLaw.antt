@@ -15,18 +15,18 @@ use Rattle.buffers.specs.Filled.{at}
 use Rattle.buffers.proofs.Fill.{cut}
 use Rattle.buffers.proofs.Parts.{mid-at, mid-long, put-long, put-before, put-inside, put-past, joined-first, joined-second}
 use Rattle.records.specs.Words.{isHeld}
+use Rattle.records.specs.Slots.{slotOf, tableSize}
+use Rattle.records.proofs.Slots as slots
 use Rattle.editing.specs.Text.{EditFits, newLength}
-use Rattle.editing.specs.Table.{pick, tableWord, tableSize, TableLent, stays, comes, cameFrom, wordAfter, tabulate, wordsAfter, tableAfter, heldIn}
-use Rattle.records.specs.Slots.{slotOf}
+use Rattle.editing.specs.Table.{pick, tableWord, TableLent, stays, comes, cameFrom, wordAfter, tabulate, wordsAfter, tableAfter, heldIn}
 use Rattle.editing.specs.Words.{keptWord, heldTo, keptAt, Counted, cameWord, BackFits, Back}
 use Rattle.editing.proofs.TextLaw.{new-is}
 use Rattle.editing.proofs.Held.{held-add, held-same, held-list, held-most}
-use Rattle.editing.proofs.Slots.{row-room, room, position-of, slot-is, row-below}
 use Rattle.editing.proofs.Cases.{tabulate-long, tabulate-at, kept-is, stays-is, comes-only, came-is, from-new, to-end, came-from, was-inside, below-rest}
 
 -- The end of the rows before s, and the words from there on, lie in the table.
 front-room : (R cap s : ℕ) → s ≤ cap → s * R ≤ tableSize R cap
-front-room R cap s h = let m = room R s 0 0 cap (omega arith) in omega arith
+front-room R cap s h = let m = slots.room R s 0 0 cap (omega arith) in omega arith
 
 module _
     {R cap n s e k : ℕ} {t kept carried : List ℕ} {c d : ℕ}
@@ -115,9 +115,9 @@ module _
       front-pair : (q : ℕ) → q < s → at whole (slotOf R rule q) ≡ wordAfter R n s e k t rule q
       unfolding wordAfter
       front-pair q h =
-          let m = row-room R q s h in
+          let m = slots.before-row R rule q s below h in
           let place : s - (0 + slotOf R rule q / R) ≡ s - q =
-          ap (λ (x : ℕ). s - x) (let z = position-of R (lent .some-rules) rule q below in let o : 0 + slotOf R rule q / R ≡ q = omega arith in o) in
+          ap (λ (x : ℕ). s - x) (let z = slots.position-of R rule q below in let o : 0 + slotOf R rule q / R ≡ q = omega arith in o) in
           front-at (slotOf R rule q) (omega arith)
           ∙ ap₂ keptWord place (mid-at 0 (s * R - 0) t (slotOf R rule q) (omega arith) ∙ ap (at t) (let z : 0 + slotOf R rule q ≡ slotOf R rule q = omega arith in z))
           ∙ kept-is n s e k q (tableWord R t rule q) (tableWord R t rule (cameFrom s e k q)) h
@@ -146,10 +146,11 @@ module _
               ≡ tableWord R t rule (cameFrom s e k (s + i))
           word x y =
               let slot = came-from R s k rule below i e (omega arith) in
-              let in-table = row-room R (cameFrom s e k (s + i)) (cap + 1) (was-inside n s e k i cap x y (fits .ordered) (fits .within) (fits .lent)) in
+              let back = was-inside n s e k i cap x y (fits .ordered) (fits .within) (fits .lent) in
+              let in-table = slots.slot-in R cap rule (cameFrom s e k (s + i)) below (omega arith) in
               old-at
               ((e - s) * R + (slotOf R rule i - k * R))
-              (below-rest (s * R) ((e - s) * R + (slotOf R rule i - k * R)) (slotOf R rule (cameFrom s e k (s + i))) (tableSize R cap) slot (omega arith))
+              (below-rest (s * R) ((e - s) * R + (slotOf R rule i - k * R)) (slotOf R rule (cameFrom s e k (s + i))) (tableSize R cap) slot in-table)
               ∙ ap (at t) slot
 
       -- The words that are carried past the first row, and those of the first.
@@ -161,7 +162,8 @@ module _
           ≡ cameWord ((e - s) * R) (k * R) ((n - e + 1) * R) (midOf (s * R) (tableSize R cap - s * R) half) (slotOf R rule i)
       unfolding half
       past-row i p h =
-          let m = row-room R 0 i p in
+          let m = slots.row-room R 0 i p in
+          let o = slots.in-row R rule i in
           let l = mid-long (s * R) (tableSize R cap - s * R) half back-fits in
           B .rest (slotOf R rule i) (omega arith) (omega arith)
 
@@ -174,14 +176,14 @@ module _
           (keptWord 0 (at (midOf (s * R) (tableSize R cap - s * R) half) (slotOf R rule i)))
           (cameWord ((e - s) * R) (k * R) ((n - e + 1) * R) (midOf (s * R) (tableSize R cap - s * R) half) (slotOf R rule i))
       unfolding half
-      in-row i p = let z : i * R ≡ 0 * R = ap (λ (x : ℕ). x * R) p in B .first (slotOf R rule i) (omega arith)
+      in-row i p = let z = slots.before-row R rule i 1 below (omega arith) in B .first (slotOf R rule i) (omega arith)
 
       -- A pair at s or behind it.
       back-pair : (i : ℕ) → s + i ≤ cap → at whole (slotOf R rule (s + i)) ≡ wordAfter R n s e k t rule (s + i)
       unfolding wordAfter
       back-pair i h =
-          let slot : slotOf R rule (s + i) ≡ s * R + slotOf R rule i = omega arith in
-          let m = row-room R (s + i) (cap + 1) (omega arith) in
+          let slot = slots.rows-on R rule s i in
+          let m = slots.slot-in R cap rule (s + i) below h in
           let inside : slotOf R rule i < tableSize R cap - s * R = omega arith in
           let w : ℕ = tableWord R t rule (s + i) in
           let u : ℕ = tableWord R t rule (cameFrom s e k (s + i)) in
@@ -212,8 +214,8 @@ module _
     word-is : (j : ℕ) → j < tableSize R cap → at whole j ≡ wordAfter R n s e k t (j % R) (j / R)
     word-is j h =
         let some = lent .some-rules in
-        ap (at whole) (sym (slot-is R some j))
-        ∙ pair-is (j % R) (mod-lt j some) (j / R) (let l = row-below R some j (cap + 1) (omega arith) in omega arith)
+        ap (at whole) (sym (slots.slot-is R j))
+        ∙ pair-is (j % R) (mod-lt j some) (j / R) (let l = slots.row-below R j (cap + 1) some (omega arith) in omega arith)
 
     pub table-is : putMid (s * R) (tableSize R cap - s * R) (putMid 0 (s * R - 0) t kept) carried ≡ tableAfter R cap n s e k t
     unfolding half whole wordsAfter
@@ -276,9 +278,9 @@ pub record SlotsFit (R cap n s e k : ℕ) : Type 0 where
 pub slots-fit : {cap n s e k : ℕ} (R : ℕ) → EditFits cap n s e k → SlotsFit R cap n s e k
 slots-fit {cap} {n} {s} {e} {k} R fits =
     record {
-      old-slots = room R s (e - s) (n - e + 1) cap (omega arith);
-      new-slots = room R s k (n - e + 1) cap (omega arith);
-      row = (let m = row-room R s (cap + 1) (omega arith) in omega arith);
+      old-slots = slots.room R s (e - s) (n - e + 1) cap (omega arith);
+      new-slots = slots.room R s k (n - e + 1) cap (omega arith);
+      row = (let m = slots.row-room R s (cap + 1) (omega arith) in omega arith);
     }
 
 -- The back as it is lent has room for them.

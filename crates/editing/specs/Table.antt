@@ -6,6 +6,7 @@ use lib.ListN.{length, getD, drop, replicate}
 use lib.Dec.{leb}
 use Rattle.records.specs.Words.{isHeld, examinedOf}
 use Rattle.records.specs.Slots.{slotOf}
+pub use Rattle.records.specs.Slots.{tableSize}
 use Rattle.editing.specs.Text.{newLength}
 
 abbrev pub pick : Bool → ℕ → ℕ → ℕ
@@ -15,10 +16,6 @@ pick false a b = b
 -- The word of a pair.
 abbrev pub tableWord : (rules : ℕ) (table : List ℕ) (rule position : ℕ) → ℕ
 tableWord rules table rule position = getD table (slotOf rules rule position) 0
-
--- "The first rules × (cap + 1) words are the table".
-abbrev pub tableSize : (rules cap : ℕ) → ℕ
-tableSize rules cap = rules * (cap + 1)
 
 -- "cap at most 65,535", "the table wholly lent", for 1 to 64 rules.
 pub record TableLent (rules cap : ℕ) (words : List ℕ) : Type 0 where

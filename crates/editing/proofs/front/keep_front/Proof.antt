@@ -6,7 +6,7 @@ use borrow.Author.Needs.{needs}
 use Rattle.buffers.proofs.Parts.{mid-long}
 use Rattle.buffers.proofs.Fill.{empty}
 use Rattle.editing.specs.Words.{KeptRows}
-use Rattle.editing.proofs.Slots.{rows-room}
+use Rattle.records.proofs.Slots.{rows-room}
 use Rattle.editing.proofs.Rows.{part-done, counts-fit}
 use Rattle.editing.proofs.Turns.{counted-all}
 use Rattle.editing.proofs.front.keep_front.Statement.{statement}

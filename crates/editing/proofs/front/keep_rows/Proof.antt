@@ -6,7 +6,7 @@ use borrow.Author.Needs.{needs}
 use Rattle.buffers.proofs.Parts.{mid-long}
 use Rattle.buffers.proofs.Fill.{empty}
 use Rattle.editing.specs.Words.{Counted, keptAt}
-use Rattle.editing.proofs.Slots.{row-room}
+use Rattle.records.proofs.Slots.{row-room}
 use Rattle.editing.proofs.Rows.{row-done, counts-fit}
 use Rattle.editing.proofs.Turns.{counted-all}
 use Rattle.editing.proofs.front.keep_rows.Statement.{statement}
