@@ -10,7 +10,6 @@ pub mod Raised
 pub mod PlainReading
 pub mod Coding
 pub mod Consuming
-pub mod Slots
 pub mod Gain
 pub mod Grown
 pub mod Framed

@@ -1,8 +1,8 @@
 -- The laws of a slot: one pair has it, it lies in the table, which pair has it, and where it lies in the rows of the table. Assumes nothing.
-use Prim.Native.Nat.{ℕ, _+_, _-_, _*_, _/_, _%_, _≤_, _<_}
+use Prim.Native.Nat.{ℕ, _+_, _*_, _/_, _%_, _^_, _≤_, _<_}
 use native.Mathlib.Omega.{arith}
-use native.Mathlib.Nat.{mul-le-mul-left, mul-le-mul-right, mul-comm, add-mul, one-mul, div-lt-iff-lt-mul, div-add-mod'}
-use mathlib.Core.Path.{_≡_, refl, ap, _∙_}
+use native.Mathlib.Nat.{mul-le-mul, mul-le-mul-left, mul-le-mul-right, mul-comm, div-lt-iff-lt-mul, div-add-mod'}
+use mathlib.Core.Path.{_≡_, refl, ap}
 use mathlib.Core.Bool.{Bool, true, false}
 use lib.Arith.{digits-mod, digits-div}
 use lib.Dec.{ltb}
@@ -41,6 +41,13 @@ before-row R rule q rows l h = let m = row-room R q rows h in let e = in-row R r
 
 pub slot-in : (R cap rule q : ℕ) → rule < R → q ≤ cap → slotOf R rule q < tableSize R cap
 slot-in R cap rule q l h = let m = before-row R rule q (cap + 1) l (omega arith) in let c = mul-comm (cap + 1) R in omega arith
+
+-- A slot is far below a machine word.
+pub slot-fits : (R rule q : ℕ) → R < 2 ^ 32 → rule < 4096 → q ≤ 65535 → slotOf R rule q < 2 ^ 64
+slot-fits R rule q h k l =
+    let m : q * R ≤ 65535 * 4294967295 = mul-le-mul l (let z : R ≤ 4294967295 = omega arith in z) in
+    let e = in-row R rule q in
+    omega arith
 
 -- A later position has a later slot, whatever the rules.
 later : (R p q r s : ℕ) → p < q → r < R → slotOf R r p < slotOf R s q
