@@ -19,6 +19,7 @@ use Rattle.grammar.specs.Questions.{First, Accepted}
 use Rattle.grammar.specs.Evaluates.{Fresh, a-pair}
 use Rattle.reading.specs.Model.{answered, refused, Out, out}
 use Rattle.records.specs.Words.{isHeld, possible}
+use Rattle.records.proofs.Slots.{size-up}
 use Rattle.reading.specs.Loaded.{Loaded}
 use Rattle.reading.specs.Over.{wordAt}
 use Rattle.reading.specs.Session.{startRun}
@@ -37,7 +38,6 @@ use Rattle.ledger.specs.Questions.{ofSheet}
 use Rattle.ledger.specs.Reading.{NotForeign, SheetRead}
 use Rattle.ledger.specs.Listing.{GivesRows, listed, no-slots, zeroed, RefusedAlso, ThenListed, SheetListed, ListPromise}
 use Rattle.ledger.specs.Run.{answerOf, wordsOf, stoppedWords}
-use Rattle.ledger.proofs.Tables.{size-up}
 use Rattle.ledger.proofs.SheetReads.{sheet-read}
 
 -- The words of a walk, and the number of one that stopped.
