@@ -11,7 +11,7 @@ use borrow.Author.Tests.{leb-true, leb-false}
 use Rattle.buffers.specs.Filled.{at}
 use Rattle.records.specs.Words.{isHeld}
 use Rattle.editing.specs.Table.{pick, heldIn}
-use Rattle.editing.specs.Words.{heldBit, onlyHeld, heldTo}
+use Rattle.editing.specs.Held.{heldBit, onlyHeld, heldTo}
 
 -- A choice whose test is known.
 pub pick-by : {t b : Bool} (x y : ℕ) → t ≡ b → pick t x y ≡ pick b x y

@@ -21,9 +21,10 @@ use Rattle.records.proofs.Slots.{slot-in, in-row, position-of, rule-of}
 use Rattle.editing.specs.Text.{EditFits, newLength}
 use Rattle.editing.specs.Table.{pick, tableWord, stays, comes, cameFrom, wordAfter, tabulate, wordsAfter, tableAfter, heldIn}
 use Rattle.editing.specs.Pairs.{standsAfter}
-use Rattle.editing.specs.Words.{heldBit, heldTo}
+use Rattle.editing.specs.Held.{heldBit, heldTo}
 use Rattle.editing.proofs.Held.{pick-by, held-add, held-same, held-list}
-use Rattle.editing.proofs.Cases.{tabulate-long, tabulate-at, was-inside}
+use Rattle.editing.proofs.Tabulated.{tabulate-long, tabulate-at}
+use Rattle.editing.proofs.Lengths.{was-inside}
 
 and-first : (a b : Bool) → (a && b) ≡ true → a ≡ true
 and-first true b e = refl

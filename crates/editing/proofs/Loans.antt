@@ -11,7 +11,7 @@ use Rattle.records.specs.Slots.{slotOf, tableSize}
 use Rattle.records.proofs.Slots.{slot-in}
 use Rattle.editing.specs.Text.{EditFits, newLength, textAfter, opened, edited}
 use Rattle.editing.specs.Table.{tableWord, TableLent, wordAfter, wordsAfter, tableAfter, clearedTable}
-use Rattle.editing.proofs.Cases.{tabulate-long}
+use Rattle.editing.proofs.Tabulated.{tabulate-long}
 
 module _ (cap s e : ℕ) (text r : List ℕ) (fits : EditFits cap (length text) s e (length r)) where
   pub edited-long : length (edited text s e r) ≡ newLength (length text) s e (length r)
