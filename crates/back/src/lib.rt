@@ -36,23 +36,8 @@ fn carry_up(part: &mut [u64], from: usize, to: usize, count: usize) -> usize
     c
 }
 
-// `count` words from `to` on stay where they are; those that are not held become 0. Answers how many are held.
-fn keep_held(part: &mut [u64], to: usize, count: usize) -> usize
-    requires { ⌜ to + count ≤ length (now part) ⌝ }
-    ensures { λ c. ⌜ Carried (now (part .entry)) (now (part .exit)) to to count c ⌝ }
-{
-    let mut c: usize = 0;
-    let mut i: usize = 0;
-    while i < count {
-        let word = part[to + i];
-        c += words::held_bit(word);
-        part[to + i] = words::only_held(word);
-        i += 1;
-    }
-    c
-}
-
-// `count` words go from `from` to `to`; the stretches may overlap.
+// `count` words go from `from` to `to`; the stretches may overlap. Words that stay in place are read and stored at one index, which the
+// compiler sees in a call with `to` twice.
 fn carry(part: &mut [u64], from: usize, to: usize, count: usize) -> usize
     requires { ⌜ (from + count ≤ length (now part)) × (to + count ≤ length (now part)) ⌝ }
     ensures { λ c. ⌜ Carried (now (part .entry)) (now (part .exit)) from to count c ⌝ }
@@ -60,7 +45,7 @@ fn carry(part: &mut [u64], from: usize, to: usize, count: usize) -> usize
     if from < to {
         carry_up(part, from, to, count)
     } else if from == to {
-        keep_held(part, to, count)
+        carry_down(part, to, to, count)
     } else {
         carry_down(part, from, to, count)
     }

@@ -39,7 +39,14 @@ bit-only w = go (isHeld w) refl
     go true e = pick-by 1 0 e
     go false e = refl
 
--- A held word put over another: the bits do not fall.
+-- A held word put over another: neither bit falls.
+pub bit-first : (a b : ℕ) → heldBit a ≤ heldBit (pick (isHeld a) a b)
+bit-first a b = go (isHeld a) refl
+  where
+    go : (t : Bool) → isHeld a ≡ t → heldBit a ≤ heldBit (pick t a b)
+    go true e = omega arith
+    go false e = let i : heldBit a ≡ 0 = pick-by 1 0 e in omega arith
+
 pub bit-over : (a b : ℕ) → heldBit b ≤ heldBit (pick (isHeld a) a b)
 bit-over a b = go (isHeld a) refl
   where

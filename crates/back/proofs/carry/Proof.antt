@@ -9,11 +9,11 @@ use Rattle.back.proofs.carry.Tie as tie
 carry-up-requires : tie.Need-carry-up-requires
 carry-up-requires c κs = search needs
 
-keep-held-requires : tie.Need-keep-held-requires
-keep-held-requires c κs = search needs
-
 carry-down-requires : tie.Need-carry-down-requires
 carry-down-requires c κs = search needs
+
+carry-down-requires-2 : tie.Need-carry-down-requires-2
+carry-down-requires-2 c κs = search needs
 
 same-length : tie.Need-same-length
 same-length c = search needs
@@ -26,10 +26,10 @@ same-length-2 c = search needs
 
 returns-2 : tie.Need-returns-2
 returns-2 c =
-    let at-keep-held = c .before .before in
-    let at-if2 = at-keep-held .before .before in
+    let in-place = c .before .before in
+    let at-if2 = in-place .before .before in
     let start = at-if2 .before .before .before in
-    subst (λ (from : ℕ). Carried (start .args .part .now) (at-keep-held .keep-held .last .0) from (start .args .to) (start .args .count) (at-keep-held .keep-held .result)) (sym (at-if2 .if2 .taken)) (at-keep-held .keep-held .ensures)
+    subst (λ (from : ℕ). Carried (start .args .part .now) (in-place .carry-down .last .0) from (start .args .to) (start .args .count) (in-place .carry-down .result)) (sym (at-if2 .if2 .taken)) (in-place .carry-down .ensures)
 
 same-length-3 : tie.Need-same-length-3
 same-length-3 c = search needs
@@ -42,8 +42,8 @@ carry-spec =
     tie.close
     (tie.spec
     carry-up-requires
-    keep-held-requires
     carry-down-requires
+    carry-down-requires-2
     same-length
     returns
     same-length-2

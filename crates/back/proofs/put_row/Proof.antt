@@ -1,14 +1,13 @@
 -- `put_row` meets its contract: the first words are those of the row where it is held. Assumes nothing.
 use Prim.Native.Nat.{_≤_, _-_}
 use native.Mathlib.Omega.{arith}
-use mathlib.Core.Path.{refl, ap, _∙_}
+use mathlib.Core.Path.{refl}
 use borrow.Author.Needs.{needs}
 use Rattle.buffers.proofs.Fill.{none}
 use Rattle.buffers.specs.Filled.{at}
-use Rattle.editing.specs.Held.{heldBit}
 use Rattle.back.specs.Back.{Put}
 use Rattle.back.proofs.Turns.{put-over, put-all}
-use Rattle.editing.proofs.Held.{held-most, bit-over}
+use Rattle.editing.proofs.Held.{held-most}
 use Rattle.back.proofs.put_row.Statement.{statement}
 use Rattle.back.proofs.put_row.Tie as tie
 
@@ -50,11 +49,8 @@ held-bit-requires-2 c κs = search needs
 
 sub-c : tie.Need-sub-c Inv-loop μ-loop
 sub-c c =
-    let at-first-held = c .before .before in
-    let at-loop = at-first-held .before .before .before .before in
-    let start = at-loop .before .before in
-    let above = bit-over (at (start .args .row .now) (at-loop .loop .rule)) (at (at-loop .loop .part) (at-loop .loop .rule)) in
-    omega (arith, c .before .held-bit .ensures .0 ∙ ap heldBit (at-first-held .first-held .ensures), c .held-bit2 .ensures .0)
+    let bits = c .before .before .first-held .ensures .1 in
+    omega (arith, bits .0, bits .1, c .before .held-bit .ensures .0, c .held-bit2 .ensures .0)
 
 mul-part : tie.Need-mul-part Inv-loop μ-loop
 mul-part c = omega (arith, c .before .before .before .before .before .before .loop .inv .1 .filled .long)
@@ -73,7 +69,7 @@ loop-again c =
     let at-first-held = c .before .before in
     let at-loop = at-first-held .before .before .before .before in
     let m = at-loop .loop .inv .1 .filled .long in
-    (omega arith, put-over (at-loop .loop .inv .1) (omega arith) (at-first-held .first-held .ensures) (c .before .held-bit .ensures .0) (c .held-bit2 .ensures .0))
+    (omega arith, put-over (at-loop .loop .inv .1) (omega arith) (at-first-held .first-held .ensures .0) (c .before .held-bit .ensures .0) (c .held-bit2 .ensures .0))
 
 same-length : tie.Need-same-length Inv-loop μ-loop
 same-length c = c .before .loop .inv .1 .filled .long

@@ -1,9 +1,23 @@
 -- `first_held` meets its contract. Assumes nothing.
-use mathlib.Core.Path.{sym, _∙_}
+use Prim.Native.Nat.{ℕ, _≤_}
+use mathlib.Core.Path.{_≡_, sym, _∙_, subst}
+use mathlib.Core.Bool.{Bool}
 use borrow.Author.Needs.{needs}
-use Rattle.editing.proofs.Held.{pick-by}
+use Rattle.records.specs.Words.{isHeld}
+use Rattle.editing.specs.Table.{pick}
+use Rattle.editing.specs.Held.{heldBit}
+use Rattle.editing.proofs.Held.{pick-by, bit-first, bit-over}
 use Rattle.words.proofs.first_held.Statement.{statement}
 use Rattle.words.proofs.first_held.Tie as tie
+
+-- The word by the test, and the bits of either.
+by-test :
+    (a b : ℕ) {t : Bool}
+    → isHeld a ≡ t
+    → (pick t a b ≡ pick (isHeld a) a b) × ((heldBit a ≤ heldBit (pick t a b)) × (heldBit b ≤ heldBit (pick t a b)))
+by-test a b e =
+    let word = sym (pick-by a b e) in
+    (word, subst (λ (x : ℕ). (heldBit a ≤ heldBit x) × (heldBit b ≤ heldBit x)) (sym word) (bit-first a b, bit-over a b))
 
 is-held-requires : tie.Need-is-held-requires
 is-held-requires c κs = search needs
@@ -11,12 +25,12 @@ is-held-requires c κs = search needs
 returns : tie.Need-returns
 returns c =
     let start = c .before .before in
-    sym (pick-by (start .args .first) (start .args .second) (sym (c .before .is-held .ensures) ∙ c .if1 .taken))
+    by-test (start .args .first) (start .args .second) (sym (c .before .is-held .ensures) ∙ c .if1 .taken)
 
 returns-2 : tie.Need-returns-2
 returns-2 c =
     let start = c .before .before in
-    sym (pick-by (start .args .first) (start .args .second) (sym (c .before .is-held .ensures) ∙ c .if1 .left))
+    by-test (start .args .first) (start .args .second) (sym (c .before .is-held .ensures) ∙ c .if1 .left)
 
 pub first-held-spec : {M : Type 1} → statement M
 first-held-spec = tie.close (tie.spec is-held-requires returns returns-2)
