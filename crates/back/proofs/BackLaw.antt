@@ -3,6 +3,7 @@
 use Prim.Native.Nat.{ℕ, zero, suc, _+_, _-_, _≤_, _<_}
 use native.Mathlib.Omega.{arith}
 use mathlib.Core.Path.{_≡_, refl, sym, ap, _∙_}
+use mathlib.Core.Bool.{cond}
 use mathlib.Core.Logic.{⊎-elim}
 use mathlib.Core.List.{List}
 use lib.ListN.{length, replicate}
@@ -12,7 +13,6 @@ use borrow.Rule.Slice.PartMut.{midOf, putMid}
 use Rattle.buffers.proofs.Fill.{cut, fit}
 use Rattle.buffers.proofs.Parts.{part-zeros}
 use Rattle.records.specs.Words.{isHeld}
-use Rattle.editing.specs.Table.{pick}
 use Rattle.editing.specs.Held.{onlyHeld, keptWord, heldTo}
 use Rattle.back.specs.Back.{Carried, RowOf, Put, BackFits, cameWord, Back}
 use Rattle.editing.proofs.Held.{held-add, held-same, held-none, held-most, bit-only}
@@ -96,8 +96,8 @@ module _ (gone new tail : ℕ) (old : List ℕ) where
         where
           over :
               (j r x : ℕ) → r ≡ keptWord 0 (at old j) → x ≡ cameWord gone new tail old j
-              → pick (isHeld r) r x ≡ pick (isHeld (keptWord 0 (at old j))) (keptWord 0 (at old j)) (cameWord gone new tail old j)
-          over j r x e g = ap (λ (y : ℕ). pick (isHeld y) y x) e ∙ ap (λ (y : ℕ). pick (isHeld (keptWord 0 (at old j))) (keptWord 0 (at old j)) y) g
+              → cond (isHeld r) r x ≡ cond (isHeld (keptWord 0 (at old j))) (keptWord 0 (at old j)) (cameWord gone new tail old j)
+          over j r x e g = ap (λ (y : ℕ). cond (isHeld y) y x) e ∙ ap (λ (y : ℕ). cond (isHeld (keptWord 0 (at old j))) (keptWord 0 (at old j)) y) g
 
 -- The same of the parts as they are lent.
 pub back-done :

@@ -2,14 +2,13 @@
 use Prim.Native.Nat.{ℕ, _+_, _-_, _≤_, _<_}
 use native.Mathlib.Omega.{arith}
 use mathlib.Core.Path.{_≡_, refl, sym, ap, _∙_}
+use mathlib.Core.Bool.{cond}
 use mathlib.Core.List.{List}
 use lib.ListN.{length, set}
 use Rattle.buffers.specs.Filled.{Filled, at}
 use Rattle.buffers.proofs.Fill.{none, up, down, fit}
 use Rattle.records.specs.Words.{isHeld}
-use Rattle.editing.specs.Table.{pick}
 use Rattle.editing.specs.Held.{heldBit, onlyHeld, heldTo}
-use Rattle.words.specs.Counted.{Counted}
 use Rattle.back.specs.Back.{Carried, Put}
 use Rattle.editing.proofs.Held.{held-more, held-same, bit-over}
 
@@ -70,15 +69,15 @@ pub put-over :
     {row old new : List ℕ} {i c a b v : ℕ}
     → Put row old new i c
     → i < length old
-    → v ≡ pick (isHeld (at row i)) (at row i) (at new i)
+    → v ≡ cond (isHeld (at row i)) (at row i) (at new i)
     → a ≡ heldBit v
     → b ≡ heldBit (at new i)
     → Put row old (set new i v) (i + 1) (c + a - b)
 put-over {row} {old} {new} {i} {c} {a} {b} {v} P l d e g =
     let F = P .filled in
     let same = F .past i (omega arith) in
-    let word : v ≡ pick (isHeld (at row i)) (at row i) (at old i) =
-    d ∙ ap (λ (x : ℕ). pick (isHeld (at row i)) (at row i) x) same in
+    let word : v ≡ cond (isHeld (at row i)) (at row i) (at old i) =
+    d ∙ ap (λ (x : ℕ). cond (isHeld (at row i)) (at row i) x) same in
     let G = up F (omega arith) l word in
     let now : at (set new i v) i ≡ v = G .inside i (omega arith) (omega arith) ∙ sym word in
     let kept = held-same (at (set new i v)) (at new) i (λ j h. G .inside j (omega arith) (omega arith) ∙ sym (F .inside j (omega arith) h)) in

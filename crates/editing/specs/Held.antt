@@ -1,21 +1,20 @@
 -- Held words: one word's bit, a word that is kept, and how many of several are held.
 use Prim.Native.Nat.{ℕ, zero, suc, _+_}
-use mathlib.Core.Bool.{_&&_}
+use mathlib.Core.Bool.{cond, _&&_}
 use lib.Dec.{leb}
 use Rattle.records.specs.Words.{isHeld, examinedOf}
-use Rattle.editing.specs.Table.{pick}
 
 -- 1 for a held word, 0 for another.
 abbrev pub heldBit : ℕ → ℕ
-heldBit word = pick (isHeld word) 1 0
+heldBit word = cond (isHeld word) 1 0
 
 -- A held word itself, 0 for another.
 abbrev pub onlyHeld : ℕ → ℕ
-onlyHeld word = pick (isHeld word) word 0
+onlyHeld word = cond (isHeld word) word 0
 
 -- A held word that examined at most `limit` bytes, 0 for another.
 unfoldable pub keptWord : (limit word : ℕ) → ℕ
-keptWord limit word = pick (isHeld word && leb (examinedOf word) limit) word 0
+keptWord limit word = cond (isHeld word && leb (examinedOf word) limit) word 0
 
 -- How many of the first n words f 0, f 1, .. are held.
 abbrev pub heldTo : (ℕ → ℕ) → ℕ → ℕ

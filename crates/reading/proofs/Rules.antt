@@ -3,7 +3,7 @@
 use Prim.Native.Nat.{ℕ, zero, suc, _+_, _-_, _%_, _≤_, _<_, _^_}
 use native.Mathlib.Omega.{arith}
 use mathlib.Core.Path.{_≡_, refl, sym, ap, _∙_, subst}
-use mathlib.Core.Bool.{Bool, true, false}
+use mathlib.Core.Bool.{Bool, true, false, cond}
 use mathlib.Core.List.{List}
 use lib.ListN.{length, getD, set}
 use lib.Dec.{leb}
@@ -12,7 +12,7 @@ use Rattle.grammar.specs.Image.{Node, call}
 use Rattle.evaluation.specs.Within.{Within}
 use Rattle.records.specs.declared.Record.{Record}
 use Rattle.records.specs.declared.Decoded.the-variants.{Possible, Impossible}
-use Rattle.records.specs.Words.{isHeld, possible, IsPossible, nestingOf, valueOf, wordOf, recordOf, recordWord, pick}
+use Rattle.records.specs.Words.{isHeld, possible, IsPossible, nestingOf, valueOf, wordOf, recordOf, recordWord}
 use Rattle.records.specs.Slots.{slotOf}
 use Rattle.records.proofs.Codec.{word-again}
 use Rattle.records.proofs.Test.{says-possible}
@@ -22,11 +22,11 @@ use Rattle.reading.specs.Gives.{Gives}
 use Rattle.reading.proofs.Gives.{found, was-refused, gives-value, gives-refusal}
 
 -- What the decoder's answer says.
-pub was-possible : (r q : Record) (b : Bool) → Possible r ≡ pick b q → (b ≡ true) × (r ≡ q)
+pub was-possible : (r q : Record) (b : Bool) → Possible r ≡ cond b (Possible q) Impossible → (b ≡ true) × (r ≡ q)
 was-possible r q true e = (refl, cc)
 was-possible r q false e = absurd (let z : _≡_ {A = ℕ} 0 1 = cc in omega arith)
 
-pub was-impossible : (q : Record) (b : Bool) → Impossible ≡ pick b q → b ≡ false
+pub was-impossible : (q : Record) (b : Bool) → Impossible ≡ cond b (Possible q) Impossible → b ≡ false
 was-impossible q true e = absurd (let z : _≡_ {A = ℕ} 0 1 = cc in omega arith)
 was-impossible q false e = refl
 

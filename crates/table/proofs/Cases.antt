@@ -1,20 +1,17 @@
 -- The two cases of an edit, slot by slot and pair by pair: a word that stays, a word that comes, and where it was. Assumes nothing.
-use Prim.Native.Nat.{ℕ, zero, suc, _+_, _-_, _*_, _≤_, _<_}
+use Prim.Native.Nat.{ℕ, _+_, _-_, _*_, _≤_, _<_}
 use native.Mathlib.Omega.{arith}
 use native.Mathlib.Nat.{mul-le-mul-right}
 use mathlib.Core.Path.{_≡_, refl, sym, ap, ap₂, _∙_}
-use mathlib.Core.Bool.{Bool, true, false, _&&_}
+use mathlib.Core.Bool.{Bool, true, false, cond, _&&_}
 use mathlib.Core.Logic.{⊎-elim}
-use lib.ListN.{length}
 use lib.Dec.{leb, ltb}
 use borrow.Author.Tests.{le-leb, lt-leb, lt-ltb, le-ltb}
-use Rattle.buffers.specs.Filled.{at}
 use Rattle.buffers.proofs.Fill.{cut}
 use Rattle.records.specs.Words.{isHeld, examinedOf}
 use Rattle.records.specs.Slots.{slotOf}
 use Rattle.records.proofs.Slots.{before-row, in-row}
-use Rattle.editing.specs.Text.{newLength}
-use Rattle.editing.specs.Table.{pick, stays, comes, cameFrom, tabulate}
+use Rattle.editing.specs.Table.{stays, comes, cameFrom}
 use Rattle.editing.specs.Held.{onlyHeld, keptWord}
 
 -- "q + examined ≤ s", said of what is left before s.
@@ -26,18 +23,18 @@ same-test s q x h = ⊎-elim
 
 -- A word before s stays or is 0: the second case is behind the edit.
 pub kept-is :
-    (n s e k q w u : ℕ) → q < s → keptWord (s - q) w ≡ pick (stays s q w) w (pick (comes n s e k q u) u 0)
+    (n s e k q w u : ℕ) → q < s → keptWord (s - q) w ≡ cond (stays s q w) w (cond (comes n s e k q u) u 0)
 unfolding keptWord
 kept-is n s e k q w u h =
     simp (le-leb q s (omega arith), lt-leb (s + k) q (omega arith), same-test s q (examinedOf w) (omega arith))
 
 -- A word at s stays where it examined nothing.
-pub stays-is : (s w y : ℕ) → pick (isHeld (keptWord 0 w)) (keptWord 0 w) y ≡ pick (stays s s w) w y
+pub stays-is : (s w y : ℕ) → cond (isHeld (keptWord 0 w)) (keptWord 0 w) y ≡ cond (stays s s w) w y
 unfolding keptWord
 stays-is s w y =
     go (isHeld w) (leb (examinedOf w) 0) refl refl
     ∙ ap
-    (λ (b : Bool). pick b w y)
+    (λ (b : Bool). cond b w y)
     (ap₂ _&&_ (sym (le-leb s s (omega arith))) (ap (λ (t : Bool). isHeld w && t) test))
   where
     test : leb (examinedOf w) 0 ≡ leb (s + examinedOf w) s
@@ -45,22 +42,22 @@ stays-is s w y =
 
     go :
         (a b : Bool) → isHeld w ≡ a → leb (examinedOf w) 0 ≡ b
-        → pick (isHeld (pick (isHeld w && leb (examinedOf w) 0) w 0)) (pick (isHeld w && leb (examinedOf w) 0) w 0) y
-        ≡ pick (isHeld w && leb (examinedOf w) 0) w y
+        → cond (isHeld (cond (isHeld w && leb (examinedOf w) 0) w 0)) (cond (isHeld w && leb (examinedOf w) 0) w 0) y
+        ≡ cond (isHeld w && leb (examinedOf w) 0) w y
     go true true p q = simp (p, q)
     go true false p q = simp (p, q)
     go false b p q = simp p
 
 -- A word past s cannot stay.
-pub comes-only : (s q w y : ℕ) → s < q → y ≡ pick (stays s q w) w y
+pub comes-only : (s q w y : ℕ) → s < q → y ≡ cond (stays s q w) w y
 comes-only s q w y h = simp (lt-leb q s h)
 
 -- The word that came, slot by slot and pair by pair.
 pub came-is :
-    (a b c d : Bool) (u v : ℕ) → a ≡ c → b ≡ d → (c ≡ true → d ≡ true → v ≡ u) → pick (a && b) (onlyHeld v) 0 ≡ pick (c && (d && isHeld u)) u 0
-came-is a b c d u v p q w = ap₂ (λ (x y : Bool). pick (x && y) (onlyHeld v) 0) p q ∙ go c d w
+    (a b c d : Bool) (u v : ℕ) → a ≡ c → b ≡ d → (c ≡ true → d ≡ true → v ≡ u) → cond (a && b) (onlyHeld v) 0 ≡ cond (c && (d && isHeld u)) u 0
+came-is a b c d u v p q w = ap₂ (λ (x y : Bool). cond (x && y) (onlyHeld v) 0) p q ∙ go c d w
   where
-    go : (x y : Bool) → (x ≡ true → y ≡ true → v ≡ u) → pick (x && y) (onlyHeld v) 0 ≡ pick (x && (y && isHeld u)) u 0
+    go : (x y : Bool) → (x ≡ true → y ≡ true → v ≡ u) → cond (x && y) (onlyHeld v) 0 ≡ cond (x && (y && isHeld u)) u 0
     go false y h = refl
     go true false h = refl
     go true true h = ap onlyHeld (h refl refl)

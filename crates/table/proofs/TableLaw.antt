@@ -4,6 +4,7 @@ use Prim.Native.Nat.{ℕ, _+_, _-_, _*_, _/_, _%_, _≤_, _<_}
 use native.Mathlib.Omega.{arith}
 use native.Mathlib.Nat.{mod-lt}
 use mathlib.Core.Path.{_≡_, sym, ap, ap₂, _∙_, subst}
+use mathlib.Core.Bool.{cond}
 use mathlib.Core.Logic.{⊎-elim}
 use mathlib.Core.List.{List, _++_}
 use lib.ListN.{length, drop, length-append, length-drop}
@@ -18,7 +19,7 @@ use Rattle.records.specs.Words.{isHeld}
 use Rattle.records.specs.Slots.{slotOf, tableSize}
 use Rattle.records.proofs.Slots as slots
 use Rattle.editing.specs.Text.{EditFits, newLength}
-use Rattle.editing.specs.Table.{pick, tableWord, TableLent, stays, comes, cameFrom, wordAfter, tabulate, wordsAfter, tableAfter, heldIn}
+use Rattle.editing.specs.Table.{tableWord, TableLent, stays, comes, cameFrom, wordAfter, tabulate, wordsAfter, tableAfter, heldIn}
 use Rattle.editing.specs.Held.{keptWord, heldTo}
 use Rattle.words.specs.Counted.{Counted}
 use Rattle.front.specs.Front.{keptAt}
@@ -131,7 +132,7 @@ module _
           (i : ℕ)
           → s + i ≤ cap
           → cameWord ((e - s) * R) (k * R) ((n - e + 1) * R) (midOf (s * R) (tableSize R cap - s * R) half) (slotOf R rule i)
-          ≡ pick (comes n s e k (s + i) (tableWord R t rule (cameFrom s e k (s + i)))) (tableWord R t rule (cameFrom s e k (s + i))) 0
+          ≡ cond (comes n s e k (s + i) (tableWord R t rule (cameFrom s e k (s + i)))) (tableWord R t rule (cameFrom s e k (s + i))) 0
       came-pair i h =
           came-is
           (leb (k * R) (slotOf R rule i))
@@ -176,7 +177,7 @@ module _
           (i : ℕ)
           → i ≡ 0
           → at carried (slotOf R rule i)
-          ≡ pick
+          ≡ cond
           (isHeld (keptWord 0 (at (midOf (s * R) (tableSize R cap - s * R) half) (slotOf R rule i))))
           (keptWord 0 (at (midOf (s * R) (tableSize R cap - s * R) half) (slotOf R rule i)))
           (cameWord ((e - s) * R) (k * R) ((n - e + 1) * R) (midOf (s * R) (tableSize R cap - s * R) half) (slotOf R rule i))
@@ -192,7 +193,7 @@ module _
           let inside : slotOf R rule i < tableSize R cap - s * R = omega arith in
           let w : ℕ = tableWord R t rule (s + i) in
           let u : ℕ = tableWord R t rule (cameFrom s e k (s + i)) in
-          let came : ℕ = pick (comes n s e k (s + i) u) u 0 in
+          let came : ℕ = cond (comes n s e k (s + i) u) u 0 in
           let old : at (midOf (s * R) (tableSize R cap - s * R) half) (slotOf R rule i) ≡ w =
           old-at (slotOf R rule i) inside ∙ ap (at t) (sym slot) in
           ap (at whole) slot
@@ -202,9 +203,9 @@ module _
           (λ (p : i ≤ 0).
           let here : s ≡ s + i = omega arith in
           in-row i (omega arith)
-          ∙ ap₂ (λ (x y : ℕ). pick (isHeld (keptWord 0 x)) (keptWord 0 x) y) old (came-pair i h)
+          ∙ ap₂ (λ (x y : ℕ). cond (isHeld (keptWord 0 x)) (keptWord 0 x) y) old (came-pair i h)
           ∙ stays-is s w came
-          ∙ ap (λ (x : ℕ). pick (stays s x w) w came) here)
+          ∙ ap (λ (x : ℕ). cond (stays s x w) w came) here)
           (cut 0 i)
 
       -- Every pair.

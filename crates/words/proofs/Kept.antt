@@ -1,10 +1,9 @@
 -- Which words an edit keeps at their place before s, word by word and row by row. Assumes nothing.
 use Prim.Native.Nat.{ℕ, _≤_, _<_}
 use mathlib.Core.Path.{_≡_, refl}
-use mathlib.Core.Bool.{Bool, true, false, _&&_}
+use mathlib.Core.Bool.{Bool, true, false, cond, _&&_}
 use borrow.Author.Tests.{le-leb, lt-leb}
 use Rattle.records.specs.Words.{isHeld, examinedOf}
-use Rattle.editing.specs.Table.{pick}
 use Rattle.editing.specs.Held.{keptWord}
 
 -- A held word that examined little is kept.
@@ -17,7 +16,7 @@ pub kept-not : (limit w : ℕ) → limit < examinedOf w → keptWord limit w ≡
 unfolding keptWord
 kept-not limit w l = simp (lt-leb (examinedOf w) limit l) (go (isHeld w))
   where
-    go : (b : Bool) → pick (b && false) w 0 ≡ 0
+    go : (b : Bool) → cond (b && false) w 0 ≡ 0
     go true = refl
     go false = refl
 

@@ -2,7 +2,7 @@
 use records::Record;
 ghost use Prim.Native.Nat.{_≤_, _<_};
 ghost use mathlib.Core.Path.{_≡_};
-ghost use Rattle.editing.specs.Table.{pick};
+ghost use mathlib.Core.Bool.{cond};
 ghost use Rattle.editing.specs.Held.{heldBit, onlyHeld, keptWord};
 ghost use Rattle.records.specs.Words.{isHeld};
 
@@ -39,7 +39,7 @@ pub fn kept_word(word: u64, limit: usize) -> u64
 
 // The first word where it is held, else the second.
 pub fn first_held(first: u64, second: u64) -> u64
-    ensures word { λ r. ⌜ r ≡ pick (isHeld first) first second ⌝ }
+    ensures word { λ r. ⌜ r ≡ cond (isHeld first) first second ⌝ }
     ensures bits { λ r. ⌜ (heldBit first ≤ heldBit r) × (heldBit second ≤ heldBit r) ⌝ }
 {
     if records::is_held(first) {

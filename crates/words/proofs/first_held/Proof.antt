@@ -1,12 +1,11 @@
 -- `first_held` meets its contract. Assumes nothing.
 use Prim.Native.Nat.{ℕ, _≤_}
 use mathlib.Core.Path.{_≡_, sym, _∙_, subst}
-use mathlib.Core.Bool.{Bool}
+use mathlib.Core.Bool.{Bool, cond}
 use borrow.Author.Needs.{needs}
 use Rattle.records.specs.Words.{isHeld}
-use Rattle.editing.specs.Table.{pick}
 use Rattle.editing.specs.Held.{heldBit}
-use Rattle.editing.proofs.Held.{pick-by, bit-first, bit-over}
+use Rattle.editing.proofs.Held.{cond-by, bit-first, bit-over}
 use Rattle.words.proofs.first_held.Statement.{statement}
 use Rattle.words.proofs.first_held.Tie as tie
 
@@ -14,9 +13,9 @@ use Rattle.words.proofs.first_held.Tie as tie
 by-test :
     (a b : ℕ) {t : Bool}
     → isHeld a ≡ t
-    → (pick t a b ≡ pick (isHeld a) a b) × ((heldBit a ≤ heldBit (pick t a b)) × (heldBit b ≤ heldBit (pick t a b)))
+    → (cond t a b ≡ cond (isHeld a) a b) × ((heldBit a ≤ heldBit (cond t a b)) × (heldBit b ≤ heldBit (cond t a b)))
 by-test a b e =
-    let word = sym (pick-by a b e) in
+    let word = sym (cond-by a b e) in
     (word, subst (λ (x : ℕ). (heldBit a ≤ heldBit x) × (heldBit b ≤ heldBit x)) (sym word) (bit-first a b, bit-over a b))
 
 is-held-requires : tie.Need-is-held-requires
