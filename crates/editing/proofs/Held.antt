@@ -4,30 +4,30 @@ use native.Mathlib.Omega.{arith}
 use native.Mathlib.Nat.{add-zero, add-suc}
 use native.Mathlib.Numerals.{add-one}
 use mathlib.Core.Path.{_≡_, refl, sym, ap, _∙_}
-use mathlib.Core.Bool.{Bool, true, false}
+use mathlib.Core.Bool.{Bool, true, false, cond}
 use mathlib.Core.List.{List, [], _∷_}
 use lib.ListN.{length}
 use borrow.Author.Tests.{leb-true, leb-false}
 use Rattle.buffers.specs.Filled.{at}
 use Rattle.records.specs.Words.{isHeld}
-use Rattle.editing.specs.Table.{pick, heldIn}
-use Rattle.editing.specs.Words.{heldBit, onlyHeld, heldTo}
+use Rattle.editing.specs.Table.{heldIn}
+use Rattle.editing.specs.Held.{heldBit, onlyHeld, heldTo}
 
 -- A choice whose test is known.
-pub pick-by : {t b : Bool} (x y : ℕ) → t ≡ b → pick t x y ≡ pick b x y
-pick-by x y e = ap (λ (t : Bool). pick t x y) e
+pub cond-by : {t b : Bool} (x y : ℕ) → t ≡ b → cond t x y ≡ cond b x y
+cond-by x y e = ap (λ (t : Bool). cond t x y) e
 
 pub bit-is : (w : ℕ) → w < 2 ^ 64 → w / (2 ^ 63) ≡ heldBit w
 bit-is w h = go (isHeld w) refl
   where
     go : (b : Bool) → isHeld w ≡ b → w / (2 ^ 63) ≡ heldBit w
-    go true e = let l = leb-true (2 ^ 63) w e in let d : w / (2 ^ 63) ≡ 1 = omega arith in d ∙ sym (pick-by 1 0 e)
-    go false e = let l = leb-false (2 ^ 63) w e in let d : w / (2 ^ 63) ≡ 0 = omega arith in d ∙ sym (pick-by 1 0 e)
+    go true e = let l = leb-true (2 ^ 63) w e in let d : w / (2 ^ 63) ≡ 1 = omega arith in d ∙ sym (cond-by 1 0 e)
+    go false e = let l = leb-false (2 ^ 63) w e in let d : w / (2 ^ 63) ≡ 0 = omega arith in d ∙ sym (cond-by 1 0 e)
 
 pub bit-small : (w : ℕ) → heldBit w < 2
 bit-small w = go (isHeld w)
   where
-    go : (b : Bool) → pick b 1 0 < 2
+    go : (b : Bool) → cond b 1 0 < 2
     go true = omega arith
     go false = omega arith
 
@@ -35,16 +35,23 @@ bit-small w = go (isHeld w)
 pub bit-only : (w : ℕ) → heldBit (onlyHeld w) ≡ heldBit w
 bit-only w = go (isHeld w) refl
   where
-    go : (b : Bool) → isHeld w ≡ b → heldBit (pick b w 0) ≡ pick b 1 0
-    go true e = pick-by 1 0 e
+    go : (b : Bool) → isHeld w ≡ b → heldBit (cond b w 0) ≡ cond b 1 0
+    go true e = cond-by 1 0 e
     go false e = refl
 
--- A held word put over another: the bits do not fall.
-pub bit-over : (a b : ℕ) → heldBit b ≤ heldBit (pick (isHeld a) a b)
+-- A held word put over another: neither bit falls.
+pub bit-first : (a b : ℕ) → heldBit a ≤ heldBit (cond (isHeld a) a b)
+bit-first a b = go (isHeld a) refl
+  where
+    go : (t : Bool) → isHeld a ≡ t → heldBit a ≤ heldBit (cond t a b)
+    go true e = omega arith
+    go false e = let i : heldBit a ≡ 0 = cond-by 1 0 e in omega arith
+
+pub bit-over : (a b : ℕ) → heldBit b ≤ heldBit (cond (isHeld a) a b)
 bit-over a b = go (isHeld a) refl
   where
-    go : (t : Bool) → isHeld a ≡ t → heldBit b ≤ heldBit (pick t a b)
-    go true e = let i : heldBit a ≡ 1 = pick-by 1 0 e in let l = bit-small b in omega arith
+    go : (t : Bool) → isHeld a ≡ t → heldBit b ≤ heldBit (cond t a b)
+    go true e = let i : heldBit a ≡ 1 = cond-by 1 0 e in let l = bit-small b in omega arith
     go false e = omega arith
 
 module _ (f : ℕ → ℕ) where

@@ -6,7 +6,7 @@ use Prim.Native.Nat.{ℕ, zero, suc, _+_, _-_, _*_, _/_, _%_, _≤_, _<_}
 use native.Mathlib.Omega.{arith}
 use native.Mathlib.Nat.{mul-comm}
 use mathlib.Core.Path.{_≡_, refl, sym, ap, ap₂, _∙_}
-use mathlib.Core.Bool.{Bool, true, false, _&&_, _||_, true≢false}
+use mathlib.Core.Bool.{Bool, true, false, cond, _&&_, _||_}
 use mathlib.Core.List.{List}
 use lib.ListN.{drop}
 use lib.Dec.{leb}
@@ -14,27 +14,21 @@ use borrow.Author.Tests.{leb-true}
 use Rattle.buffers.specs.Filled.{at}
 use Rattle.buffers.proofs.Parts.{joined-first}
 use Rattle.grammar.specs.Questions.{oneIf}
+use Rattle.grammar.proofs.Bools.{both}
 use Rattle.evaluation.specs.Counts.{sumTo, countPairs}
 use Rattle.records.specs.Words.{isHeld, examinedOf}
+use Rattle.records.specs.Slots.{slotOf, tableSize}
+use Rattle.records.proofs.Slots.{slot-in, in-row, position-of, rule-of}
 use Rattle.editing.specs.Text.{EditFits, newLength}
-use Rattle.editing.specs.Table.{pick, tableWord, tableSize, stays, comes, cameFrom, wordAfter, tabulate, wordsAfter, tableAfter, heldIn}
-use Rattle.records.specs.Slots.{slotOf}
+use Rattle.editing.specs.Table.{tableWord, stays, comes, cameFrom, wordAfter, tabulate, wordsAfter, tableAfter, heldIn}
 use Rattle.editing.specs.Pairs.{standsAfter}
-use Rattle.editing.specs.Words.{heldBit, heldTo}
-use Rattle.editing.proofs.Held.{pick-by, held-add, held-same, held-list}
-use Rattle.editing.proofs.Slots.{row-room, position-of, rule-of}
-use Rattle.editing.proofs.Cases.{tabulate-long, tabulate-at, was-inside}
-
-and-first : (a b : Bool) → (a && b) ≡ true → a ≡ true
-and-first true b e = refl
-and-first false b e = e
-
-and-second : (a b : Bool) → (a && b) ≡ true → b ≡ true
-and-second true b e = e
-and-second false b e = absurd (true≢false (sym e))
+use Rattle.editing.specs.Held.{heldBit, heldTo}
+use Rattle.editing.proofs.Held.{cond-by, held-add, held-same, held-list}
+use Rattle.editing.proofs.Tabulated.{tabulate-long, tabulate-at}
+use Rattle.editing.proofs.Lengths.{was-inside}
 
 -- Two cases that give one word.
-either : (a b : Bool) (w u v : ℕ) → (a ≡ true → w ≡ v) → (b ≡ true → u ≡ v) → pick a w (pick b u 0) ≡ pick (a || b) v 0
+either : (a b : Bool) (w u v : ℕ) → (a ≡ true → w ≡ v) → (b ≡ true → u ≡ v) → cond a w (cond b u 0) ≡ cond (a || b) v 0
 either true b w u v f g = f refl
 either false true w u v f g = g refl
 either false false w u v f g = refl
@@ -42,19 +36,19 @@ either false false w u v f g = refl
 -- The held bit of a word that one of two cases gives.
 either-bit :
     (a b : Bool) (w u : ℕ) → (a ≡ true → isHeld w ≡ true) → (b ≡ true → isHeld u ≡ true)
-    → heldBit (pick a w (pick b u 0)) ≡ oneIf (a || b)
-either-bit true b w u f g = pick-by 1 0 (f refl)
-either-bit false true w u f g = pick-by 1 0 (g refl)
+    → heldBit (cond a w (cond b u 0)) ≡ oneIf (a || b)
+either-bit true b w u f g = cond-by 1 0 (f refl)
+either-bit false true w u f g = cond-by 1 0 (g refl)
 either-bit false false w u f g = refl
 
 -- The word of a pair that is or is not held.
-held-word : (h : Bool) (w : ℕ) → (h ≡ true → isHeld w ≡ true) → isHeld (pick h w 0) ≡ h
+held-word : (h : Bool) (w : ℕ) → (h ≡ true → isHeld w ≡ true) → isHeld (cond h w 0) ≡ h
 held-word true w f = f refl
 held-word false w f = refl
 
 stays-pair :
     (s q x : ℕ) (h : Bool) (w : ℕ) → (h ≡ true → isHeld w ≡ true) → (h ≡ true → examinedOf w ≡ x)
-    → stays s q (pick h w 0) ≡ (leb q s && (h && leb (q + x) s))
+    → stays s q (cond h w 0) ≡ (leb q s && (h && leb (q + x) s))
 stays-pair s q x true w f g = ap₂ (λ (b : Bool) (y : ℕ). leb q s && (b && leb (q + y) s)) (f refl) (g refl)
 stays-pair s q x false w f g = refl
 
@@ -71,7 +65,7 @@ module _
     (fits : EditFits cap n s e k)
     (h : ℕ → ℕ → Bool)
     (examined W W′ : ℕ → ℕ → ℕ)
-    (before : (rule q : ℕ) → rule < R → q ≤ cap → tableWord R t rule q ≡ pick (h rule q) (W rule q) 0)
+    (before : (rule q : ℕ) → rule < R → q ≤ cap → tableWord R t rule q ≡ cond (h rule q) (W rule q) 0)
     (stored : (rule q : ℕ) → rule < R → h rule q ≡ true → (isHeld (W rule q) ≡ true) × (examinedOf (W rule q) ≡ examined rule q))
     (stay-true : (rule q : ℕ) → rule < R → h rule q ≡ true → q + examined rule q ≤ s → W′ rule q ≡ W rule q)
     (carry-true :
@@ -111,11 +105,11 @@ module _
           ∙ held-word (h rule (cameFrom s e k q)) (W rule (cameFrom s e k q)) (λ y. stored rule (cameFrom s e k q) below y .0))
 
       -- The word of a pair after the edit.
-      word-after : wordAfter R n s e k t rule q ≡ pick (stands rule q) (W′ rule q) 0
+      word-after : wordAfter R n s e k t rule q ≡ cond (stands rule q) (W′ rule q) 0
       unfolding wordAfter standsAfter
       word-after =
           ap₂
-          (λ (a b : Bool). pick a (tableWord R t rule q) (pick b (tableWord R t rule (cameFrom s e k q)) 0))
+          (λ (a b : Bool). cond a (tableWord R t rule q) (cond b (tableWord R t rule (cameFrom s e k q)) 0))
           first-case
           second-case
           ∙ either
@@ -125,17 +119,18 @@ module _
           (tableWord R t rule (cameFrom s e k q))
           (W′ rule q)
           (λ y.
-          let z = and-second (leb q s) (h rule q && leb (q + examined rule q) s) y in
-          let held = and-first (h rule q) (leb (q + examined rule q) s) z in
-          let near = leb-true (q + examined rule q) s (and-second (h rule q) (leb (q + examined rule q) s) z) in
-          before rule q below inside ∙ pick-by (W rule q) 0 held ∙ sym (stay-true rule q below held near))
+          let z = both (h rule q) (leb (q + examined rule q) s) (both (leb q s) _ y .1) in
+          let held = z .0 in
+          let near = leb-true (q + examined rule q) s (z .1) in
+          before rule q below inside ∙ cond-by (W rule q) 0 held ∙ sym (stay-true rule q below held near))
           (λ y.
-          let a = leb-true (s + k) q (and-first (leb (s + k) q) (leb q (newLength n s e k) && h rule (cameFrom s e k q)) y) in
-          let z = and-second (leb (s + k) q) (leb q (newLength n s e k) && h rule (cameFrom s e k q)) y in
-          let b = leb-true q (newLength n s e k) (and-first (leb q (newLength n s e k)) (h rule (cameFrom s e k q)) z) in
-          let held = and-second (leb q (newLength n s e k)) (h rule (cameFrom s e k q)) z in
+          let x = both (leb (s + k) q) _ y in
+          let z = both (leb q (newLength n s e k)) (h rule (cameFrom s e k q)) (x .1) in
+          let a = leb-true (s + k) q (x .0) in
+          let b = leb-true q (newLength n s e k) (z .0) in
+          let held = z .1 in
           before rule (cameFrom s e k q) below (came-inside q a b)
-          ∙ pick-by (W rule (cameFrom s e k q)) 0 held
+          ∙ cond-by (W rule (cameFrom s e k q)) 0 held
           ∙ sym (carry-true rule q below a b held))
 
       -- Its held bit is whether it stands.
@@ -147,12 +142,8 @@ module _
           (comes n s e k q (tableWord R t rule (cameFrom s e k q)))
           (tableWord R t rule q)
           (tableWord R t rule (cameFrom s e k q))
-          (λ y. and-first (isHeld (tableWord R t rule q)) (leb (q + examinedOf (tableWord R t rule q)) s) (and-second (leb q s) (isHeld (tableWord R t rule q) && leb (q + examinedOf (tableWord R t rule q)) s) y))
-          (λ y.
-          and-second
-          (leb q (newLength n s e k))
-          (isHeld (tableWord R t rule (cameFrom s e k q)))
-          (and-second (leb (s + k) q) (leb q (newLength n s e k) && isHeld (tableWord R t rule (cameFrom s e k q))) y))
+          (λ y. both (isHeld (tableWord R t rule q)) _ (both (leb q s) _ y .1) .0)
+          (λ y. both (leb q (newLength n s e k)) _ (both (leb (s + k) q) _ y .1) .1)
           ∙ ap₂ (λ (a b : Bool). oneIf (a || b)) first-case second-case
 
     -- The table after the edit, pair by pair.
@@ -160,25 +151,29 @@ module _
         (rule q : ℕ)
         → rule < R
         → q ≤ cap
-        → tableWord R (tableAfter R cap n s e k t) rule q ≡ pick (standsAfter (h rule) (examined rule) n s e k q) (W′ rule q) 0
+        → tableWord R (tableAfter R cap n s e k t) rule q ≡ cond (standsAfter (h rule) (examined rule) n s e k q) (W′ rule q) 0
     unfolding wordsAfter
     ledger-after rule q below inside =
         let f : ℕ → ℕ = λ j. wordAfter R n s e k t (j % R) (j / R) in
-        let m = row-room R q (cap + 1) (omega arith) in
-        let slot : slotOf R rule q < tableSize R cap = omega arith in
+        let slot = slot-in R cap rule q below inside in
         joined-first (tabulate f (tableSize R cap)) (drop (tableSize R cap) t) (tableSize R cap) (slotOf R rule q) (tabulate-long f (tableSize R cap)) slot
         ∙ tabulate-at f (tableSize R cap) (slotOf R rule q) slot
-        ∙ ap₂ (wordAfter R n s e k t) (rule-of R some rule q below) (position-of R some rule q below)
+        ∙ ap₂ (wordAfter R n s e k t) (rule-of R rule q below) (position-of R rule q below)
         ∙ word-after rule q below inside
 
-    row-count : (q : ℕ) → q ≤ cap → (m : ℕ) → m ≤ R → heldTo (λ rule. wordAfter R n s e k t ((q * R + rule) % R) ((q * R + rule) / R)) m ≡ sumTo m (λ rule. oneIf (stands rule q))
+    row-count :
+        (q : ℕ)
+        → q ≤ cap
+        → (m : ℕ)
+        → m ≤ R
+        → heldTo (λ rule. wordAfter R n s e k t (slotOf R rule q % R) (slotOf R rule q / R)) m ≡ sumTo m (λ rule. oneIf (stands rule q))
     unfolding sumTo
     row-count q l zero h = refl
     row-count q l (suc m) h =
         let a = row-count q l m (omega arith) in
         let below : m < R = omega arith in
-        let b : heldBit (wordAfter R n s e k t ((q * R + m) % R) ((q * R + m) / R)) ≡ oneIf (stands m q) =
-        ap heldBit (ap₂ (wordAfter R n s e k t) (rule-of R some m q below) (position-of R some m q below)) ∙ bit-after m q below l in
+        let b : heldBit (wordAfter R n s e k t (slotOf R m q % R) (slotOf R m q / R)) ≡ oneIf (stands m q) =
+        ap heldBit (ap₂ (wordAfter R n s e k t) (rule-of R m q below) (position-of R m q below)) ∙ bit-after m q below l in
         omega arith
 
     rows-count :
@@ -191,6 +186,7 @@ module _
         let f : ℕ → ℕ = λ j. wordAfter R n s e k t (j % R) (j / R) in
         let a = rows-count p (omega arith) in
         let b = held-add f (p * R) R in
+        let c = held-same (λ j. f (p * R + j)) (λ rule. f (slotOf R rule p)) R (λ rule l. ap f (sym (in-row R rule p))) in
         let d = row-count p (omega arith) R (omega arith) in
         let z : suc p * R ≡ p * R + R = omega arith in
         let i = ap (heldTo f) z in

@@ -1,14 +1,6 @@
 -- The laws of the edit.
-pub mod TextLaw
-pub mod OpenLaw
+pub mod Lengths
 pub mod Held
-pub mod Kept
-pub mod Turns
-pub mod ScanLaw
-pub mod Rows
-pub mod Slots
-pub mod BackLaw
-pub mod Cases
-pub mod TableLaw
+pub mod Tabulated
 pub mod Ledger
 pub mod Loans

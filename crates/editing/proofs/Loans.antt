@@ -1,17 +1,17 @@
 -- What the lent buffers hold from call to call: a text and then zeros stay so over an edit, the words after the table stay, and the table keeps
 -- its size. Assumes nothing.
-use Prim.Native.Nat.{ℕ, _+_, _-_, _/_, _%_, _≤_, _<_}
+use Prim.Native.Nat.{ℕ, _-_, _/_, _%_, _≤_, _<_}
 use native.Mathlib.Omega.{arith}
 use mathlib.Core.Path.{_≡_, sym, ap, ap₂, _∙_}
 use mathlib.Core.List.{List, _++_, append-assoc}
 use lib.ListN.{length, take, drop, replicate, length-append, length-drop, length-replicate, getD-replicate}
 use lib.Seq.{length-take-le, take-append-le, drop-append-le, take-at, drop-at}
 use Rattle.buffers.proofs.Parts.{joined-first}
+use Rattle.records.specs.Slots.{slotOf, tableSize}
+use Rattle.records.proofs.Slots.{slot-in}
 use Rattle.editing.specs.Text.{EditFits, newLength, textAfter, opened, edited}
-use Rattle.editing.specs.Table.{tableWord, tableSize, TableLent, wordAfter, wordsAfter, tableAfter, clearedTable}
-use Rattle.records.specs.Slots.{slotOf}
-use Rattle.editing.proofs.Slots.{row-room}
-use Rattle.editing.proofs.Cases.{tabulate-long}
+use Rattle.editing.specs.Table.{tableWord, TableLent, wordAfter, wordsAfter, tableAfter, clearedTable}
+use Rattle.editing.proofs.Tabulated.{tabulate-long}
 
 module _ (cap s e : ℕ) (text r : List ℕ) (fits : EditFits cap (length text) s e (length r)) where
   pub edited-long : length (edited text s e r) ≡ newLength (length text) s e (length r)
@@ -64,8 +64,7 @@ module _ {R cap : ℕ} {t : List ℕ} (lent : TableLent R cap t) where
 
   pub cleared-word : (rule q : ℕ) → rule < R → q ≤ cap → tableWord R (clearedTable R cap t) rule q ≡ 0
   cleared-word rule q below inside =
-      let m = row-room R q (cap + 1) (omega arith) in
-      let slot : slotOf R rule q < tableSize R cap = omega arith in
+      let slot = slot-in R cap rule q below inside in
       joined-first (replicate (tableSize R cap) 0) (drop (tableSize R cap) t) (tableSize R cap) (slotOf R rule q) (length-replicate (tableSize R cap) 0) slot
       ∙ getD-replicate (tableSize R cap) (slotOf R rule q) 0 0 slot
 

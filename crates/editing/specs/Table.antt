@@ -1,24 +1,17 @@
 -- The memo table: what an opening and an edit leave in the lent words, for every table content.
-use Prim.Native.Nat.{ℕ, zero, suc, _+_, _-_, _*_, _/_, _%_, _≤_}
-use mathlib.Core.Bool.{Bool, true, false, _&&_}
+use Prim.Native.Nat.{ℕ, zero, suc, _+_, _-_, _/_, _%_, _≤_}
+use mathlib.Core.Bool.{Bool, cond, _&&_}
 use mathlib.Core.List.{List, [], _∷_, _++_}
 use lib.ListN.{length, getD, drop, replicate}
 use lib.Dec.{leb}
 use Rattle.records.specs.Words.{isHeld, examinedOf}
 use Rattle.records.specs.Slots.{slotOf}
+pub use Rattle.records.specs.Slots.{tableSize}
 use Rattle.editing.specs.Text.{newLength}
-
-abbrev pub pick : Bool → ℕ → ℕ → ℕ
-pick true a b = a
-pick false a b = b
 
 -- The word of a pair.
 abbrev pub tableWord : (rules : ℕ) (table : List ℕ) (rule position : ℕ) → ℕ
 tableWord rules table rule position = getD table (slotOf rules rule position) 0
-
--- "The first rules × (cap + 1) words are the table".
-abbrev pub tableSize : (rules cap : ℕ) → ℕ
-tableSize rules cap = rules * (cap + 1)
 
 -- "cap at most 65,535", "the table wholly lent", for 1 to 64 rules.
 pub record TableLent (rules cap : ℕ) (words : List ℕ) : Type 0 where
@@ -42,10 +35,10 @@ cameFrom s e k q = q - k + (e - s)
 -- The word of a pair after an edit: "moves words whole, the first case winning". "A slot whose pair doesn't stand after an edit is 0."
 unfoldable pub wordAfter : (rules n s e k : ℕ) (table : List ℕ) (rule q : ℕ) → ℕ
 wordAfter rules n s e k table rule q =
-    pick
+    cond
     (stays s q (tableWord rules table rule q))
     (tableWord rules table rule q)
-    (pick (comes n s e k q (tableWord rules table rule (cameFrom s e k q))) (tableWord rules table rule (cameFrom s e k q)) 0)
+    (cond (comes n s e k q (tableWord rules table rule (cameFrom s e k q))) (tableWord rules table rule (cameFrom s e k q)) 0)
 
 -- The list f 0, f 1, .. of so many.
 abbrev pub tabulate : (ℕ → ℕ) → ℕ → List ℕ
@@ -68,4 +61,4 @@ clearedTable rules cap table = replicate (tableSize rules cap) 0 ++ drop (tableS
 -- How many words are held: "the number of pairs standing".
 abbrev pub heldIn : List ℕ → ℕ
 heldIn [] = 0
-heldIn (w ∷ ws) = pick (isHeld w) 1 0 + heldIn ws
+heldIn (w ∷ ws) = cond (isHeld w) 1 0 + heldIn ws

@@ -1,7 +1,2 @@
-// The edit of a sheet's text and of its memo table, and what an opening leaves in both.
-mod back;
-mod front;
-mod scan;
-pub mod table;
-pub mod text;
-mod words;
+// What an opening and an edit leave in the text and in the memo table, and which pairs stand.
+// This crate has definitions (specs/) and theorems (proofs/) and no code that runs.

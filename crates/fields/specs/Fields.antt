@@ -1,7 +1,7 @@
 -- What a field of a line means: a decimal number below 2^64, or bytes as pairs of hexadecimal digits.
 use Prim.Native.Nat.{ℕ, zero, suc, _+_, _*_, _-_, _≤_, _<_, _^_, _/_, _%_}
 use mathlib.Core.Path.{_≡_}
-use mathlib.Core.Bool.{Bool, true, false}
+use mathlib.Core.Bool.{cond}
 use mathlib.Core.List.{List}
 use lib.ListN.{length, getD}
 use lib.Dec.{ltb}
@@ -33,19 +33,15 @@ abbrev pub DecimalOf : List ℕ → Number → Type 0
 DecimalOf s (Is v) = IsNumber s × (v ≡ valueTo s (length s))
 DecimalOf s None = IsNumber s → ⊥
 
-abbrev pub pick : Bool → ℕ → ℕ → ℕ
-pick true a b = a
-pick false a b = b
-
 -- The value of a hexadecimal digit in either case, 16 for any other byte.
 abbrev pub hexValue : ℕ → ℕ
 hexValue b =
-    pick (ltb b 48) 16
-    (pick (ltb b 58) (b - 48)
-    (pick (ltb b 65) 16
-    (pick (ltb b 71) (b - 55)
-    (pick (ltb b 97) 16
-    (pick (ltb b 103) (b - 87) 16)))))
+    cond (ltb b 48) 16
+    (cond (ltb b 58) (b - 48)
+    (cond (ltb b 65) 16
+    (cond (ltb b 71) (b - 55)
+    (cond (ltb b 97) 16
+    (cond (ltb b 103) (b - 87) 16)))))
 
 -- The byte of the pair of digits j.
 abbrev pub byteAt : List ℕ → ℕ → ℕ

@@ -2,7 +2,7 @@
 use Prim.Native.Nat.{ℕ, _+_, _-_, _≤_, _<_, _^_}
 use native.Mathlib.Omega.{arith}
 use mathlib.Core.Path.{_≡_, refl, sym, ap, _∙_}
-use mathlib.Core.Bool.{Bool, true, false}
+use mathlib.Core.Bool.{Bool, true, false, cond}
 use mathlib.Core.List.{List}
 use lib.ListN.{length, take, drop, replicate, length-append, length-replicate}
 use lib.Seq.{take-at}
@@ -18,7 +18,7 @@ use Rattle.packrat.specs.Over.{wordAt}
 use Rattle.packrat.specs.True.{IsTrue}
 use Rattle.packrat.proofs.OverTables.{word-possible}
 use Rattle.editing.specs.Text.{opened}
-use Rattle.editing.specs.Table.{pick, tableSize}
+use Rattle.editing.specs.Table.{tableSize}
 use Rattle.promises.specs.Questions.{Question8}
 use Rattle.promises.specs.Reading.{NotForeign}
 use Rattle.ledger.specs.Ledger.{Evaluations, Ledger, valueIn}
@@ -31,7 +31,7 @@ pub record Inv (ev : Evaluations) (cap : ℕ) (rest : List ℕ) (l : Ledger) (B 
   pub bytes-are : B ≡ opened cap (l .text)
   pub whole : tableSize (rules (l .image)) cap ≤ length W
   pub words-are :
-      (r q : ℕ) → r < rules (l .image) → q ≤ cap → wordAt (l .image) W r q ≡ pick (l .held r q) (wordOf (valueIn ev l r q)) 0
+      (r q : ℕ) → r < rules (l .image) → q ≤ cap → wordAt (l .image) W r q ≡ cond (l .held r q) (wordOf (valueIn ev l r q)) 0
   pub held-in : (r q : ℕ) → l .held r q ≡ true → (r < rules (l .image)) × (q ≤ length (l .text))
   pub shallow : (r q : ℕ) → l .held r q ≡ true → valueIn ev l r q .nesting ≤ 4096
   pub closed :
@@ -88,7 +88,7 @@ module _ {ev : Evaluations} {cap : ℕ} {rest : List ℕ} {l : Ledger} {B : List
   pub holds-is : (r q : ℕ) → r < rules (l .image) → q ≤ cap → isHeld (wordAt (l .image) W r q) ≡ l .held r q
   holds-is r q k h = ap isHeld (v .words-are r q k h) ∙ go (l .held r q) refl
     where
-      go : (b : Bool) → l .held r q ≡ b → isHeld (pick b (wordOf (valueIn ev l r q)) 0) ≡ b
+      go : (b : Bool) → l .held r q ≡ b → isHeld (cond b (wordOf (valueIn ev l r q)) 0) ≡ b
       go true e = held-word (l .image) (l .text) r q (valueIn ev l r q) (value-of r q e) (v .held-in r q e .1) short-text (v .shallow r q e)
       go false e = refl
 
@@ -100,7 +100,7 @@ module _ {ev : Evaluations} {cap : ℕ} {rest : List ℕ} {l : Ledger} {B : List
         evaluated = value-of r q e;
         word-is =
             v .words-are r q (k .0) (omega (arith, k .1, v .text-fits))
-            ∙ ap (λ (b : Bool). pick b (wordOf (valueIn ev l r q)) 0) e;
+            ∙ ap (λ (b : Bool). cond b (wordOf (valueIn ev l r q)) 0) e;
         nesting-allowed = v .shallow r q e;
       }
 

@@ -3,7 +3,7 @@
 use Prim.Native.Nat.{ℕ, _+_, _-_, _≤_, _<_}
 use native.Mathlib.Omega.{arith}
 use mathlib.Core.Path.{_≡_, refl, sym, ap, _∙_, subst}
-use mathlib.Core.Bool.{Bool, true, false}
+use mathlib.Core.Bool.{Bool, true, false, cond}
 use mathlib.Core.List.{List, _++_}
 use mathlib.Core.Logic.{_⊎_, ⊎-elim}
 use lib.ListN.{length, take, drop}
@@ -22,7 +22,7 @@ use Rattle.records.proofs.Codec.{examined-back}
 use Rattle.packrat.specs.Over.{wordAt}
 use Rattle.packrat.proofs.OverTables.{word-possible}
 use Rattle.editing.specs.Text.{EditFits, newLength, textAfter}
-use Rattle.editing.specs.Table.{pick, tableSize, wordsAfter, tableAfter, heldIn}
+use Rattle.editing.specs.Table.{tableSize, wordsAfter, tableAfter, heldIn}
 use Rattle.editing.proofs.Ledger.{ledger-after}
 use Rattle.editing.proofs.Loans.{edited-long, edit-opened, after-long, after-tail}
 use Rattle.promises.specs.declared.EditAnswer.{EditAnswer}
@@ -184,7 +184,7 @@ module _ {ev : Evaluations} {cap : ℕ} {rest : List ℕ} {l : Ledger} {B : List
     word-after :
         (rule q : ℕ) → rule < rules (l .image) → q ≤ cap
         → wordAt (l .image) (tableAfter (rules (l .image)) cap (length (l .text)) s e (length r) W) rule q
-        ≡ pick (standing ev l s e r rule q) (wordOf (valueIn ev now rule q)) 0
+        ≡ cond (standing ev l s e r rule q) (wordOf (valueIn ev now rule q)) 0
     word-after =
         ledger-after (rules (l .image)) cap (length (l .text)) s e (length r) W (l .accepted .lawful .counts .some-rules) fits
         (l .held) examined (λ rule q. wordOf (valueIn ev l rule q)) (λ rule q. wordOf (valueIn ev now rule q)) (v .words-are) stored
@@ -205,7 +205,7 @@ module _ {ev : Evaluations} {cap : ℕ} {rest : List ℕ} {l : Ledger} {B : List
     inv-edit :
         (W′ : List ℕ) → tableSize (rules (l .image)) cap ≤ length W′
         → ((rule q : ℕ) → rule < rules (l .image) → q ≤ cap
-        → wordAt (l .image) W′ rule q ≡ pick (standing ev l s e r rule q) (wordOf (valueIn ev now rule q)) 0)
+        → wordAt (l .image) W′ rule q ≡ cond (standing ev l s e r rule q) (wordOf (valueIn ev now rule q)) 0)
         → drop (tableSize (rules (l .image)) cap) W′ ≡ rest
         → Inv ev cap rest now (textAfter B n s e r) (newLength n s e (length r)) W′
     inv-edit W′ whole words after =

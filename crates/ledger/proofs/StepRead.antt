@@ -6,7 +6,7 @@
 use Prim.Native.Nat.{ℕ, suc, _+_, _≤_, _<_}
 use native.Mathlib.Omega.{arith}
 use mathlib.Core.Path.{_≡_, refl, sym, ap, _∙_}
-use mathlib.Core.Bool.{Bool, true, false, not, _&&_, _||_, true≢false}
+use mathlib.Core.Bool.{Bool, true, false, cond, not, _&&_, _||_, true≢false}
 use mathlib.Core.List.{List}
 use mathlib.Core.Logic.{⊎-elim}
 use lib.ListN.{length, drop}
@@ -29,7 +29,7 @@ use Rattle.packrat.specs.Stores.{evaluations}
 use Rattle.packrat.proofs.Stores.{kept-pair, over-in-range}
 use Rattle.packrat.proofs.TrueTables.{over-of-fresh, fresh-of-over, bodies-over}
 use Rattle.editing.specs.Text.{opened}
-use Rattle.editing.specs.Table.{pick, tableSize, clearedTable}
+use Rattle.editing.specs.Table.{tableSize, clearedTable}
 use Rattle.editing.proofs.Loans.{cleared-long, cleared-tail, cleared-word}
 use Rattle.promises.specs.declared.ReadAnswer.{ReadAnswer}
 use Rattle.promises.specs.Answers.{readNumber, sheetReading}
@@ -153,12 +153,12 @@ module _ {ev : Evaluations} {cap : ℕ} {rest : List ℕ} {l : Ledger} {B : List
 
       word-after :
           (r q : ℕ) → r < rules (l .image) → q ≤ cap
-          → wordAt (l .image) W′ r q ≡ pick (l .held r q || reachedIn ev l r q) (wordOf (valueIn ev l r q)) 0
+          → wordAt (l .image) W′ r q ≡ cond (l .held r q || reachedIn ev l r q) (wordOf (valueIn ev l r q)) 0
       word-after r q m h = go (isIn r q (bodiesOf d)) refl
         where
           go :
               (b : Bool) → isIn r q (bodiesOf d) ≡ b
-              → wordAt (l .image) W′ r q ≡ pick (l .held r q || reachedIn ev l r q) (wordOf (valueIn ev l r q)) 0
+              → wordAt (l .image) W′ r q ≡ cond (l .held r q || reachedIn ev l r q) (wordOf (valueIn ev l r q)) 0
           go true f =
               let new = first-on (reachedIn ev l r q) (l .held r q) (sym (bodies-are r q m h) ∙ f) in
               let s = given .stores .gained r q (is-in r q (bodiesOf d) f) in
@@ -168,7 +168,7 @@ module _ {ev : Evaluations} {cap : ℕ} {rest : List ℕ} {l : Ledger} {B : List
               (s .evaluated) (ev .value-is (l .image) (l .accepted) (l .text) r q (p .0) (p .1)) (p .0) (p .1) in
               s .word-is
               ∙ ap wordOf same
-              ∙ ap (λ (b : Bool). pick b (wordOf (valueIn ev l r q)) 0) (sym (or-right (l .held r q) (reachedIn ev l r q) new))
+              ∙ ap (λ (b : Bool). cond b (wordOf (valueIn ev l r q)) 0) (sym (or-right (l .held r q) (reachedIn ev l r q) new))
           go false f =
               kept-pair (given .stores)
               (λ x i.
@@ -176,7 +176,7 @@ module _ {ev : Evaluations} {cap : ℕ} {rest : List ℕ} {l : Ledger} {B : List
               (l .accepted .lawful .counts .start-rule) (omega arith) x i .rule-in)
               r q m f
               ∙ v .words-are r q m h
-              ∙ ap (λ (b : Bool). pick b (wordOf (valueIn ev l r q)) 0)
+              ∙ ap (λ (b : Bool). cond b (wordOf (valueIn ev l r q)) 0)
               (sym (none-new (reachedIn ev l r q) (l .held r q) (sym (bodies-are r q m h) ∙ f)))
 
       inv-read : Inv ev cap rest (readTurn ev true l .left) B n W′

@@ -2,7 +2,7 @@
 -- cites.
 use Prim.Native.Nat.{ℕ, _≤_, _<_}
 use mathlib.Core.Path.{_≡_}
-use mathlib.Core.Bool.{true}
+use mathlib.Core.Bool.{true, cond}
 use mathlib.Core.List.{List, [], _∷_}
 use lib.ListN.{length, take, drop}
 use Rattle.grammar.specs.Image.{rules}
@@ -11,7 +11,7 @@ use Rattle.records.specs.Words.{wordOf}
 use Rattle.packrat.specs.Over.{wordAt}
 use Rattle.packrat.specs.True.{IsTrue}
 use Rattle.editing.specs.Text.{opened}
-use Rattle.editing.specs.Table.{pick, tableSize}
+use Rattle.editing.specs.Table.{tableSize}
 use Rattle.promises.specs.declared.OpenAnswer.{OpenAnswer}
 use Rattle.promises.specs.declared.EditAnswer.{EditAnswer}
 use Rattle.promises.specs.declared.LookUpAnswer.{LookUpAnswer}
@@ -74,7 +74,7 @@ pub record Agrees (ev : Evaluations) (cap : ℕ) (rest : List ℕ) (l : Ledger) 
   pub bytes-are : B ≡ opened cap (l .text)
   pub words-are :
       (rule q : ℕ) → rule < rules (l .image) → q ≤ cap
-      → wordAt (l .image) W rule q ≡ pick (l .held rule q) (wordOf (valueIn ev l rule q)) 0
+      → wordAt (l .image) W rule q ≡ cond (l .held rule q) (wordOf (valueIn ev l rule q)) 0
   pub held-in : (rule q : ℕ) → l .held rule q ≡ true → (rule < rules (l .image)) × (q ≤ length (l .text))
   pub true-words : (rule q : ℕ) → l .held rule q ≡ true → IsTrue (l .image) (l .text) rule q (wordAt (l .image) W rule q)
   pub whole-table : tableSize (rules (l .image)) cap ≤ length W

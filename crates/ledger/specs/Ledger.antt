@@ -2,7 +2,7 @@
 -- that the program keeps or answers." Its state has the image too, which these calls do not change.
 use Prim.Native.Nat.{ℕ, _+_, _≤_, _<_}
 use mathlib.Core.Path.{_≡_}
-use mathlib.Core.Bool.{Bool, true, false, not, _&&_, _||_}
+use mathlib.Core.Bool.{Bool, true, false, cond, not, _&&_, _||_}
 use mathlib.Core.List.{List, [], _∷_}
 use mathlib.Core.Logic.{_↔_}
 use lib.ListN.{length}
@@ -16,7 +16,6 @@ use Rattle.evaluation.specs.Counts.{countPairs}
 use Rattle.records.specs.Words.{wordOf}
 use Rattle.rows.specs.Rows.{Row, rowsOf, rowWords}
 use Rattle.editing.specs.Text.{newLength, edited}
-use Rattle.editing.specs.Table.{pick}
 use Rattle.editing.specs.Pairs.{standsAfter}
 use Rattle.promises.specs.declared.EditAnswer.{EditAnswer}
 use Rattle.promises.specs.declared.LookUpAnswer.{LookUpAnswer}
@@ -170,7 +169,7 @@ module _ (ev : Evaluations) where
         reply =
             finds
             (LookUpAnswer.Word
-            (pick (l .held rule position) (wordOf (valueIn ev l rule position)) 0));
+            (cond (l .held rule position) (wordOf (valueIn ev l rule position)) 0));
         left = l;
       }
 

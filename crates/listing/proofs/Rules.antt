@@ -1,5 +1,5 @@
 -- The ways through a rule and a node of the walk. Assumes nothing.
-use Prim.Native.Nat.{ℕ, zero, suc, _+_, _*_, _-_, _%_, _≤_, _<_}
+use Prim.Native.Nat.{ℕ, zero, suc, _+_, _-_, _%_, _≤_, _<_}
 use native.Mathlib.Omega.{arith}
 use mathlib.Core.Path.{_≡_, refl, sym, ap, _∙_, subst}
 use mathlib.Core.Bool.{Bool, true, false, _&&_, and-false}
@@ -11,6 +11,7 @@ use lib.Dec.{ltb}
 use Rattle.grammar.specs.Image.{Node, empty, terminal, Terminal, unlawful}
 use Rattle.grammar.specs.Terminal.{terminalAt}
 use Rattle.records.specs.Words.{isHeld, possible, matchedOf, lengthOf}
+use Rattle.records.specs.Slots.{slotOf}
 use Rattle.records.proofs.Test.{says-possible}
 use Rattle.packrat.specs.Loaded.{rulesIn, wordNode, wordB}
 use Rattle.rows.specs.Rows.{rowWord}
@@ -21,7 +22,7 @@ use Rattle.listing.specs.Gives.{Gives, toldLength}
 use Rattle.listing.proofs.Gives.{found, failed, halted, at-once, just, and-then, and-stop}
 use Rattle.listing.proofs.Paths.{prefixed}
 
-module _ (rules root room : ℕ) (text table : List ℕ) (ev : Walker) (r at lo hi k : ℕ) {word : ℕ} (word-is : word ≡ getD table (at * rules + r) 0)
+module _ (rules root room : ℕ) (text table : List ℕ) (ev : Walker) (r at lo hi k : ℕ) {word : ℕ} (word-is : word ≡ getD table (slotOf rules r at) 0)
     (c : ℕ) (l : List ℕ)
   where
     abbrev Inner : ℕ → Trail

@@ -13,6 +13,7 @@ use Rattle.grammar.proofs.Acceptance.{accepted}
 use Rattle.evaluation.specs.Calls.{bodiesOf, isIn}
 use Rattle.evaluation.specs.Counts.{sumTo}
 use Rattle.records.specs.Words.{valueOf, matchedOf, nestingOf, examinedOf, lengthOf, spareOf, possible}
+use Rattle.records.specs.Slots.{slotOf}
 use Rattle.packrat.specs.Over.{over}
 use Rattle.reading.specs.declared.plain.Outcome.{Outcome}
 use Rattle.promises.specs.declared.ReadAnswer.{ReadAnswer}
@@ -49,17 +50,17 @@ pub untrue-word-taken :
     {a : ReadAnswer} {W′ : List ℕ}
     → ReadPromise D2 text12a 3 (lentWords 0xC000000200010001) a W′
     → a ≡ ReadAnswer.Read (record { outcome = Outcome.Part; length = 1; examined = 1; nesting = 1; evaluations = 0 })
-unfolding over valueOf matchedOf nestingOf examinedOf lengthOf spareOf possible rules start bodiesOf isIn sumTo D2
+unfolding over valueOf matchedOf nestingOf examinedOf lengthOf spareOf possible slotOf rules start bodiesOf isIn sumTo D2
 untrue-word-taken p = read p .determinate (valueOf 0xC000000200010001) (ev-record refl) (omega arith) .answer-is
 
 pub impossible-word-refused :
     {a : ReadAnswer} {W′ : List ℕ} → ReadPromise D2 text12a 3 (lentWords 0xC000000000000000) a W′ → readNumber a ≡ 12
-unfolding matchedOf nestingOf examinedOf lengthOf spareOf possible rules start D2
+unfolding matchedOf nestingOf examinedOf lengthOf spareOf possible slotOf rules start D2
 impossible-word-refused p = read p .impossible refl refl
 
 pub impossible-word-not-listed :
     {R : List ℕ} {a : ListAnswer} {W′ R′ : List ℕ} → ListPromise D2 text12a 3 (lentWords 0xC000000000000000) R a W′ R′
     → (a ≡ ListAnswer.Refused 12) × (W′ ≡ replicate 8 0) × (R′ ≡ R)
-unfolding matchedOf nestingOf examinedOf lengthOf spareOf possible rules start D2
+unfolding matchedOf nestingOf examinedOf lengthOf spareOf possible slotOf rules start D2
 impossible-word-not-listed p =
     let x = impossible-listed (p .listed (asked (p .first))) refl refl in (x .answer-is, x .words-are, x .slots-are)

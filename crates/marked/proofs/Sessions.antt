@@ -8,6 +8,7 @@ use Rattle.grammar.specs.Image.{rules, nodes, start, ruleWord, root, nodeWord, 
 use Rattle.grammar.specs.Terminal.{accepts, terminalAt}
 use Rattle.grammar.proofs.Acceptance.{accepted}
 use Rattle.records.specs.Words.{matchedOf, spareOf, nestingOf, examinedOf, lengthOf, valueOf, wordOf, possible}
+use Rattle.records.specs.Slots.{slotOf}
 use Rattle.packrat.specs.Model.{afterFirst, afterChoice, afterRound, roundsM, met, looked, pairM, kindM, nodeM}
 use Rattle.packrat.specs.Loaded.{wordNode}
 use Rattle.rows.specs.Rows.{rowWord, rowWords}
@@ -44,7 +45,7 @@ computed :
     × Computed text12a callsOver repliesOver
     × Computed text12a callsRefused repliesRefused
 unfolding D2 rules nodes start ruleWord root nodeWord fieldsAt nodeOf body accepts terminalAt matchedOf
-    spareOf nestingOf examinedOf lengthOf valueOf wordOf possible afterFirst afterChoice afterRound roundsM met looked pairM
+    spareOf nestingOf examinedOf lengthOf valueOf wordOf possible slotOf afterFirst afterChoice afterRound roundsM met looked pairM
     kindM nodeM textAfter wordAfter wordsAfter
 computed = (refl, refl, refl, refl, refl, refl, refl)
 
@@ -54,7 +55,7 @@ listed :
     × Computed text12 callsListed repliesListed
     × ComputedBy parts 3 textParts callsParts repliesParts
 unfolding D2 parts rules nodes start ruleWord root nodeWord fieldsAt nodeOf body accepts terminalAt matchedOf
-    spareOf nestingOf examinedOf lengthOf valueOf wordOf possible afterFirst afterChoice afterRound roundsM met looked pairM
+    spareOf nestingOf examinedOf lengthOf valueOf wordOf possible slotOf afterFirst afterChoice afterRound roundsM met looked pairM
     kindM nodeM textAfter wordAfter wordsAfter wordsFrom wordNode after bind afterLook partV joined walk.afterFirst walk.afterChoice walk.afterRound
     roundsV entered walk.met pairV kindV nodeV startV touches rowWord rowWords
 listed = (refl, refl, refl)

@@ -2,7 +2,7 @@
 -- of the text, answers within the text, and is refused with 12 or 14 if at all. Assumes nothing.
 --     pair-framed       every run
 --     pair-impossible   a held word that is not possible is refused with 12, and nothing changes
-use Prim.Native.Nat.{ℕ, zero, suc, _+_, _*_, _%_, _≤_, _<_, _^_}
+use Prim.Native.Nat.{ℕ, zero, suc, _+_, _%_, _≤_, _<_, _^_}
 use native.Mathlib.Omega.{arith}
 use mathlib.Core.Path.{_≡_, refl, ap, _∙_}
 use mathlib.Core.Bool.{Bool, true, false}
@@ -23,6 +23,7 @@ use Rattle.evaluation.specs.Within.{Within}
 use Rattle.evaluation.proofs.Shape.{empty-within, failed-within, taken-within, negated-within, last-within, second-within}
 use Rattle.evaluation.proofs.Shape.{round-within, then-within}
 use Rattle.records.specs.Words.{isHeld, possible, nestingOf, wordOf}
+use Rattle.records.specs.Slots.{slotOf}
 use Rattle.records.proofs.Test.{says-possible}
 use Rattle.packrat.specs.Model.{Answer, answered, refused, Out, out, Evaluator, bind, made, afterFirst, afterChoice, afterRound}
 use Rattle.packrat.specs.Model.{roundsM, met, looked, pairM, ruleM, kindM, nodeM}
@@ -158,18 +159,18 @@ module _ (img text : List ℕ) where
   module _ (words : Question4 img) where
     rule-framed : (left : ℕ) {ev : Evaluator} → All (nodes img) ev → All (rules img) (ruleM img text ev left)
     unfolding pairM
-    rule-framed left {ev} all r p l h t c = by (isHeld (getD t (p * rules img + r) 0))
+    rule-framed left {ev} all r p l h t c = by (isHeld (getD t (slotOf (rules img) r p) 0))
       where
-        stored : (x : Evaluation) (u : List ℕ) (d : ℕ) → Within (length text) p x → Framed img text u p (out (answered x) (set u (p * rules img + r) (wordOf x)) d)
+        stored : (x : Evaluation) (u : List ℕ) (d : ℕ) → Within (length text) p x → Framed img text u p (out (answered x) (set u (slotOf (rules img) r p) (wordOf x)) d)
         stored x u d w =
             record {
               answer = answered x;
-              after = set u (p * rules img + r) (wordOf x);
+              after = set u (slotOf (rules img) r p) (wordOf x);
               counted = d;
               is = refl;
               fits = w;
-              as-long = length-set u (p * rules img + r) (wordOf x);
-              kept = λ j n. getD-set-other u (p * rules img + r) j (wordOf x) 0 (n r p l h);
+              as-long = length-set u (slotOf (rules img) r p) (wordOf x);
+              kept = λ j n. getD-set-other u (slotOf (rules img) r p) j (wordOf x) 0 (n r p l h);
             }
 
         by : (b : Bool) → Framed img text t p (looked b (rules img) (root img r) text ev left r p t c)
@@ -177,7 +178,7 @@ module _ (img text : List ℕ) where
             met-framed (possible (wordAt img t r p) p (length text)) (leb (nestingOf (wordAt img t r p)) left) (wordAt img t r p) p refl t c
         by false = unfold looked in
             next (all (root img r) p (root-in-range img words r l) h t c)
-            (λ x u d. out (answered x) (set u (p * rules img + r) (wordOf x)) ((d + 1) % 2 ^ 64))
+            (λ x u d. out (answered x) (set u (slotOf (rules img) r p) (wordOf x)) ((d + 1) % 2 ^ 64))
             (λ x u d w. stored x u ((d + 1) % 2 ^ 64) w)
 
     node-framed : (left : ℕ) → All (nodes img) (nodeM img text left)

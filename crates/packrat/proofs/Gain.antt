@@ -1,8 +1,7 @@
 -- What a run adds to a table, where the bodies of certain pairs are evaluated: their words and no other; held words stay; and as many
 -- pairs are newly held as it counted. Assumes nothing.
-use Prim.Native.Nat.{ℕ, _+_, _*_, _%_, _≤_, _<_, _^_}
+use Prim.Native.Nat.{ℕ, _+_, _%_, _≤_, _<_, _^_}
 use native.Mathlib.Omega.{arith}
-use native.Mathlib.Nat.{mul-le-mul-right, add-mul, one-mul, mul-comm}
 use mathlib.Core.Path.{_≡_, refl, sym, ap, _∙_, subst}
 use mathlib.Core.Bool.{Bool, true, false, _&&_, true≢false}
 use mathlib.Core.List.{List, [], _∷_, _++_}
@@ -18,9 +17,10 @@ use Rattle.evaluation.specs.Counts.{countPairs}
 use Rattle.evaluation.proofs.Pairs.{none-in, in-either, in-left, in-right, one-pair}
 use Rattle.evaluation.proofs.Counts.{count-plus, count-one}
 use Rattle.records.specs.Words.{isHeld}
+use Rattle.records.specs.Slots.{slotOf}
+use Rattle.records.proofs.Slots.{slot-in, one-slot}
 use Rattle.packrat.specs.Over.{wordAt}
 use Rattle.packrat.specs.Stores.{Room}
-use Rattle.packrat.proofs.Slots.{one-slot}
 
 -- Every pair of the list is held.
 abbrev pub AllHeld : (img table : List ℕ) → List Pair → Type 0
@@ -36,7 +36,7 @@ module _ (img text : List ℕ) where
     pub pair : Pair
     pub among : In pair ps
     pub rule-in : pair .rule < rules img
-    pub slot-is : j ≡ pair .position * rules img + pair .rule
+    pub slot-is : j ≡ slotOf (rules img) (pair .rule) (pair .position)
 
   pub record Gain (t u : List ℕ) (c d : ℕ) (ps : List Pair) : Type 0 where
     pub only : (j : ℕ) → (getD u j 0 ≡ getD t j 0) ⊎ SlotAmong ps j
@@ -73,7 +73,7 @@ module _ (img text : List ℕ) where
         stays = λ j h. let x = a .stays j h in b .stays j (ap isHeld x ∙ h) ∙ x;
         all = λ m x i.
             ⊎-elim
-            (λ k. let h = a .all m x k in ap isHeld (b .stays (x .position * rules img + x .rule) h) ∙ h)
+            (λ k. let h = a .all m x k in ap isHeld (b .stays (slotOf (rules img) (x .rule) (x .position)) h) ∙ h)
             (b .all (rw (a .as-long) m) x)
             (in-either ps qs i);
         as-long = b .as-long ∙ a .as-long;
@@ -104,34 +104,25 @@ module _ (img text : List ℕ) where
   pub only-pair :
       {t u : List ℕ} {c d : ℕ} {ps : List Pair} → Gain t u c d ps → (r p : ℕ) → r < rules img
       → (wordAt img u r p ≡ wordAt img t r p) ⊎ In (record { rule = r; position = p }) ps
-  only-pair {ps = ps} a r p l = ⊎-elim (λ x. inl x) (λ s. inr (found s)) (a .only (p * rules img + r))
+  only-pair {ps = ps} a r p l = ⊎-elim (λ x. inl x) (λ s. inr (found s)) (a .only (slotOf (rules img) r p))
     where
-      found : SlotAmong ps (p * rules img + r) → In (record { rule = r; position = p }) ps
+      found : SlotAmong ps (slotOf (rules img) r p) → In (record { rule = r; position = p }) ps
       found s =
           let d = one-slot (rules img) p (s .pair .position) r (s .pair .rule) l (s .rule-in) (s .slot-is) in
           subst (λ (x : Pair). In x ps) (one-pair (sym (d .1)) (sym (d .0))) (s .among)
-
-  slot-in : (r p m : ℕ) → r < rules img → p ≤ length text → rules img * (length text + 1) ≤ m → p * rules img + r < m
-  slot-in r p m l h k =
-      let a : p + 1 ≤ length text + 1 = omega arith in
-      let b = mul-le-mul-right (rules img) a in
-      let c : (p + 1) * rules img ≡ p * rules img + rules img =
-      add-mul p 1 (rules img) ∙ ap (λ (x : ℕ). p * rules img + x) (one-mul (rules img)) in
-      let d = mul-comm (rules img) (length text + 1) in
-      omega arith
 
   -- A store of a held word into a slot that was not held.
   module _ (t : List ℕ) (c r p w : ℕ) (l : r < rules img) (h : p ≤ length text)
       (e : isHeld (wordAt img t r p) ≡ false) (f : isHeld w ≡ true)
     where
       abbrev slot : ℕ
-      slot = p * rules img + r
+      slot = slotOf (rules img) r p
 
       abbrev after : List ℕ
       after = set t slot w
 
       stored-there : Room img text t → wordAt img after r p ≡ w
-      stored-there m = getD-set-same t slot w 0 (slot-in r p (length t) l h m)
+      stored-there m = let i = slot-in (rules img) (length text) r p l h in getD-set-same t slot w 0 (omega arith)
 
       -- The pair is newly held, and no other.
       held-more :
@@ -139,9 +130,9 @@ module _ (img text : List ℕ) where
           → oneIf (isHeld (wordAt img after s q)) ≡ oneIf (isHeld (wordAt img t s q)) + oneIf (eqb r s && eqb p q)
       held-more m s q k j = go (eqb r s) refl (eqb p q) refl
         where
-          other : (q * rules img + s ≡ slot → ⊥) → oneIf (isHeld (wordAt img after s q)) ≡ oneIf (isHeld (wordAt img t s q)) + 0
+          other : (slotOf (rules img) s q ≡ slot → ⊥) → oneIf (isHeld (wordAt img after s q)) ≡ oneIf (isHeld (wordAt img t s q)) + 0
           other ne =
-              let x = ap (λ (v : ℕ). oneIf (isHeld v)) (getD-set-other t slot (q * rules img + s) w 0 ne) in
+              let x = ap (λ (v : ℕ). oneIf (isHeld v)) (getD-set-other t slot (slotOf (rules img) s q) w 0 ne) in
               omega arith
 
           go :

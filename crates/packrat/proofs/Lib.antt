@@ -4,7 +4,6 @@ pub mod Rules
 pub mod Runs
 pub mod Stars
 pub mod LoadedRuns
-pub mod Slots
 pub mod Gain
 pub mod Grown
 pub mod Framed

@@ -2,7 +2,7 @@
 -- nesting, and 14 where it does not; and the table has grown from the one lent. For every node and pair, and every
 -- allowance of at most 4,096.
 -- Assumes nothing.
-use Prim.Native.Nat.{ℕ, zero, suc, _+_, _*_, _%_, _≤_, _<_, _^_}
+use Prim.Native.Nat.{ℕ, zero, suc, _+_, _%_, _≤_, _<_, _^_}
 use native.Mathlib.Omega.{arith}
 use mathlib.Core.Path.{_≡_, refl, sym, ap, _∙_, subst}
 use mathlib.Core.Bool.{Bool, true, false, true≢false}
@@ -25,6 +25,7 @@ use Rattle.grammar.proofs.References.{Refers, refers, root-in-range}
 use Rattle.evaluation.specs.Within.{Within}
 use Rattle.evaluation.proofs.Shape.{within}
 use Rattle.records.specs.Words.{isHeld, possible, IsPossible, nestingOf, valueOf, wordOf}
+use Rattle.records.specs.Slots.{slotOf}
 use Rattle.records.proofs.Codec.{InRange, value-back, word-held, length-back, examined-back, nesting-back, matched-back, spare-back}
 use Rattle.records.proofs.Test.{says-possible, passes-test}
 use Rattle.packrat.specs.Model.{answered, refused, Out, out, bind, afterFirst, afterChoice, afterRound, roundsM}
@@ -241,7 +242,7 @@ module _ (img text table : List ℕ) (words : Question4 img) (short : length tex
       after :
           isHeld (wordAt img t r p) ≡ false → Result (nodeM img text left (root img r) p t c) z left t c ps
           → Result (looked false (rules img) (root img r) text (nodeM img text left) left r p t c) z left t c (pair ∷ ps)
-      after unheld (deep u d j q) = deep u d j (ap (λ (o : Out). bind o (λ x u d. out (answered x) (set u (p * rules img + r) (wordOf x)) ((d + 1) % 2 ^ 64))) q)
+      after unheld (deep u d j q) = deep u d j (ap (λ (o : Out). bind o (λ x u d. out (answered x) (set u (slotOf (rules img) r p) (wordOf x)) ((d + 1) % 2 ^ 64))) q)
       after unheld (fine u d j b i q) =
           let word = word-possible z p (length text) short (over-within v h) (omega arith) in
           let free : isHeld (wordAt img u r p) ≡ false =
@@ -252,10 +253,10 @@ module _ (img text table : List ℕ) (words : Question4 img) (short : length tex
           (λ x a. ⊎-elim (λ y. later y) (λ y. first-of y) (in-either ps (pair ∷ []) a))
           (λ x a. last-of-all a)
           (gain-then img text i (gain-store img text u d r p (wordOf z) l h free held)) in
-          fine (set u (p * rules img + r) (wordOf z)) ((d + 1) % 2 ^ 64) j
-          (grown-store b l h e v (omega arith) held (λ m. all-of (set u (p * rules img + r) (wordOf z)) (gained .all (rw (g .as-long) m))))
+          fine (set u (slotOf (rules img) r p) (wordOf z)) ((d + 1) % 2 ^ 64) j
+          (grown-store b l h e v (omega arith) held (λ m. all-of (set u (slotOf (rules img) r p) (wordOf z)) (gained .all (rw (g .as-long) m))))
           gained
-          (ap (λ (o : Out). bind o (λ x u d. out (answered x) (set u (p * rules img + r) (wordOf x)) ((d + 1) % 2 ^ 64))) q)
+          (ap (λ (o : Out). bind o (λ x u d. out (answered x) (set u (slotOf (rules img) r p) (wordOf x)) ((d + 1) % 2 ^ 64))) q)
 
       go : Slot img text table t r p → Result (ruleM img text (nodeM img text left) left r p t c) z left t c (pair ∷ ps)
       go (kept w) =

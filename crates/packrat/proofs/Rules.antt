@@ -1,10 +1,9 @@
 -- The ways through a rule: its pair is met in the table, or its body is evaluated and stored; and a node's first step.
 -- Assumes nothing.
-use Prim.Native.Nat.{ℕ, zero, suc, _+_, _-_, _*_, _%_, _≤_, _<_, _^_}
+use Prim.Native.Nat.{ℕ, zero, suc, _+_, _-_, _%_, _≤_, _<_, _^_}
 use native.Mathlib.Omega.{arith}
-use native.Mathlib.Nat.{mul-le-mul}
 use mathlib.Core.Path.{_≡_, refl, sym, ap, _∙_, subst}
-use mathlib.Core.Bool.{Bool, true, false}
+use mathlib.Core.Bool.{Bool, true, false, cond}
 use mathlib.Core.List.{List}
 use lib.ListN.{length, getD, set}
 use lib.Dec.{leb}
@@ -13,7 +12,8 @@ use Rattle.grammar.specs.Image.{Node, call}
 use Rattle.evaluation.specs.Within.{Within}
 use Rattle.records.specs.declared.Record.{Record}
 use Rattle.records.specs.declared.Decoded.the-variants.{Possible, Impossible}
-use Rattle.records.specs.Words.{isHeld, possible, IsPossible, nestingOf, valueOf, wordOf, recordOf, recordWord, pick}
+use Rattle.records.specs.Words.{isHeld, possible, IsPossible, nestingOf, valueOf, wordOf, recordOf, recordWord}
+use Rattle.records.specs.Slots.{slotOf}
 use Rattle.records.proofs.Codec.{word-again}
 use Rattle.records.proofs.Test.{says-possible}
 use Rattle.packrat.specs.Model.{answered, Out, out, Evaluator, bind, met, looked, pairM}
@@ -22,11 +22,11 @@ use Rattle.packrat.specs.Gives.{Gives}
 use Rattle.packrat.proofs.Gives.{found, was-refused, gives-value, gives-refusal}
 
 -- What the decoder's answer says.
-pub was-possible : (r q : Record) (b : Bool) → Possible r ≡ pick b q → (b ≡ true) × (r ≡ q)
+pub was-possible : (r q : Record) (b : Bool) → Possible r ≡ cond b (Possible q) Impossible → (b ≡ true) × (r ≡ q)
 was-possible r q true e = (refl, cc)
 was-possible r q false e = absurd (let z : _≡_ {A = ℕ} 0 1 = cc in omega arith)
 
-pub was-impossible : (q : Record) (b : Bool) → Impossible ≡ pick b q → b ≡ false
+pub was-impossible : (q : Record) (b : Bool) → Impossible ≡ cond b (Possible q) Impossible → b ≡ false
 was-impossible q true e = absurd (let z : _≡_ {A = ℕ} 0 1 = cc in omega arith)
 was-impossible q false e = refl
 
@@ -43,7 +43,7 @@ possible-within word at n h =
     }
 
 module _ (rules root : ℕ) (text : List ℕ) (nodes : Evaluator) (left rule at : ℕ) (t : List ℕ) (c : ℕ) {word : ℕ}
-    (here : word ≡ getD t (at * rules + rule) 0)
+    (here : word ≡ getD t (slotOf rules rule at) 0)
   where
     looks : {b : Bool} → isHeld word ≡ b → pairM rules root text nodes left rule at t c ≡ looked b rules root text nodes left rule at t c
     unfolding pairM
@@ -105,19 +105,19 @@ module _ (rules root : ℕ) (text : List ℕ) (nodes : Evaluator) (left rule at 
         rule-refused h =
             let v = was-refused short most g h in
             gives-refusal
-            (looks e ∙ ap (λ (o : Out). bind o (λ x u d. out (answered x) (set u (at * rules + rule) (wordOf x)) ((d + 1) % 2 ^ 64))) (v .is))
+            (looks e ∙ ap (λ (o : Out). bind o (λ x u d. out (answered x) (set u (slotOf rules rule at) (wordOf x)) ((d + 1) % 2 ^ 64))) (v .is))
             (v .small)
 
         pub rule-stored :
             16 ≤ r
-            → Gives (length text) at left (pairM rules root text nodes left rule at t c) r (set u (at * rules + rule) r) ((d + 1) % 2 ^ 64)
+            → Gives (length text) at left (pairM rules root text nodes left rule at t c) r (set u (slotOf rules rule at) r) ((d + 1) % 2 ^ 64)
         unfolding looked
         rule-stored h =
             let v = found short most g h in
             gives-value (v .value)
             (looks e
-            ∙ ap (λ (o : Out). bind o (λ x u d. out (answered x) (set u (at * rules + rule) (wordOf x)) ((d + 1) % 2 ^ 64))) (v .is)
-            ∙ ap (λ (w : ℕ). out (answered (v .value)) (set u (at * rules + rule) w) ((d + 1) % 2 ^ 64)) (sym (v .word-is)))
+            ∙ ap (λ (o : Out). bind o (λ x u d. out (answered x) (set u (slotOf rules rule at) (wordOf x)) ((d + 1) % 2 ^ 64))) (v .is)
+            ∙ ap (λ (w : ℕ). out (answered (v .value)) (set u (slotOf rules rule at) w) ((d + 1) % 2 ^ 64)) (sym (v .word-is)))
             (v .word-is)
             (v .bounds .shape)
             (v .bounds .allowed)

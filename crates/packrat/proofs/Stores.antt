@@ -3,7 +3,7 @@
 -- allowance is below the evaluation's nesting it refuses with 14. Assumes nothing.
 --     determined   the run of a pair whose nesting is allowed
 --     too-deep     the run of a pair whose nesting is not
-use Prim.Native.Nat.{ℕ, _+_, _*_, _%_, _≤_, _<_, _^_}
+use Prim.Native.Nat.{ℕ, _+_, _%_, _≤_, _<_, _^_}
 use native.Mathlib.Omega.{arith}
 use mathlib.Core.Path.{_≡_, refl, sym, ap, _∙_, subst}
 use mathlib.Core.Bool.{Bool, true, false, true≢false}
@@ -20,10 +20,11 @@ use Rattle.evaluation.proofs.Counts.{count-plus}
 use Rattle.evaluation.proofs.Bodies.{shallower}
 use Rattle.evaluation.proofs.Range.{PairOf, bodies-in-range}
 use Rattle.records.specs.Words.{isHeld, possible}
+use Rattle.records.specs.Slots.{slotOf}
+use Rattle.records.proofs.Slots.{one-slot}
 use Rattle.packrat.specs.Model.{ruleM, nodeM}
 use Rattle.packrat.specs.Over.{wordAt, over, Over}
 use Rattle.packrat.specs.Stores.{Room, IsStored, Stores, evaluations, Determined, RefusedWith}
-use Rattle.packrat.proofs.Slots.{one-slot}
 use Rattle.packrat.proofs.Gain.{Gain}
 use Rattle.packrat.proofs.Grown.{Slot, kept, stored, Grown, grown-none}
 use Rattle.packrat.proofs.OverTables.{Result, fine, deep, pair-over, body-unheld, records-within}
@@ -36,7 +37,7 @@ pub kept-pair :
     → (r q : ℕ) → r < rules img → isIn r q ps ≡ false
     → wordAt img after r q ≡ wordAt img before r q
 kept-pair {img} {ps = ps} s range r q l e =
-    s .kept (q * rules img + r)
+    s .kept (slotOf (rules img) r q)
     (λ r′ q′ i k.
     let d = one-slot (rules img) q q′ r r′ l (range (record { rule = r′; position = q′ }) i) k in
     not-in r q ps e (subst (λ (x : Pair). In x ps) (one-pair (sym (d .1)) (sym (d .0))) i))

@@ -1,6 +1,6 @@
 -- What an evaluation over a table of records stores: "it answers that evaluation, evaluations counts the pairs whose body is evaluated
 -- in it, and the table gains just those".
-use Prim.Native.Nat.{ℕ, _+_, _*_, _%_, _≤_, _<_, _^_}
+use Prim.Native.Nat.{ℕ, _+_, _%_, _≤_, _<_, _^_}
 use mathlib.Core.Path.{_≡_}
 use mathlib.Core.List.{List}
 use lib.ListN.{length, getD}
@@ -10,13 +10,13 @@ use Rattle.grammar.specs.Evaluates.{a-pair}
 use Rattle.evaluation.specs.Calls.{Pair, In, isIn}
 use Rattle.evaluation.specs.Counts.{countPairs}
 use Rattle.records.specs.Words.{wordOf}
-use Rattle.records.specs.Slots.{slotOf}
+use Rattle.records.specs.Slots.{slotOf, tableSize}
 use Rattle.packrat.specs.Model.{answered, refused, Out, out}
 use Rattle.packrat.specs.Over.{wordAt, Over}
 
 -- The table has a slot for each rule at each position of the text.
 abbrev pub Room : (img text table : List ℕ) → Type 0
-Room img text table = rules img * (length text + 1) ≤ length table
+Room img text table = tableSize (rules img) (length text) ≤ length table
 
 -- The word is the one of its pair's evaluation over a table, whose nesting is at most 4,096.
 pub record IsStored (img text table : List ℕ) (rule position word : ℕ) : Type 0 where

@@ -19,6 +19,7 @@ use Rattle.grammar.specs.Questions.{First, Accepted}
 use Rattle.grammar.specs.Evaluates.{Fresh, a-pair}
 use Rattle.packrat.specs.Model.{answered, refused, Out, out}
 use Rattle.records.specs.Words.{isHeld, possible}
+use Rattle.records.proofs.Slots.{size-up}
 use Rattle.packrat.specs.Loaded.{Loaded}
 use Rattle.packrat.specs.Over.{wordAt}
 use Rattle.packrat.specs.Session.{startRun}
@@ -37,7 +38,6 @@ use Rattle.promises.specs.Questions.{ofSheet}
 use Rattle.promises.specs.Reading.{NotForeign, SheetRead}
 use Rattle.promises.specs.Listing.{GivesRows, listed, no-slots, zeroed, RefusedAlso, ThenListed, SheetListed, ListPromise}
 use Rattle.promises.specs.Run.{answerOf, wordsOf, stoppedWords}
-use Rattle.promises.proofs.Tables.{size-up}
 use Rattle.promises.proofs.SheetReads.{sheet-read}
 
 -- The words of a walk, and the number of one that stopped.

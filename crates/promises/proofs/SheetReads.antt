@@ -20,6 +20,7 @@ use Rattle.grammar.specs.Evaluates.{a-pair}
 use Rattle.evaluation.specs.Calls.{Pair, isIn, bodiesOf}
 use Rattle.evaluation.proofs.Counts.{count-most}
 use Rattle.records.specs.Words.{valueOf}
+use Rattle.records.proofs.Slots.{slot-in, size-up}
 use Rattle.packrat.specs.Model.{Answer, answered, refused, Out, out, nodeM}
 use Rattle.reading.specs.Plain.{TooDeep}
 use Rattle.packrat.specs.Over.{Over}
@@ -39,7 +40,7 @@ use Rattle.promises.specs.Questions.{Question8, ofSheet}
 use Rattle.promises.specs.Reading.{NotForeign, AnswersWith, SheetRead, ReadPromise}
 use Rattle.promises.specs.Run.{answerOf, wordsOf}
 use Rattle.promises.proofs.Asked.{sheet-first}
-use Rattle.promises.proofs.Tables.{slot-in, size-up, lent-table, same-rest}
+use Rattle.promises.proofs.Tables.{lent-table, same-rest}
 
 module _ (img text : List ℕ) (cap : ℕ) (W : List ℕ) (accepted : Accepted img) (small : cap ≤ 65535) (fits : length text ≤ cap)
     (whole : tableSize (rules img) cap ≤ length W)

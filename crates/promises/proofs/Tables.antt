@@ -1,7 +1,6 @@
--- Lengths and slots of the table, and the words after it. Assumes nothing.
-use Prim.Native.Nat.{ℕ, _+_, _*_, _-_, _≤_, _<_}
+-- The table wholly lent, and the words after it. Assumes nothing.
+use Prim.Native.Nat.{ℕ, _+_, _-_, _≤_}
 use native.Mathlib.Omega.{arith}
-use native.Mathlib.Nat.{mul-le-mul-left, mul-le-mul-right, mul-comm, add-mul, one-mul}
 use mathlib.Core.Path.{_≡_, sym, ap, _∙_}
 use mathlib.Core.List.{List}
 use lib.ListN.{length, getD, drop, length-drop}
@@ -9,19 +8,6 @@ use lib.Seq.{ext-getD, getD-drop}
 use Rattle.grammar.specs.Image.{rules}
 use Rattle.grammar.specs.Questions.{Accepted}
 use Rattle.editing.specs.Table.{tableSize, TableLent}
-
--- A pair's slot is in the table.
-pub slot-in : (R cap r q : ℕ) → r < R → q ≤ cap → q * R + r < tableSize R cap
-slot-in R cap r q l h =
-    let k : q + 1 ≤ cap + 1 = omega arith in
-    let m = mul-le-mul-right R k in
-    let e : (q + 1) * R ≡ q * R + R = add-mul q 1 R ∙ ap (λ (x : ℕ). q * R + x) (one-mul R) in
-    let c = mul-comm (cap + 1) R in
-    omega arith
-
--- A shorter text has a smaller table.
-pub size-up : (R n cap : ℕ) → n ≤ cap → tableSize R n ≤ tableSize R cap
-size-up R n cap h = mul-le-mul-left R (let k : n + 1 ≤ cap + 1 = omega arith in k)
 
 -- The table of an accepted image, wholly lent.
 pub lent-table :

@@ -1,3 +1,4 @@
--- The lemmas of the record word.
+-- The lemmas of the record word, and the laws of a slot.
 pub mod Codec
 pub mod Test
+pub mod Slots

@@ -1,13 +1,13 @@
 -- The test of question 12 says what question 12 says; what the decoder answers. Assumes nothing.
 use Prim.Native.Nat.{ℕ, _+_}
 use mathlib.Core.Path.{_≡_, refl, sym, ap, _∙_}
-use mathlib.Core.Bool.{Bool, true, false, _||_, true≢false}
+use mathlib.Core.Bool.{Bool, true, false, cond, _||_, true≢false}
 use borrow.Author.Tests.{leb-true, le-leb, eqb-true, eq-eqb}
 use lib.Dec.{eqb}
 use Rattle.grammar.proofs.Bools.{both, joined}
 use Rattle.records.specs.declared.Record.{Record}
 use Rattle.records.specs.declared.Decoded.the-variants.{Possible, Impossible}
-use Rattle.records.specs.Words.{matchedOf, spareOf, nestingOf, examinedOf, lengthOf, IsPossible, possible, recordOf, pick, decoded}
+use Rattle.records.specs.Words.{matchedOf, spareOf, nestingOf, examinedOf, lengthOf, IsPossible, possible, recordOf, decoded}
 
 module _ (word at n : ℕ) where
   pub says-possible : possible word at n ≡ true → IsPossible word at n
@@ -56,7 +56,7 @@ module _ (word at n : ℕ) where
 
   -- What the decoder answers of an impossible word, and of a possible one.
   pub none-found : (IsPossible word at n → ⊥) → Impossible ≡ decoded word at n
-  none-found h = ap (λ (b : Bool). pick b (recordOf word)) (sym (fails-test h))
+  none-found h = ap (λ (b : Bool). cond b (Possible (recordOf word)) Impossible) (sym (fails-test h))
 
   pub found : (r : Record) → r ≡ recordOf word → IsPossible word at n → Possible r ≡ decoded word at n
-  found r e h = ap Possible e ∙ ap (λ (b : Bool). pick b (recordOf word)) (sym (passes-test h))
+  found r e h = ap Possible e ∙ ap (λ (b : Bool). cond b (Possible (recordOf word)) Impossible) (sym (passes-test h))

@@ -1,7 +1,7 @@
 -- The record word: which bits are which field, which evaluation a word says, and question 12.
 use Prim.Native.Nat.{ℕ, _+_, _*_, _%_, _^_, _≤_}
 use mathlib.Core.Path.{_≡_}
-use mathlib.Core.Bool.{Bool, true, false, _&&_, _||_}
+use mathlib.Core.Bool.{Bool, false, cond, _&&_, _||_}
 use mir.Val.{boolByte}
 use lib.Dec.{leb, eqb}
 use Rattle.grammar.specs.Image.{field}
@@ -88,9 +88,5 @@ pub record SaidBy (word : ℕ) (r : Record) : Type 0 where
   pub length-is : r .length ≡ lengthOf word
 
 -- What the decoder answers.
-abbrev pub pick : Bool → Record → Decoded
-pick true r = Possible r
-pick false r = Impossible
-
 abbrev pub decoded : (word at n : ℕ) → Decoded
-decoded word at n = pick (possible word at n) (recordOf word)
+decoded word at n = cond (possible word at n) (Possible (recordOf word)) Impossible

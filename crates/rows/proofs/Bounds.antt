@@ -1,7 +1,7 @@
 -- Over any table the walk ends, gives no more rows than fit, stays in the text, and is refused with 12, 14 or 15 if at all.
 -- Assumes nothing.
 --     node-bounded, pair-bounded    for every loaded grammar, text, table, window and number of rows before
-use Prim.Native.Nat.{ℕ, zero, suc, _+_, _*_, _%_, _≤_, _<_}
+use Prim.Native.Nat.{ℕ, zero, suc, _+_, _%_, _≤_, _<_}
 use native.Mathlib.Omega.{arith}
 use mathlib.Core.Path.{_≡_, refl, ap, _∙_}
 use mathlib.Core.Bool.{Bool, true, false, not, _&&_}
@@ -13,6 +13,7 @@ use Rattle.grammar.proofs.Bools.{both}
 use Rattle.grammar.specs.Image.{Node, empty, terminal, sequence, choice, star, not-predicate, call, unlawful}
 use Rattle.grammar.proofs.Terminals.{shape}
 use Rattle.records.specs.Words.{isHeld, possible, matchedOf, lengthOf}
+use Rattle.records.specs.Slots.{slotOf}
 use Rattle.records.proofs.Test.{says-possible}
 use Rattle.packrat.specs.Loaded.{wordB, wordNode, rulesIn}
 use Rattle.rows.specs.Rows.{rowWord}
@@ -148,21 +149,21 @@ module _ (rules root room : ℕ) (text table : List ℕ) (ev : Walker) (stays : 
   pub pair-bounded : Stays (length text) room (pairV rules root room text table ev)
   unfolding pairV met
   pair-bounded r at lo hi k c h few =
-      let word = getD table (at * rules + r) 0 in
+      let word = getD table (slotOf rules r at) 0 in
       go (isHeld word && possible word at (length text)) refl (matchedOf word)
     where
       go :
-          (known : Bool) → isHeld (getD table (at * rules + r) 0) && possible (getD table (at * rules + r) 0) at (length text) ≡ known
+          (known : Bool) → isHeld (getD table (slotOf rules r at) 0) && possible (getD table (slotOf rules r at) 0) at (length text) ≡ known
           → (m : Bool)
           → Bounded (length text) room at c
           (met known m c
-          (entered (touches lo hi at (lengthOf (getD table (at * rules + r) 0))) (leb room c) (lengthOf (getD table (at * rules + r) 0))
-          (rowWord (record { rule = r % 256; depth = k; start = at; length = lengthOf (getD table (at * rules + r) 0) }))
+          (entered (touches lo hi at (lengthOf (getD table (slotOf rules r at) 0))) (leb room c) (lengthOf (getD table (slotOf rules r at) 0))
+          (rowWord (record { rule = r % 256; depth = k; start = at; length = lengthOf (getD table (slotOf rules r at) 0) }))
           (ev root at lo hi (k + 1)) c))
       go false e m = refuses impossible few
       go true e false = answers (omega arith) few
       go true e true =
-          let word = getD table (at * rules + r) 0 in
+          let word = getD table (slotOf rules r at) 0 in
           entered-bounded (touches lo hi at (lengthOf word)) (leb room c) at (lengthOf word)
           (rowWord (record { rule = r % 256; depth = k; start = at; length = lengthOf word })) (ev root at lo hi (k + 1)) c refl
           (says-possible word at (length text) (both (isHeld word) (possible word at (length text)) e .1) .in-text) few

@@ -15,7 +15,7 @@ use Rattle.promises.specs.Answers.{sheetReading}
 use Rattle.promises.specs.Questions.{Question8, ofSheet}
 use Rattle.promises.specs.Reading.{ReadPromise}
 use Rattle.promises.proofs.Asked.{sheet-passed}
-use Rattle.promises.proofs.Tables.{size-up}
+use Rattle.records.proofs.Slots.{size-up}
 use Rattle.promises.proofs.SheetReads.{reads-word, reads-number}
 
 -- The number of words of a table is far below a machine word.

@@ -28,6 +28,6 @@ pub fn zeroed(image: &[u8], cap: usize, table: &mut [u64], number: u64) -> u8
     ensures { λ r. ⌜ (r ≡ number) × (now (table .exit) ≡ clearedTable (rules (now (image .entry))) cap (now (table .entry))) ⌝ }
 {
     let header = image::header_of(image);
-    editing::table::clear_table(table, header.rules, cap);
+    table::clear_table(table, header.rules, cap);
     number as u8
 }

@@ -32,7 +32,7 @@ pub fn edit(
         return EditAnswer::Refused(10);
     }
     let header = image::header_of(image);
-    let standing = editing::table::edit_table(table, header.rules, cap, n, s, e, k);
-    let length = editing::text::edit_text(buffer, n, s, e, replacement);
+    let standing = table::edit_table(table, header.rules, cap, n, s, e, k);
+    let length = text::edit_text(buffer, n, s, e, replacement);
     EditAnswer::Edited(EditedSheet { length, standing })
 }

@@ -13,7 +13,7 @@ pub fn open(image: &[u8], text: &[u8], buffer: &mut [u8], table: &mut [u64]) -> 
         return OpenAnswer::Refused(number);
     }
     let header = image::header_of(image);
-    editing::text::fill(buffer, text);
-    editing::table::clear_table(table, header.rules, cap);
+    text::fill(buffer, text);
+    table::clear_table(table, header.rules, cap);
     OpenAnswer::Opened(text.len())
 }

@@ -8,6 +8,7 @@ use Rattle.packrat.specs.Loaded.{rulesIn}
 use Rattle.rows.specs.Walk.{nodeV, pairV, kindV}
 use Rattle.rows.proofs.Bounds.{node-bounded}
 use Rattle.records.specs.Words.{possible, recordOf}
+use Rattle.records.specs.Slots.{slotOf}
 use Rattle.records.specs.declared.Record.{Record}
 use Rattle.grammar.proofs.Nodes.{is-empty, is-any, is-range, is-sequence, is-choice, is-star, is-not, is-call, is-unlawful}
 use Rattle.grammar.specs.Image.{any, byteRange, star}
@@ -486,7 +487,7 @@ walk-rule-returns : (t : ℕ) → walk-rule-lts.Need-returns (walk-rule-claims t
 walk-rule-returns t c =
     let given = c .before .before .before .before .before .before .args in
     let rules-in = c .before .before .before .before .rules-in in
-    rule-empty (rulesIn (given .words .now)) (given .root) (given .room) (given .text .now .now) (given .table .now .now) (nodeV (given .room) (given .words .now) (given .text .now .now) (given .table .now .now) (given .left)) (given .rule) (given .at) (given .lo) (given .hi) (given .depth) (c .before .before .look .ensures ∙ ap (λ (n : ℕ). getD (given .table .now .now) ((given .at) * n + (given .rule)) 0) (rules-in .ensures .0)) (given .count .now) (given .rows .now) (sym (c .before .is-held .ensures) ∙ not-true (c .before .is-held .result) (c .if1 .taken))
+    rule-empty (rulesIn (given .words .now)) (given .root) (given .room) (given .text .now .now) (given .table .now .now) (nodeV (given .room) (given .words .now) (given .text .now .now) (given .table .now .now) (given .left)) (given .rule) (given .at) (given .lo) (given .hi) (given .depth) (c .before .before .look .ensures ∙ ap (λ (n : ℕ). getD (given .table .now .now) (slotOf n (given .rule) (given .at)) 0) (rules-in .ensures .0)) (given .count .now) (given .rows .now) (sym (c .before .is-held .ensures) ∙ not-true (c .before .is-held .result) (c .if1 .taken))
 
 walk-rule-from-word-requires : (t : ℕ) → walk-rule-lts.Need-from-word-requires (walk-rule-claims t) (walk-rule-at t) walk-rule.Post
 walk-rule-from-word-requires t c κs = search needs
@@ -505,7 +506,7 @@ walk-rule-returns-2 t c =
     let given = c .before .before .before .before .before .before .before .before .before .args in
     let rules-in = c .before .before .before .before .before .before .before .rules-in in
     let look = c .before .before .before .before .before .look in
-    rule-impossible (rulesIn (given .words .now)) (given .root) (given .room) (given .text .now .now) (given .table .now .now) (nodeV (given .room) (given .words .now) (given .text .now .now) (given .table .now .now) (given .left)) (given .rule) (given .at) (given .lo) (given .hi) (given .depth) (look .ensures ∙ ap (λ (n : ℕ). getD (given .table .now .now) ((given .at) * n + (given .rule)) 0) (rules-in .ensures .0)) (given .count .now) (given .rows .now) (was-impossible (recordOf (look .result)) (possible (look .result) (given .at) (length (given .text .now .now))) (sym (c .enum-told .given .1) ∙ c .before .before .from-word .ensures))
+    rule-impossible (rulesIn (given .words .now)) (given .root) (given .room) (given .text .now .now) (given .table .now .now) (nodeV (given .room) (given .words .now) (given .text .now .now) (given .table .now .now) (given .left)) (given .rule) (given .at) (given .lo) (given .hi) (given .depth) (look .ensures ∙ ap (λ (n : ℕ). getD (given .table .now .now) (slotOf n (given .rule) (given .at)) 0) (rules-in .ensures .0)) (given .count .now) (given .rows .now) (was-impossible (recordOf (look .result)) (possible (look .result) (given .at) (length (given .text .now .now))) (sym (c .enum-told .given .1) ∙ c .before .before .from-word .ensures))
 
 walk-rule-returns-3 : (t : ℕ) → walk-rule-lts.Need-returns-3 (walk-rule-claims t) (walk-rule-at t) walk-rule.Post
 walk-rule-returns-3 t c =
@@ -519,7 +520,7 @@ walk-rule-returns-3 t c =
     let w = was-possible (held .given .0 .0) (recordOf (look .result)) (possible (look .result) (given .at) (length (given .text .now .now))) (sym (held .given .1) ∙ from-word .ensures) in
     let m = ap (λ (r : Record). r .matched) (w .1) in
     let n = ap (λ (r : Record). r .length) (w .1) in
-    rule-failed (rulesIn (given .words .now)) (given .root) (given .room) (given .text .now .now) (given .table .now .now) (nodeV (given .room) (given .words .now) (given .text .now .now) (given .table .now .now) (given .left)) (given .rule) (given .at) (given .lo) (given .hi) (given .depth) (look .ensures ∙ ap (λ (n : ℕ). getD (given .table .now .now) ((given .at) * n + (given .rule)) 0) (rules-in .ensures .0)) (given .count .now) (given .rows .now) (sym (is-held .ensures) ∙ not-false (is-held .result) (if1 .left)) (w .0) (sym m ∙ not-true (held .given .0 .0 .matched) (c .if2 .taken))
+    rule-failed (rulesIn (given .words .now)) (given .root) (given .room) (given .text .now .now) (given .table .now .now) (nodeV (given .room) (given .words .now) (given .text .now .now) (given .table .now .now) (given .left)) (given .rule) (given .at) (given .lo) (given .hi) (given .depth) (look .ensures ∙ ap (λ (n : ℕ). getD (given .table .now .now) (slotOf n (given .rule) (given .at)) 0) (rules-in .ensures .0)) (given .count .now) (given .rows .now) (sym (is-held .ensures) ∙ not-false (is-held .result) (if1 .left)) (w .0) (sym m ∙ not-true (held .given .0 .0 .matched) (c .if2 .taken))
 
 walk-rule-touched-requires : (t : ℕ) → walk-rule-lts.Need-touched-requires (walk-rule-claims t) (walk-rule-at t) walk-rule.Post
 walk-rule-touched-requires t c κs =
@@ -534,7 +535,7 @@ walk-rule-touched-requires t c κs =
     let w = was-possible (held .given .0 .0) (recordOf (look .result)) (possible (look .result) (given .at) (length (given .text .now .now))) (sym (held .given .1) ∙ from-word .ensures) in
     let m = ap (λ (r : Record). r .matched) (w .1) in
     let n = ap (λ (r : Record). r .length) (w .1) in
-    omega (arith, n, rule-in-text (rulesIn (given .words .now)) (given .root) (given .room) (given .text .now .now) (given .table .now .now) (nodeV (given .room) (given .words .now) (given .text .now .now) (given .table .now .now) (given .left)) (given .rule) (given .at) (given .lo) (given .hi) (given .depth) (look .ensures ∙ ap (λ (n : ℕ). getD (given .table .now .now) ((given .at) * n + (given .rule)) 0) (rules-in .ensures .0)) (given .count .now) (given .rows .now) (sym (is-held .ensures) ∙ not-false (is-held .result) (if1 .left)) (w .0), (pre .1 .0 .short))
+    omega (arith, n, rule-in-text (rulesIn (given .words .now)) (given .root) (given .room) (given .text .now .now) (given .table .now .now) (nodeV (given .room) (given .words .now) (given .text .now .now) (given .table .now .now) (given .left)) (given .rule) (given .at) (given .lo) (given .hi) (given .depth) (look .ensures ∙ ap (λ (n : ℕ). getD (given .table .now .now) (slotOf n (given .rule) (given .at)) 0) (rules-in .ensures .0)) (given .count .now) (given .rows .now) (sym (is-held .ensures) ∙ not-false (is-held .result) (if1 .left)) (w .0), (pre .1 .0 .short))
 
 walk-rule-returns-4 : (t : ℕ) → walk-rule-lts.Need-returns-4 (walk-rule-claims t) (walk-rule-at t) walk-rule.Post
 walk-rule-returns-4 t c =
@@ -548,7 +549,7 @@ walk-rule-returns-4 t c =
     let w = was-possible (held .given .0 .0) (recordOf (look .result)) (possible (look .result) (given .at) (length (given .text .now .now))) (sym (held .given .1) ∙ from-word .ensures) in
     let m = ap (λ (r : Record). r .matched) (w .1) in
     let n = ap (λ (r : Record). r .length) (w .1) in
-    rule-missed (rulesIn (given .words .now)) (given .root) (given .room) (given .text .now .now) (given .table .now .now) (nodeV (given .room) (given .words .now) (given .text .now .now) (given .table .now .now) (given .left)) (given .rule) (given .at) (given .lo) (given .hi) (given .depth) (look .ensures ∙ ap (λ (n : ℕ). getD (given .table .now .now) ((given .at) * n + (given .rule)) 0) (rules-in .ensures .0)) (given .count .now) (given .rows .now) (sym (is-held .ensures) ∙ not-false (is-held .result) (if1 .left)) (w .0) (sym m ∙ not-false (held .given .0 .0 .matched) (c .before .before .if2 .left)) n (sym (c .before .touched .ensures) ∙ not-true (c .before .touched .result) (c .if3 .taken))
+    rule-missed (rulesIn (given .words .now)) (given .root) (given .room) (given .text .now .now) (given .table .now .now) (nodeV (given .room) (given .words .now) (given .text .now .now) (given .table .now .now) (given .left)) (given .rule) (given .at) (given .lo) (given .hi) (given .depth) (look .ensures ∙ ap (λ (n : ℕ). getD (given .table .now .now) (slotOf n (given .rule) (given .at)) 0) (rules-in .ensures .0)) (given .count .now) (given .rows .now) (sym (is-held .ensures) ∙ not-false (is-held .result) (if1 .left)) (w .0) (sym m ∙ not-false (held .given .0 .0 .matched) (c .before .before .if2 .left)) n (sym (c .before .touched .ensures) ∙ not-true (c .before .touched .result) (c .if3 .taken))
 
 walk-rule-add-result-3 : (t : ℕ) → walk-rule-lts.Need-add-result-3 (walk-rule-claims t) (walk-rule-at t) walk-rule.Post
 walk-rule-add-result-3 t c = search needs
@@ -567,7 +568,7 @@ walk-rule-returns-5 t c =
     let w = was-possible (held .given .0 .0) (recordOf (look .result)) (possible (look .result) (given .at) (length (given .text .now .now))) (sym (held .given .1) ∙ from-word .ensures) in
     let m = ap (λ (r : Record). r .matched) (w .1) in
     let n = ap (λ (r : Record). r .length) (w .1) in
-    rule-full (rulesIn (given .words .now)) (given .root) (given .room) (given .text .now .now) (given .table .now .now) (nodeV (given .room) (given .words .now) (given .text .now .now) (given .table .now .now) (given .left)) (given .rule) (given .at) (given .lo) (given .hi) (given .depth) (look .ensures ∙ ap (λ (n : ℕ). getD (given .table .now .now) ((given .at) * n + (given .rule)) 0) (rules-in .ensures .0)) (given .count .now) (given .rows .now) (sym (is-held .ensures) ∙ not-false (is-held .result) (if1 .left)) (w .0) (sym m ∙ not-false (held .given .0 .0 .matched) (if2 .left)) n (sym (touched .ensures) ∙ not-false (touched .result) (c .before .before .if3 .left)) (c .if4 .taken)
+    rule-full (rulesIn (given .words .now)) (given .root) (given .room) (given .text .now .now) (given .table .now .now) (nodeV (given .room) (given .words .now) (given .text .now .now) (given .table .now .now) (given .left)) (given .rule) (given .at) (given .lo) (given .hi) (given .depth) (look .ensures ∙ ap (λ (n : ℕ). getD (given .table .now .now) (slotOf n (given .rule) (given .at)) 0) (rules-in .ensures .0)) (given .count .now) (given .rows .now) (sym (is-held .ensures) ∙ not-false (is-held .result) (if1 .left)) (w .0) (sym m ∙ not-false (held .given .0 .0 .matched) (if2 .left)) n (sym (touched .ensures) ∙ not-false (touched .result) (c .before .before .if3 .left)) (c .if4 .taken)
 
 walk-rule-row-word-requires : (t : ℕ) → walk-rule-lts.Need-row-word-requires (walk-rule-claims t) (walk-rule-at t) walk-rule.Post
 walk-rule-row-word-requires t c κs =
@@ -582,7 +583,7 @@ walk-rule-row-word-requires t c κs =
     let w = was-possible (held .given .0 .0) (recordOf (look .result)) (possible (look .result) (given .at) (length (given .text .now .now))) (sym (held .given .1) ∙ from-word .ensures) in
     let m = ap (λ (r : Record). r .matched) (w .1) in
     let n = ap (λ (r : Record). r .length) (w .1) in
-    (omega (arith, pre .1 .0 .shallow), omega (arith, (pre .1 .0 .here), (pre .1 .0 .short)), omega (arith, n, rule-in-text (rulesIn (given .words .now)) (given .root) (given .room) (given .text .now .now) (given .table .now .now) (nodeV (given .room) (given .words .now) (given .text .now .now) (given .table .now .now) (given .left)) (given .rule) (given .at) (given .lo) (given .hi) (given .depth) (look .ensures ∙ ap (λ (n : ℕ). getD (given .table .now .now) ((given .at) * n + (given .rule)) 0) (rules-in .ensures .0)) (given .count .now) (given .rows .now) (sym (is-held .ensures) ∙ not-false (is-held .result) (if1 .left)) (w .0), (pre .1 .0 .short)))
+    (omega (arith, pre .1 .0 .shallow), omega (arith, (pre .1 .0 .here), (pre .1 .0 .short)), omega (arith, n, rule-in-text (rulesIn (given .words .now)) (given .root) (given .room) (given .text .now .now) (given .table .now .now) (nodeV (given .room) (given .words .now) (given .text .now .now) (given .table .now .now) (given .left)) (given .rule) (given .at) (given .lo) (given .hi) (given .depth) (look .ensures ∙ ap (λ (n : ℕ). getD (given .table .now .now) (slotOf n (given .rule) (given .at)) 0) (rules-in .ensures .0)) (given .count .now) (given .rows .now) (sym (is-held .ensures) ∙ not-false (is-held .result) (if1 .left)) (w .0), (pre .1 .0 .short)))
 
 walk-rule-put-requires : (t : ℕ) → walk-rule-lts.Need-put-requires (walk-rule-claims t) (walk-rule-at t) walk-rule.Post
 walk-rule-put-requires t c κs = search needs
@@ -626,7 +627,7 @@ walk-rule-returns-6 t c =
     let w = was-possible (held .given .0 .0) (recordOf (look .result)) (possible (look .result) (given .at) (length (given .text .now .now))) (sym (held .given .1) ∙ from-word .ensures) in
     let m = ap (λ (r : Record). r .matched) (w .1) in
     let n = ap (λ (r : Record). r .length) (w .1) in
-    rule-stops (rulesIn (given .words .now)) (given .root) (given .room) (given .text .now .now) (given .table .now .now) (nodeV (given .room) (given .words .now) (given .text .now .now) (given .table .now .now) (given .left)) (given .rule) (given .at) (given .lo) (given .hi) (given .depth) (look .ensures ∙ ap (λ (n : ℕ). getD (given .table .now .now) ((given .at) * n + (given .rule)) 0) (rules-in .ensures .0)) (given .count .now) (given .rows .now) (sym (is-held .ensures) ∙ not-false (is-held .result) (if1 .left)) (w .0) (sym m ∙ not-false (held .given .0 .0 .matched) (if2 .left)) n (sym (touched .ensures) ∙ not-false (touched .result) (if3 .left)) (if4 .left) (row-word .ensures) (pre .1 .0 .short) (pre .1 .0 .here) (node-bounded (given .room) (given .words .now) (given .text .now .now) (given .table .now .now) (given .left)) _ _ _ (rw (put .ensures) at (c .before .before .before .walk-node .ensures)) (c .if5 .taken)
+    rule-stops (rulesIn (given .words .now)) (given .root) (given .room) (given .text .now .now) (given .table .now .now) (nodeV (given .room) (given .words .now) (given .text .now .now) (given .table .now .now) (given .left)) (given .rule) (given .at) (given .lo) (given .hi) (given .depth) (look .ensures ∙ ap (λ (n : ℕ). getD (given .table .now .now) (slotOf n (given .rule) (given .at)) 0) (rules-in .ensures .0)) (given .count .now) (given .rows .now) (sym (is-held .ensures) ∙ not-false (is-held .result) (if1 .left)) (w .0) (sym m ∙ not-false (held .given .0 .0 .matched) (if2 .left)) n (sym (touched .ensures) ∙ not-false (touched .result) (if3 .left)) (if4 .left) (row-word .ensures) (pre .1 .0 .short) (pre .1 .0 .here) (node-bounded (given .room) (given .words .now) (given .text .now .now) (given .table .now .now) (given .left)) _ _ _ (rw (put .ensures) at (c .before .before .before .walk-node .ensures)) (c .if5 .taken)
 
 walk-rule-same-length-2 : (t : ℕ) → walk-rule-lts.Need-same-length-2 (walk-rule-claims t) (walk-rule-at t) walk-rule.Post
 walk-rule-same-length-2 t c = search needs
@@ -650,7 +651,7 @@ walk-rule-returns-7 t c =
     let w = was-possible (held .given .0 .0) (recordOf (look .result)) (possible (look .result) (given .at) (length (given .text .now .now))) (sym (held .given .1) ∙ from-word .ensures) in
     let m = ap (λ (r : Record). r .matched) (w .1) in
     let n = ap (λ (r : Record). r .length) (w .1) in
-    rule-goes (rulesIn (given .words .now)) (given .root) (given .room) (given .text .now .now) (given .table .now .now) (nodeV (given .room) (given .words .now) (given .text .now .now) (given .table .now .now) (given .left)) (given .rule) (given .at) (given .lo) (given .hi) (given .depth) (look .ensures ∙ ap (λ (n : ℕ). getD (given .table .now .now) ((given .at) * n + (given .rule)) 0) (rules-in .ensures .0)) (given .count .now) (given .rows .now) (sym (is-held .ensures) ∙ not-false (is-held .result) (if1 .left)) (w .0) (sym m ∙ not-false (held .given .0 .0 .matched) (if2 .left)) n (sym (touched .ensures) ∙ not-false (touched .result) (if3 .left)) (if4 .left) (row-word .ensures) (pre .1 .0 .short) (pre .1 .0 .here) (node-bounded (given .room) (given .words .now) (given .text .now .now) (given .table .now .now) (given .left)) _ _ _ (rw (put .ensures) at (c .before .before .before .walk-node .ensures)) (c .if5 .left)
+    rule-goes (rulesIn (given .words .now)) (given .root) (given .room) (given .text .now .now) (given .table .now .now) (nodeV (given .room) (given .words .now) (given .text .now .now) (given .table .now .now) (given .left)) (given .rule) (given .at) (given .lo) (given .hi) (given .depth) (look .ensures ∙ ap (λ (n : ℕ). getD (given .table .now .now) (slotOf n (given .rule) (given .at)) 0) (rules-in .ensures .0)) (given .count .now) (given .rows .now) (sym (is-held .ensures) ∙ not-false (is-held .result) (if1 .left)) (w .0) (sym m ∙ not-false (held .given .0 .0 .matched) (if2 .left)) n (sym (touched .ensures) ∙ not-false (touched .result) (if3 .left)) (if4 .left) (row-word .ensures) (pre .1 .0 .short) (pre .1 .0 .here) (node-bounded (given .room) (given .words .now) (given .text .now .now) (given .table .now .now) (given .left)) _ _ _ (rw (put .ensures) at (c .before .before .before .walk-node .ensures)) (c .if5 .left)
 
 walk-sequence-walk-node-requires : (t : ℕ) → walk-sequence-lts.Need-walk-node-requires (walk-sequence-claims t) (walk-sequence-at t) walk-sequence.Post
 walk-sequence-walk-node-requires t c κs =

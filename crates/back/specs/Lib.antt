@@ -1,0 +1,2 @@
+-- The rows from an edit on (Back).
+pub mod Back

@@ -1,0 +1,2 @@
+-- The rows before an edit (Front).
+pub mod Front

@@ -1,2 +1,0 @@
--- The lemma of a slot's size.
-pub mod Fits

@@ -1,0 +1,2 @@
+-- The law of the edited text.
+pub mod TextLaw

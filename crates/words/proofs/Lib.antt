@@ -1,0 +1,2 @@
+-- The laws of one word in an edit.
+pub mod Kept

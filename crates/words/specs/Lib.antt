@@ -1,0 +1,2 @@
+-- What a loop over words fills and counts (Counted).
+pub mod Counted
