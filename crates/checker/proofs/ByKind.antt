@@ -9,9 +9,10 @@ use lib.ListN.{getD}
 use Rattle.grammar.specs.Image.{Node, root, kind, fieldA, fieldB, node}
 use Rattle.grammar.specs.Outcomes.{matches-empty}
 use Rattle.grammar.proofs.Nodes.{is-empty, is-any, is-range, is-sequence, is-choice, is-star, is-not, is-call, is-unlawful}
-use Rattle.checker.specs.Sets.{bit, setOfKind}
+use Rattle.rounds.specs.Sets.{bit}
+use Rattle.checker.specs.Sets.{setOfKind}
 use Rattle.checker.specs.Nodes.{Linked}
-use Rattle.checker.specs.Rounds.{gathered, formedFrom}
+use Rattle.rounds.specs.Rounds.{gathered, formedFrom}
 
 -- What the table gives for a node's kind and for the sets of the nodes that its word names is what the node gathers.
 pub gathers-by-kind :

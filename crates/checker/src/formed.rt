@@ -7,9 +7,9 @@ ghost use mathlib.Core.Path.{_≡_};
 ghost use Rattle.grammar.specs.Image.{node, nodes};
 ghost use Rattle.grammar.specs.Questions.{Lawful, Question7};
 ghost use Rattle.lawful.specs.Tells.{Tells};
-ghost use Rattle.checker.specs.Order.{VisitsAll};
+ghost use Rattle.rounds.specs.Order.{VisitsAll};
 ghost use Rattle.checker.specs.Nodes.{NodeWords};
-ghost use Rattle.checker.specs.Rounds.{formedFrom, Outcomes, Formed};
+ghost use Rattle.rounds.specs.Rounds.{formedFrom, Outcomes, Formed};
 
 // Whether node n joins the well-formed set, given its outcome sets and the nodes found well formed so far.
 fn node_formed(

@@ -5,7 +5,7 @@ ghost use mathlib.Core.Path.{_≡_};
 ghost use lib.ListN.{getD};
 ghost use Rattle.grammar.specs.Image.{nodes};
 ghost use Rattle.grammar.specs.Questions.{Question2};
-ghost use Rattle.checker.specs.Order.{VisitsAll};
+ghost use Rattle.rounds.specs.Order.{VisitsAll};
 
 // The nodes from the highest down to 0.
 pub fn round_order(image: &[u8]) -> [u16; 1024]

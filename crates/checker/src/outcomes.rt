@@ -8,10 +8,10 @@ ghost use mathlib.Core.Path.{_≡_};
 ghost use Rattle.grammar.specs.Image.{node, nodes};
 ghost use Rattle.grammar.specs.Questions.{Lawful, Question6};
 ghost use Rattle.lawful.specs.Tells.{Tells};
-ghost use Rattle.checker.specs.Order.{VisitsAll};
+ghost use Rattle.rounds.specs.Order.{VisitsAll};
 ghost use Rattle.checker.specs.Nodes.{NodeWords};
 ghost use Rattle.checker.specs.Sets.{SetTable, OnlySets};
-ghost use Rattle.checker.specs.Rounds.{gathered, Outcomes, StarConsumes};
+ghost use Rattle.rounds.specs.Rounds.{gathered, Outcomes, StarConsumes};
 
 // The outcomes of node n, from the sets known so far.
 fn node_outcomes(

@@ -2,7 +2,7 @@
 ghost use Prim.Native.Nat.{_<_};
 ghost use mathlib.Core.Path.{_≡_};
 ghost use Rattle.grammar.specs.Outcomes.{matches-empty, consumes, fails};
-ghost use Rattle.checker.specs.Sets.{bit, pack, union};
+ghost use Rattle.rounds.specs.Sets.{bit, pack, union};
 
 // Whether a set has the outcome 0, 1 or f.
 pub fn has_empty(set: u8) -> bool

@@ -3,9 +3,9 @@ use lib.ListN.{length}
 use borrow.Author.Tests.{not-true, not-false}
 use mathlib.Core.Logic.{⊎-elim}
 use mathlib.Core.Path.{refl}
-use Rattle.checker.proofs.FormedRounds.{SoundMarks, marks, marks-start, marked, marked-heavier, not-qualified, has-mark, marks-bound, least-marks}
-use Rattle.checker.proofs.Turns.{Turned, turn-none, turn-write, turn-keep, round-heavier, round-closed}
-use Rattle.checker.proofs.Forming.{CannotJoin}
+use Rattle.rounds.proofs.FormedRounds.{SoundMarks, marks, marks-start, marked, marked-heavier, not-qualified, has-mark, marks-bound, least-marks}
+use Rattle.rounds.proofs.Turns.{Turned, turn-none, turn-write, turn-keep, round-heavier, round-closed}
+use Rattle.rounds.proofs.Forming.{CannotJoin}
 use native.Mathlib.Omega.{arith}
 use lib.ListN.{getD}
 use mathlib.Core.List.{List}

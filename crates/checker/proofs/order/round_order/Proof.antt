@@ -1,6 +1,6 @@
 use mathlib.Core.Path.{ap}
-use Rattle.checker.proofs.Descending.{descending}
-use Rattle.lawful.proofs.Writes.{next-written}
+use Rattle.rounds.proofs.Descending.{descending}
+use Rattle.grammar.proofs.Writes.{next-written}
 use native.Mathlib.Omega.{arith}
 use lib.ListN.{length, getD, length-set}
 use mathlib.Core.Path.{_≡_, refl, _∙_}

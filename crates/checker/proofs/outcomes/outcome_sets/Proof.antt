@@ -1,12 +1,12 @@
-use Rattle.checker.specs.Rounds.{gathered}
-use Rattle.checker.specs.Sets.{union}
+use Rattle.rounds.specs.Rounds.{gathered}
+use Rattle.rounds.specs.Sets.{union}
 use Rattle.grammar.specs.Image.{node}
 use borrow.Author.Tests.{not-true, not-false}
 use mathlib.Core.Logic.{⊎-elim}
 use mathlib.Core.Path.{_≡_, refl}
-use Rattle.checker.proofs.OutcomeRounds.{Sound, weight, sound-start, stored, stored-heavier, kept, full, weight-bound, least}
-use Rattle.checker.proofs.Turns.{Turned, turn-none, turn-write, turn-keep, round-heavier, round-closed}
-use Rattle.checker.proofs.Gathering.{Closed}
+use Rattle.rounds.proofs.OutcomeRounds.{Sound, weight, sound-start, stored, stored-heavier, kept, full, weight-bound, least}
+use Rattle.rounds.proofs.Turns.{Turned, turn-none, turn-write, turn-keep, round-heavier, round-closed}
+use Rattle.rounds.proofs.Gathering.{Closed}
 use native.Mathlib.Omega.{arith}
 use lib.ListN.{getD}
 use mathlib.Core.List.{List}

@@ -1,4 +1,4 @@
-use Rattle.checker.specs.Sets.{bit}
+use Rattle.rounds.specs.Sets.{bit}
 use borrow.Author.Needs.{needs}
 use Rattle.checker.proofs.sets.has_empty.Statement.{statement}
 use Rattle.checker.proofs.sets.has_empty.Tie as tie

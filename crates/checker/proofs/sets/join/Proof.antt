@@ -1,4 +1,4 @@
-use Rattle.checker.specs.Sets.{union}
+use Rattle.rounds.specs.Sets.{union}
 use borrow.Author.Needs.{needs}
 use Rattle.checker.proofs.sets.join.Statement.{statement}
 use Rattle.checker.proofs.sets.join.Tie as tie

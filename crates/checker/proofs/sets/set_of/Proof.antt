@@ -1,5 +1,5 @@
-use Rattle.checker.proofs.Bits.{byte-small, pack-small}
-use Rattle.checker.specs.Sets.{pack}
+use Rattle.rounds.proofs.Bits.{byte-small, pack-small}
+use Rattle.rounds.specs.Sets.{pack}
 use mathlib.Core.Path.{refl}
 use native.Mathlib.Omega.{arith}
 use borrow.Author.Needs.{needs}

@@ -1,4 +1,5 @@
-use Rattle.checker.specs.Sets.{bit, pack, thenSet, elseSet, starSet, notSet, setOfKind}
+use Rattle.rounds.specs.Sets.{bit, pack, thenSet, elseSet, starSet, notSet}
+use Rattle.checker.specs.Sets.{setOfKind}
 use Rattle.checker.proofs.Tables.{in-table}
 use Rattle.checker.proofs.table.set_table.Statement.{statement}
 use Rattle.checker.proofs.table.set_table.Tie as tie

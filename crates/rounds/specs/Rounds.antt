@@ -7,7 +7,7 @@ use lib.ListN.{getD}
 use Rattle.grammar.specs.Image.{Node, empty, terminal, sequence, choice, star, not-predicate, call, unlawful, node, nodes, root}
 use Rattle.grammar.specs.Outcomes.{Outcome, matches-empty, Has}
 use Rattle.grammar.specs.WellFormed.{WellFormed}
-use Rattle.checker.specs.Sets.{bit, thenSet, elseSet, starSet, notSet}
+use Rattle.rounds.specs.Sets.{bit, thenSet, elseSet, starSet, notSet}
 
 -- The outcomes that a node gains from the sets known so far.
 unfoldable pub gathered : (img known : List ℕ) → Node → ℕ

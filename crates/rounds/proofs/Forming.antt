@@ -16,8 +16,8 @@ use Rattle.grammar.specs.Outcomes.{matches-empty, Has}
 use Rattle.grammar.specs.WellFormed.{WellFormed, wf-empty, wf-terminal, wf-call, wf-then, wf-else, wf-star, wf-not}
 use Rattle.grammar.specs.Questions.{Question4}
 use Rattle.grammar.proofs.References.{Refers, refers, root-in-range}
-use Rattle.checker.specs.Sets.{bit}
-use Rattle.checker.specs.Rounds.{formedFrom, Outcomes}
+use Rattle.rounds.specs.Sets.{bit}
+use Rattle.rounds.specs.Rounds.{formedFrom, Outcomes}
 
 -- The nodes marked so far are well formed.
 abbrev pub OnlyFormed : (img : List ℕ) → List Bool → Type 0

@@ -16,9 +16,9 @@ use Rattle.grammar.specs.Outcomes.{then-00, then-10, then-11, then-01, then-f, 
 use Rattle.grammar.specs.Outcomes.{star-1, star-0, not-f0, not-f1, not-0}
 use Rattle.grammar.specs.Questions.{Question4}
 use Rattle.grammar.proofs.References.{Refers, refers, root-in-range}
-use Rattle.checker.specs.Sets.{bit, thenSet, elseSet, starSet, notSet}
-use Rattle.checker.specs.Rounds.{gathered}
-use Rattle.checker.proofs.Bits.{bit-pack}
+use Rattle.rounds.specs.Sets.{bit, thenSet, elseSet, starSet, notSet}
+use Rattle.rounds.specs.Rounds.{gathered}
+use Rattle.rounds.proofs.Bits.{bit-pack}
 
 -- The sets tell nothing wrong.
 abbrev pub Only : (img known : List ℕ) → Type 0

@@ -4,7 +4,7 @@ use native.Mathlib.Omega.{arith}
 use mathlib.Core.Path.{_≡_, _∙_}
 use mathlib.Core.List.{List}
 use lib.ListN.{getD}
-use Rattle.checker.specs.Order.{VisitsAll}
+use Rattle.rounds.specs.Order.{VisitsAll}
 
 pub descending :
     (count : ℕ) (order : List ℕ) → ((i : ℕ) → i < count → getD order i 0 ≡ count - 1 - i) → VisitsAll count order

@@ -10,11 +10,11 @@ use Rattle.grammar.specs.Image.{nodes, node}
 use Rattle.grammar.specs.WellFormed.{WellFormed}
 use Rattle.grammar.specs.Questions.{Question4, oneIf}
 use Rattle.grammar.proofs.References.{refers}
-use Rattle.checker.specs.Order.{VisitsAll}
-use Rattle.checker.specs.Rounds.{formedFrom, Outcomes, Formed}
-use Rattle.checker.proofs.Forming.{OnlyFormed, CannotJoin, formed-only, formed-all}
-use Rattle.lawful.proofs.Writes.{after-write, all-the-same}
-use Rattle.checker.proofs.Weights.{weightBy, weight-set, weight-most}
+use Rattle.rounds.specs.Order.{VisitsAll}
+use Rattle.rounds.specs.Rounds.{formedFrom, Outcomes, Formed}
+use Rattle.rounds.proofs.Forming.{OnlyFormed, CannotJoin, formed-only, formed-all}
+use Rattle.grammar.proofs.Writes.{after-write, all-the-same}
+use Rattle.rounds.proofs.Weights.{weightBy, weight-set, weight-most}
 
 -- The marks so far: one for each possible node, none wrong.
 pub record SoundMarks (img : List ℕ) (formed : List Bool) : Type 0 where

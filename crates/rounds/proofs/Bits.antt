@@ -5,7 +5,7 @@ use mathlib.Core.Path.{_≡_, refl}
 use mathlib.Core.Bool.{Bool, true, false, _||_}
 use mir.Val.{boolByte}
 use Rattle.grammar.specs.Outcomes.{Outcome, matches-empty, consumes, fails}
-use Rattle.checker.specs.Sets.{bit, pack, union}
+use Rattle.rounds.specs.Sets.{bit, pack, union}
 
 -- Of three bools, the one that tells of an outcome.
 abbrev pub told : Outcome → Bool → Bool → Bool → Bool

@@ -12,13 +12,13 @@ use Rattle.grammar.specs.Image.{nodes, node}
 use Rattle.grammar.specs.Outcomes.{Outcome, matches-empty, consumes, fails, Has}
 use Rattle.grammar.specs.Questions.{Question4}
 use Rattle.grammar.proofs.References.{refers}
-use Rattle.checker.specs.Sets.{bit, union}
-use Rattle.checker.specs.Order.{VisitsAll}
-use Rattle.checker.specs.Rounds.{gathered, Outcomes}
-use Rattle.checker.proofs.Bits.{bit-union, union-above}
-use Rattle.checker.proofs.Gathering.{Only, Closed, gathered-only, gathered-all}
-use Rattle.lawful.proofs.Writes.{after-write, all-the-same}
-use Rattle.checker.proofs.Weights.{weightBy, weight-set, weight-most}
+use Rattle.rounds.specs.Sets.{bit, union}
+use Rattle.rounds.specs.Order.{VisitsAll}
+use Rattle.rounds.specs.Rounds.{gathered, Outcomes}
+use Rattle.rounds.proofs.Bits.{bit-union, union-above}
+use Rattle.rounds.proofs.Gathering.{Only, Closed, gathered-only, gathered-all}
+use Rattle.grammar.proofs.Writes.{after-write, all-the-same}
+use Rattle.rounds.proofs.Weights.{weightBy, weight-set, weight-most}
 
 -- The sets so far: an entry for each possible node, each a set, nothing wrong in any.
 pub record Sound (img known : List ℕ) : Type 0 where
