@@ -1,13 +1,11 @@
 // The image check: questions 1 to 7 of the paper, asked of any byte string in their order. The crate `lawful` asks 1 to 5, and this
 // one 6 and 7.
+use visits::nodes;
 ghost use Rattle.grammar.specs.Questions.{Checked};
 
 mod formed;
-mod nodes;
 mod order;
 mod outcomes;
-mod sets;
-mod table;
 
 // The number of the first question that the image fails, 0 where it passes all seven.
 pub fn check(image: &[u8]) -> u8

@@ -1,0 +1,20 @@
+use borrow.Author.Needs.{needs}
+use Rattle.visits.proofs.nodes.node_in.Statement.{statement}
+use Rattle.visits.proofs.nodes.node_in.Tie as tie
+
+mul-node-of : tie.Need-mul-node-of
+mul-node-of c = search needs
+
+element-copy-out-node-of : tie.Need-element-copy-out-node-of
+element-copy-out-node-of c = search needs
+
+node-of-requires : tie.Need-node-of-requires
+node-of-requires c κs = search needs
+
+returns : tie.Need-returns
+returns c =
+    let f = c .node-of .ensures in
+    rw (f .its-kind, f .its-a, f .its-b) (c .before .before .before .pre .0 .word-of (c .before .before .before .args .n) (c .before .before .before .pre .1))
+
+pub node-in-spec : {M : Type 1} → statement M
+node-in-spec = tie.close (tie.spec mul-node-of element-copy-out-node-of node-of-requires returns)
