@@ -1,22 +1,24 @@
 // The well-formed set, and question 7: "Is every node in the well-formed set?"
 use crate::order;
 use visits::visit;
+ghost use mathlib.Core.Path.{_≡_};
+ghost use lib.ListN.{take};
 ghost use Rattle.grammar.specs.Image.{nodes};
 ghost use Rattle.grammar.specs.Questions.{Lawful, Question7};
 ghost use Rattle.lawful.specs.Tells.{Tells};
 ghost use Rattle.rounds.specs.Order.{VisitsAll};
 ghost use Rattle.visits.specs.Nodes.{NodeWords};
-ghost use Rattle.rounds.specs.Rounds.{Outcomes, Formed};
+ghost use Rattle.rounds.specs.Rounds.{formedNodes, Outcomes, Formed};
 
-// "The rounds stop at the first that adds nothing."
+// The nodes that the rounds over an order leave. "The rounds stop at the first that adds nothing."
 pub fn formed_nodes(
     image: &[u8],
     order: &[u16; 1024],
     words: &[u32; 1024],
     known: &[u8; 1024],
 ) -> [bool; 1024]
-    requires { ⌜ Lawful (now image) × VisitsAll (nodes (now image)) (now order) × Outcomes (now image) (now known) × NodeWords (now image) (now words) ⌝ }
-    ensures { λ r. ⌜ Formed (now (image .entry)) r ⌝ }
+    requires { ⌜ Lawful (now image) × VisitsAll (nodes (now image)) (take (nodes (now image)) (now order)) × Outcomes (now image) (now known) × NodeWords (now image) (now words) ⌝ }
+    ensures { λ r. ⌜ r ≡ formedNodes (now (image .entry)) (now (known .entry)) (take (nodes (now (image .entry))) (now (order .entry))) ⌝ }
 {
     let header = image::header_of(image);
     let count = header.nodes;

@@ -4,17 +4,19 @@ use visits::sets;
 use visits::table;
 use visits::visit;
 ghost use Prim.Native.Nat.{_<_};
+ghost use mathlib.Core.Path.{_≡_};
+ghost use lib.ListN.{take};
 ghost use Rattle.grammar.specs.Image.{nodes};
 ghost use Rattle.grammar.specs.Questions.{Lawful, Question6};
 ghost use Rattle.lawful.specs.Tells.{Tells};
 ghost use Rattle.rounds.specs.Order.{VisitsAll};
 ghost use Rattle.visits.specs.Nodes.{NodeWords};
-ghost use Rattle.rounds.specs.Rounds.{Outcomes, StarConsumes};
+ghost use Rattle.rounds.specs.Rounds.{outcomeSets, Outcomes, StarConsumes};
 
-// "The rounds stop at the first that adds nothing."
+// The sets that the rounds over an order leave. "The rounds stop at the first that adds nothing."
 pub fn outcome_sets(image: &[u8], order: &[u16; 1024], words: &[u32; 1024]) -> [u8; 1024]
-    requires { ⌜ Lawful (now image) × VisitsAll (nodes (now image)) (now order) × NodeWords (now image) (now words) ⌝ }
-    ensures { λ r. ⌜ Outcomes (now (image .entry)) r ⌝ }
+    requires { ⌜ Lawful (now image) × VisitsAll (nodes (now image)) (take (nodes (now image)) (now order)) × NodeWords (now image) (now words) ⌝ }
+    ensures { λ r. ⌜ r ≡ outcomeSets (now (image .entry)) (take (nodes (now (image .entry))) (now (order .entry))) ⌝ }
 {
     let header = image::header_of(image);
     let count = header.nodes;

@@ -1,5 +1,5 @@
 -- Outcome sets as numbers: which outcomes a packed set has, and how a union grows. Assumes nothing.
-use Prim.Native.Nat.{ℕ, zero, suc, _≤_, _<_}
+use Prim.Native.Nat.{ℕ, zero, suc, _+_, _≤_, _<_}
 use native.Mathlib.Omega.{arith}
 use mathlib.Core.Path.{_≡_, refl}
 use mathlib.Core.Bool.{Bool, true, false, _||_}
@@ -72,17 +72,25 @@ bit-union matches-empty a b = bit-pack matches-empty _ _ _
 bit-union consumes a b = bit-pack consumes _ _ _
 bit-union fails a b = bit-pack fails _ _ _
 
--- A union is no smaller than its first part.
-pub union-above : (a b : ℕ) → a < 8 → a ≤ union a b
-unfolding union pack
-union-above a b h =
-    let e = repack a h in
-    omega (
-      arith,
-      e,
-      byte-or (bit matches-empty a) (bit matches-empty b),
-      byte-or (bit consumes a) (bit consumes b),
-      byte-or (bit fails a) (bit fails b),
-    )
+pub union-small : (a b : ℕ) → union a b < 8
+unfolding union
+union-small a b = pack-small _ _ _
 
--- Tests joined by "and" and by "or", taken apart.
+-- The number of outcomes in a set.
+unfoldable pub size : ℕ → ℕ
+size set = boolByte (bit matches-empty set) + boolByte (bit consumes set) + boolByte (bit fails set)
+
+pub size-most : (set : ℕ) → size set ≤ 3
+unfolding size
+size-most set = omega (arith, byte-small (bit matches-empty set), byte-small (bit consumes set), byte-small (bit fails set))
+
+-- A union that is not its first part has more outcomes.
+pub union-larger : (a b : ℕ) → a < 8 → (union a b ≡ a → ⊥) → size a < size (union a b)
+union-larger a b h different =
+    let z = byte-or (bit matches-empty a) (bit matches-empty b) in
+    let c = byte-or (bit consumes a) (bit consumes b) in
+    let f = byte-or (bit fails a) (bit fails b) in
+    let e = repack a h in
+    unfold size pack union in (
+    rw (bit-union matches-empty a b, bit-union consumes a b, bit-union fails a b) (omega (arith, different))
+    )

@@ -17,7 +17,8 @@ use Rattle.grammar.specs.WellFormed.{WellFormed, wf-empty, wf-terminal, wf-call
 use Rattle.grammar.specs.Questions.{Question4}
 use Rattle.grammar.proofs.References.{Refers, refers, root-in-range}
 use Rattle.rounds.specs.Sets.{bit}
-use Rattle.rounds.specs.Rounds.{formedFrom, Outcomes}
+use Rattle.rounds.specs.Visits.{formedFrom}
+use Rattle.rounds.specs.Rounds.{Outcomes}
 
 -- The nodes marked so far are well formed.
 abbrev pub OnlyFormed : (img : List ℕ) → List Bool → Type 0

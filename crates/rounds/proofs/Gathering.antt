@@ -17,7 +17,7 @@ use Rattle.grammar.specs.Outcomes.{star-1, star-0, not-f0, not-f1, not-0}
 use Rattle.grammar.specs.Questions.{Question4}
 use Rattle.grammar.proofs.References.{Refers, refers, root-in-range}
 use Rattle.rounds.specs.Sets.{bit, thenSet, elseSet, starSet, notSet}
-use Rattle.rounds.specs.Rounds.{gathered}
+use Rattle.rounds.specs.Visits.{gathered}
 use Rattle.rounds.proofs.Bits.{bit-pack}
 
 -- The sets tell nothing wrong.

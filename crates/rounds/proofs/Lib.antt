@@ -2,8 +2,11 @@
 pub mod Bits
 pub mod Gathering
 pub mod Forming
-pub mod Turns
 pub mod Weights
+pub mod Stops
+pub mod Turns
 pub mod OutcomeRounds
 pub mod FormedRounds
-pub mod Descending
+pub mod Orders
+pub mod Number
+pub mod Stars

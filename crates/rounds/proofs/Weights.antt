@@ -19,9 +19,17 @@ module _ {A : Type 0} (f : A → ℕ) where
   weight-set (x ∷ xs) zero v d h = omega arith
   weight-set (x ∷ xs) (suc i) v d h = let ih = weight-set xs i v d (omega arith) in omega arith
 
-  pub weight-most : (m : ℕ) (xs : List A) (d : A) → ((k : ℕ) → f (getD xs k d) ≤ m) → weightBy xs ≤ m * length xs
+  -- Where the first c elements weigh m at most, and the others nothing.
+  pub weight-most :
+      (m c : ℕ) (xs : List A) (d : A)
+      → ((k : ℕ) → f (getD xs k d) ≤ m)
+      → ((k : ℕ) → c ≤ k → f (getD xs k d) ≡ 0)
+      → weightBy xs ≤ m * c
   unfolding weightBy
-  weight-most m [] d h = omega arith
-  weight-most m (x ∷ xs) d h =
-      let ih = weight-most m xs d (λ k. h (suc k)) in
+  weight-most m c [] d h z = omega arith
+  weight-most m zero (x ∷ xs) d h z =
+      let ih = weight-most m zero xs d (λ k. h (suc k)) (λ k l. z (suc k) (omega arith)) in
+      omega (arith, z 0 (omega arith))
+  weight-most m (suc c) (x ∷ xs) d h z =
+      let ih = weight-most m c xs d (λ k. h (suc k)) (λ k l. z (suc k) (omega arith)) in
       rw mul-suc (omega (arith, h 0))

@@ -12,7 +12,7 @@ use Rattle.grammar.proofs.Nodes.{is-empty, is-any, is-range, is-sequence, is-ch
 use Rattle.rounds.specs.Sets.{bit}
 use Rattle.visits.specs.Sets.{setOfKind}
 use Rattle.visits.specs.Nodes.{Linked}
-use Rattle.rounds.specs.Rounds.{gathered, formedFrom}
+use Rattle.rounds.specs.Visits.{gathered, formedFrom}
 
 -- What the table gives for a node's kind and for the sets of the nodes that its word names is what the node gathers.
 pub gathers-by-kind :

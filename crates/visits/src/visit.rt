@@ -6,7 +6,7 @@ ghost use Prim.Native.Nat.{_<_};
 ghost use mathlib.Core.Path.{_≡_};
 ghost use Rattle.grammar.specs.Image.{node, nodes};
 ghost use Rattle.grammar.specs.Questions.{Lawful};
-ghost use Rattle.rounds.specs.Rounds.{gathered, formedFrom};
+ghost use Rattle.rounds.specs.Visits.{gathered, formedFrom};
 ghost use Rattle.visits.specs.Nodes.{NodeWords};
 ghost use Rattle.visits.specs.Sets.{SetTable, OnlySets};
 
