@@ -1,9 +1,7 @@
 use Rattle.lawful.proofs.Told.{said-no, said-yes}
-use Rattle.grammar.specs.Image.{nodes}
 use Rattle.grammar.specs.Questions.{Lawful, First, ofLawful}
 use Rattle.grammar.proofs.Acceptance.{lawful-at-0}
 use Rattle.rounds.proofs.Stars.{lawful-refused, stars-refused, stars-passed, order-visits, sets-in-order, sets-are-least}
-use lib.ListN.{take}
 use mathlib.Core.Path.{subst, _∙_}
 use native.Mathlib.Omega.{arith}
 use Prim.Native.Nat.{ℕ}
@@ -25,7 +23,7 @@ returns c =
     let different = c .if1 .taken in
     record {
       first = lawful-refused (c .before .lawful-number .result) (omega (arith, different)) (c .before .lawful-number .ensures);
-      found = λ e. absurd (different e);
+      sets = λ e. absurd (different e);
     }
 
 round-order-requires : tie.Need-round-order-requires
@@ -50,7 +48,7 @@ returns-2 c =
     let at-order = c .before .before .before .before .before .before .before in
     record {
       first = stars-refused (lawful (at-order .before)) (said-no (c .before .stars-consume .ensures) (c .if2 .taken));
-      found = λ e. absurd (omega arith);
+      sets = λ e. absurd (omega arith);
     }
 
 returns-3 : tie.Need-returns-3
@@ -59,12 +57,7 @@ returns-3 c =
     let img = at-order .before .before .before .before .args .image .now in
     record {
       first = stars-passed (lawful (at-order .before)) (said-yes (c .before .stars-consume .ensures) (c .if2 .left));
-      found = λ e.
-          record {
-            in-order = at-order .round-order .ensures;
-            node-words = c .before .before .before .before .before .before .node-words .ensures;
-            sets = c .before .before .before .outcome-sets .ensures ∙ sets-in-order img _ (at-order .round-order .ensures);
-          };
+      sets = λ e. c .before .before .before .outcome-sets .ensures ∙ sets-in-order img _ (at-order .round-order .ensures);
     }
 
 pub stars-number-spec : {M : Type 1} → statement M
