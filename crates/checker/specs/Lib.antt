@@ -1,5 +1,2 @@
--- What the private functions of the image check promise each other. The check's own promise is `Checked` of the crate `grammar`.
-pub mod Sets
-pub mod Order
-pub mod Nodes
-pub mod Rounds
+-- What the functions of questions 6 and 7 promise each other. The check's own promise is `Checked` of the crate `grammar`.
+pub mod Stars

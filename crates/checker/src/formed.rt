@@ -1,52 +1,24 @@
 // The well-formed set, and question 7: "Is every node in the well-formed set?"
-use crate::nodes;
 use crate::order;
-use crate::sets;
-ghost use Prim.Native.Nat.{_<_};
+use visits::visit;
 ghost use mathlib.Core.Path.{_≡_};
-ghost use Rattle.grammar.specs.Image.{node, nodes};
+ghost use lib.ListN.{take};
+ghost use Rattle.grammar.specs.Image.{nodes};
 ghost use Rattle.grammar.specs.Questions.{Lawful, Question7};
 ghost use Rattle.lawful.specs.Tells.{Tells};
-ghost use Rattle.checker.specs.Order.{VisitsAll};
-ghost use Rattle.checker.specs.Nodes.{NodeWords};
-ghost use Rattle.checker.specs.Rounds.{formedFrom, Outcomes, Formed};
+ghost use Rattle.rounds.specs.Order.{VisitsAll};
+ghost use Rattle.visits.specs.Nodes.{NodeWords};
+ghost use Rattle.rounds.specs.Rounds.{formedNodes, Outcomes, Formed};
 
-// Whether node n joins the well-formed set, given its outcome sets and the nodes found well formed so far.
-fn node_formed(
-    image: &[u8],
-    words: &[u32; 1024],
-    known: &[u8; 1024],
-    formed: &[bool; 1024],
-    n: usize,
-) -> bool
-    requires { ⌜ Lawful (now image) × (n < nodes (now image)) × NodeWords (now image) (now words) ⌝ }
-    ensures { λ r. ⌜ r ≡ formedFrom (now (image .entry)) (now (known .entry)) (now (formed .entry)) (node (now (image .entry)) n) ⌝ }
-{
-    let word = nodes::node_in(image, words, n);
-    let kind = word.kind;
-    let a = word.a;
-    let b = word.b;
-    match kind {
-        0 | 1 | 2 => true,
-        3 => formed[a] & (!sets::has_empty(known[a]) | formed[b]),
-        4 => formed[a] & formed[b],
-        5 => formed[a] & !sets::has_empty(known[a]),
-        6 => formed[a],
-        7 => formed[b],
-        8..=15 => false,
-        _ => false,
-    }
-}
-
-// "The rounds stop at the first that adds nothing."
+// The nodes that the rounds over an order leave. "The rounds stop at the first that adds nothing."
 pub fn formed_nodes(
     image: &[u8],
     order: &[u16; 1024],
     words: &[u32; 1024],
     known: &[u8; 1024],
 ) -> [bool; 1024]
-    requires { ⌜ Lawful (now image) × VisitsAll (nodes (now image)) (now order) × Outcomes (now image) (now known) × NodeWords (now image) (now words) ⌝ }
-    ensures { λ r. ⌜ Formed (now (image .entry)) r ⌝ }
+    requires { ⌜ Lawful (now image) × VisitsAll (nodes (now image)) (take (nodes (now image)) (now order)) × Outcomes (now image) (now known) × NodeWords (now image) (now words) ⌝ }
+    ensures { λ r. ⌜ r ≡ formedNodes (now (image .entry)) (now (known .entry)) (take (nodes (now (image .entry))) (now (order .entry))) ⌝ }
 {
     let header = image::header_of(image);
     let count = header.nodes;
@@ -57,7 +29,7 @@ pub fn formed_nodes(
             let n = order::visited(order, i);
             let old = formed[n];
             if !old {
-                if node_formed(image, words, known, &formed, n) {
+                if visit::node_formed(image, words, known, &formed, n) {
                     formed[n] = true;
                     changed = true;
                 }

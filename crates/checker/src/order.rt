@@ -2,15 +2,15 @@
 // whole tree at once.
 ghost use Prim.Native.Nat.{_<_};
 ghost use mathlib.Core.Path.{_≡_};
-ghost use lib.ListN.{getD};
+ghost use lib.ListN.{getD, take};
 ghost use Rattle.grammar.specs.Image.{nodes};
 ghost use Rattle.grammar.specs.Questions.{Question2};
-ghost use Rattle.checker.specs.Order.{VisitsAll};
+ghost use Rattle.rounds.specs.Order.{descending};
 
 // The nodes from the highest down to 0.
 pub fn round_order(image: &[u8]) -> [u16; 1024]
     requires { ⌜ Question2 (now image) ⌝ }
-    ensures { λ r. ⌜ VisitsAll (nodes (now (image .entry))) r ⌝ }
+    ensures { λ r. ⌜ take (nodes (now (image .entry))) r ≡ descending (nodes (now (image .entry))) ⌝ }
 {
     let header = image::header_of(image);
     let count = header.nodes;

@@ -1,39 +1,22 @@
 // The outcome sets of all nodes, and question 6: "Does every star's body lack outcome 0?"
-use crate::nodes;
 use crate::order;
-use crate::sets;
-use crate::table;
+use visits::sets;
+use visits::table;
+use visits::visit;
 ghost use Prim.Native.Nat.{_<_};
 ghost use mathlib.Core.Path.{_≡_};
-ghost use Rattle.grammar.specs.Image.{node, nodes};
+ghost use lib.ListN.{take};
+ghost use Rattle.grammar.specs.Image.{nodes};
 ghost use Rattle.grammar.specs.Questions.{Lawful, Question6};
 ghost use Rattle.lawful.specs.Tells.{Tells};
-ghost use Rattle.checker.specs.Order.{VisitsAll};
-ghost use Rattle.checker.specs.Nodes.{NodeWords};
-ghost use Rattle.checker.specs.Sets.{SetTable, OnlySets};
-ghost use Rattle.checker.specs.Rounds.{gathered, Outcomes, StarConsumes};
+ghost use Rattle.rounds.specs.Order.{VisitsAll};
+ghost use Rattle.visits.specs.Nodes.{NodeWords};
+ghost use Rattle.rounds.specs.Rounds.{outcomeSets, Outcomes, StarConsumes};
 
-// The outcomes of node n, from the sets known so far.
-fn node_outcomes(
-    image: &[u8],
-    table: &[[[u8; 8]; 8]; 8],
-    words: &[u32; 1024],
-    known: &[u8; 1024],
-    n: usize,
-) -> u8
-    requires { ⌜ Lawful (now image) × (n < nodes (now image)) × SetTable (now table) × NodeWords (now image) (now words) × OnlySets (now known) ⌝ }
-    ensures { λ r. ⌜ r ≡ gathered (now (image .entry)) (now (known .entry)) (node (now (image .entry)) n) ⌝ }
-{
-    let word = nodes::node_in(image, words, n);
-    let a = word.a;
-    let b = word.b;
-    table::set_of_kind(table, word.kind, known[a], known[b])
-}
-
-// "The rounds stop at the first that adds nothing."
+// The sets that the rounds over an order leave. "The rounds stop at the first that adds nothing."
 pub fn outcome_sets(image: &[u8], order: &[u16; 1024], words: &[u32; 1024]) -> [u8; 1024]
-    requires { ⌜ Lawful (now image) × VisitsAll (nodes (now image)) (now order) × NodeWords (now image) (now words) ⌝ }
-    ensures { λ r. ⌜ Outcomes (now (image .entry)) r ⌝ }
+    requires { ⌜ Lawful (now image) × VisitsAll (nodes (now image)) (take (nodes (now image)) (now order)) × NodeWords (now image) (now words) ⌝ }
+    ensures { λ r. ⌜ r ≡ outcomeSets (now (image .entry)) (take (nodes (now (image .entry))) (now (order .entry))) ⌝ }
 {
     let header = image::header_of(image);
     let count = header.nodes;
@@ -46,7 +29,7 @@ pub fn outcome_sets(image: &[u8], order: &[u16; 1024], words: &[u32; 1024]) -> [
             let old = known[n];
             // A full set gains nothing.
             if old != 7 {
-                let new = sets::join(old, node_outcomes(image, &table, words, &known, n));
+                let new = sets::join(old, visit::node_outcomes(image, &table, words, &known, n));
                 if new != old {
                     known[n] = new;
                     changed = true;

@@ -1,5 +1,6 @@
 -- The theorems of the language.
 pub mod Bools
+pub mod Writes
 pub mod Nodes
 pub mod References
 pub mod First

@@ -5,3 +5,4 @@ pub mod WellFormed
 pub mod Terminal
 pub mod Evaluates
 pub mod Questions
+pub mod Tests

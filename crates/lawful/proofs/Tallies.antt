@@ -12,7 +12,7 @@ use borrow.Author.Tests.{eqb-true, eqb-false, ne-eqb, eq-eqb}
 use Rattle.grammar.specs.Image.{rules, nodes, root, node, children}
 use Rattle.grammar.specs.Questions.{roots, childrenBelow, oneIf, occurrences}
 use Rattle.lawful.specs.Tally.{Tallied}
-use Rattle.lawful.proofs.Writes.{all-the-same}
+use Rattle.grammar.proofs.Writes.{all-the-same}
 
 pub occurrences-append : (n : ℕ) (xs ys : List ℕ) → occurrences n (xs ++ ys) ≡ occurrences n xs + occurrences n ys
 unfolding occurrences

@@ -11,7 +11,7 @@ use borrow.Author.Tests.{eqb-true, eqb-false, ltb-true, ltb-false}
 use Rattle.grammar.specs.Image.{nodeWord, fieldsOf, fieldsAt, kind, rules, nodes, root}
 use Rattle.grammar.specs.Questions.{Question2, Question3}
 use Rattle.grammar.proofs.Nodes.{is-empty, kind-of-call, rule-of-call}
-use Rattle.lawful.proofs.Writes.{all-the-same}
+use Rattle.grammar.proofs.Writes.{all-the-same}
 use Rattle.image.specs.Linked.{linkedWord}
 use Rattle.image.proofs.PastTheEnd.{past-word32}
 use Rattle.image.proofs.Linked.{linked, same-node}

@@ -15,7 +15,8 @@ use Rattle.grammar.specs.Outcomes.{Has, matches-empty, call-body, then-00, else
 use Rattle.grammar.specs.WellFormed.{WellFormed, wf-empty, wf-terminal, wf-call, wf-then, wf-else, wf-star, wf-not}
 use Rattle.grammar.specs.Questions.{Question6, Question7, Lawful, Checked}
 use Rattle.grammar.specs.Questions.{roots, childrenBelow, occurrences}
-use Rattle.grammar.proofs.Tests.{every, headerTest, ruleTest, nodeTest, wordsTest, onceTest, header-asked, words-asked, lawful-image}
+use Rattle.grammar.specs.Tests.{every, headerTest, ruleTest, nodeTest, wordsTest, onceTest}
+use Rattle.grammar.proofs.Tests.{header-asked, words-asked, lawful-image}
 use Rattle.grammar.proofs.Acceptance.{checked, refused-6, refused-7}
 use Rattle.marked.specs.Images.{D2, M7, M8, M9, parts, secondEdition, startTooHigh, byteTooMany, ownChild, orphan}
 

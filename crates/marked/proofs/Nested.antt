@@ -17,7 +17,8 @@ use Rattle.grammar.specs.Questions.{Question7, Checked, ofImage, roots, childre
 use Rattle.grammar.specs.Terminal.{terminalAt, accepts, tested}
 use Rattle.grammar.specs.Evaluates.{Fresh, bodiesOnly, a-pair}
 use Rattle.grammar.specs.Evaluates.{ev-empty, ev-terminal, ev-then-first-fails, ev-then, ev-else-first, ev-else-second, ev-call, ev-body}
-use Rattle.grammar.proofs.Tests.{every, headerTest, ruleTest, nodeTest, wordsTest, onceTest, lawful-image}
+use Rattle.grammar.specs.Tests.{every, headerTest, ruleTest, nodeTest, wordsTest, onceTest}
+use Rattle.grammar.proofs.Tests.{lawful-image}
 use Rattle.grammar.proofs.First.{then-asked}
 use Rattle.grammar.proofs.Acceptance.{checked, accepted}
 use Rattle.grammar.proofs.Determinism.{one}

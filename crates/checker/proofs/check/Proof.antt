@@ -1,6 +1,7 @@
 use Rattle.lawful.proofs.Told.{said-no, said-yes}
 use Rattle.grammar.proofs.Acceptance.{lawful-at-0, refused-lawful, refused-6, refused-7, passed}
 use Rattle.grammar.specs.Questions.{Lawful, First, ofLawful}
+use Rattle.rounds.proofs.Stars.{order-visits, sets-are-least, nodes-are-formed}
 use mathlib.Core.Path.{subst}
 use native.Mathlib.Omega.{arith}
 use Prim.Native.Nat.{ℕ}
@@ -29,19 +30,33 @@ node-words-requires : tie.Need-node-words-requires
 node-words-requires c κs = lawful (c .before) .counts
 
 outcome-sets-requires : tie.Need-outcome-sets-requires
-outcome-sets-requires c κs = (lawful (c .before .before .before .before), c .before .before .before .round-order .ensures, c .before .before .node-words .ensures)
+outcome-sets-requires c κs =
+    let at-order = c .before .before .before in
+    (lawful (at-order .before), order-visits _ _ (at-order .round-order .ensures), c .before .before .node-words .ensures)
 
 stars-consume-requires : tie.Need-stars-consume-requires
-stars-consume-requires c κs = (lawful (c .before .before .before .before .before .before), c .before .outcome-sets .ensures)
+stars-consume-requires c κs =
+    let at-order = c .before .before .before .before .before in
+    let lawful = lawful (at-order .before) in
+    (lawful, sets-are-least _ _ (at-order .round-order .ensures) lawful (c .before .outcome-sets .ensures))
 
 returns-2 : tie.Need-returns-2
 returns-2 c = refused-6 (lawful (c .before .before .before .before .before .before .before .before)) (said-no (c .before .stars-consume .ensures) (c .if2 .taken))
 
 formed-nodes-requires : tie.Need-formed-nodes-requires
-formed-nodes-requires c κs = (lawful (c .before .before .before .before .before .before .before .before .before .before .before), c .before .before .before .before .before .before .before .before .before .before .round-order .ensures, c .before .before .before .before .before .before .outcome-sets .ensures, c .before .before .before .before .before .before .before .before .before .node-words .ensures)
+formed-nodes-requires c κs =
+    let at-order = c .before .before .before .before .before .before .before .before .before .before in
+    let lawful = lawful (at-order .before) in
+    let ordered = at-order .round-order .ensures in
+    (lawful, order-visits _ _ ordered, sets-are-least _ _ ordered lawful (c .before .before .before .before .before .before .outcome-sets .ensures), c .before .before .before .before .before .before .before .before .before .node-words .ensures)
 
 all-formed-requires : tie.Need-all-formed-requires
-all-formed-requires c κs = (lawful (c .before .before .before .before .before .before .before .before .before .before .before .before .before), c .before .formed-nodes .ensures)
+all-formed-requires c κs =
+    let at-order = c .before .before .before .before .before .before .before .before .before .before .before .before in
+    let lawful = lawful (at-order .before) in
+    let ordered = at-order .round-order .ensures in
+    let sets = sets-are-least _ _ ordered lawful (c .before .before .before .before .before .before .before .before .outcome-sets .ensures) in
+    (lawful, nodes-are-formed _ _ ordered lawful sets (c .before .formed-nodes .ensures))
 
 returns-3 : tie.Need-returns-3
 returns-3 c =

@@ -1,40 +1,41 @@
+use Rattle.rounds.specs.Visits.{joinAt}
+use Rattle.rounds.specs.Rounds.{noMarks}
 use Rattle.grammar.specs.Image.{nodes}
-use lib.ListN.{length}
 use borrow.Author.Tests.{not-true, not-false}
 use mathlib.Core.Logic.{⊎-elim}
-use mathlib.Core.Path.{refl}
-use Rattle.checker.proofs.FormedRounds.{SoundMarks, marks, marks-start, marked, marked-heavier, not-qualified, has-mark, marks-bound, least-marks}
-use Rattle.checker.proofs.Turns.{Turned, turn-none, turn-write, turn-keep, round-heavier, round-closed}
-use Rattle.checker.proofs.Forming.{CannotJoin}
+use mathlib.Core.Path.{_≡_, refl, sym, ap, _∙_}
+use Rattle.rounds.proofs.FormedRounds.{SoundMarks, marks, marks-start, marked, marked-heavier, marked-visit, unqualified-visit, marked-before, marks-bound, formed-nodes-left}
+use Rattle.rounds.proofs.Turns.{Reached, reached-none, reached-more, Turned, turn-none, turn-write, turn-keep, round-heavier, turn-whole, turn-last}
+use Rattle.rounds.proofs.Orders.{array-node}
 use native.Mathlib.Omega.{arith}
-use lib.ListN.{getD}
-use mathlib.Core.List.{List}
-use mathlib.Core.Bool.{Bool, false}
+use lib.ListN.{length, getD, take}
+use lib.Seq.{getD-take}
+use mathlib.Core.Bool.{false}
 use Prim.Native.Nat.{ℕ, _≤_, _<_, _-_}
 use borrow.Author.Needs.{needs}
 use Rattle.checker.proofs.formed.formed_nodes.Statement.{statement}
 use Rattle.checker.proofs.formed.formed_nodes.Tie as tie
 
 abbrev Inv-loop : tie.InvT-loop
-Inv-loop image order words known count formed₀ changed₀ i₀ formed changed i = (i ≤ count) × Turned marks (SoundMarks image) (λ (F : List Bool) (k : ℕ). CannotJoin image known F (getD order k 0)) formed₀ formed i changed
+Inv-loop image order words known count formed₀ changed₀ i₀ formed changed i = (i ≤ count) × Turned (joinAt image known) marks (SoundMarks image) (take (nodes image) order) formed₀ formed i changed
 
 abbrev μ-loop : tie.MeasureT-loop
 μ-loop image order words known count formed₀ changed₀ i₀ formed changed i = count - i
 
 abbrev Inv-rounds : tie.InvT-rounds
-Inv-rounds image order words known count formed₀ formed = SoundMarks image formed
+Inv-rounds image order words known count formed₀ formed = SoundMarks image formed × Reached (joinAt image known) (take (nodes image) order) noMarks formed
 
 abbrev μ-rounds : tie.MeasureT-rounds
-μ-rounds image order words known count formed₀ formed = 1024 - marks formed
+μ-rounds image order words known count formed₀ formed = count - marks formed
 
 header-of-requires : tie.Need-header-of-requires Inv-loop μ-loop Inv-rounds μ-rounds
 header-of-requires c κs = search needs
 
 rounds-holds : tie.Need-rounds-holds Inv-loop μ-loop Inv-rounds μ-rounds
-rounds-holds c = marks-start (c .before .before .args .image .now) 1024 refl
+rounds-holds c = (marks-start (c .before .before .args .image .now) 1024 refl, reached-none _)
 
 loop-holds : tie.Need-loop-holds Inv-loop μ-loop Inv-rounds μ-rounds
-loop-holds c = (search needs, turn-none (c .rounds .inv))
+loop-holds c = (search needs, turn-none (c .rounds .inv .0))
 
 visited-requires : tie.Need-visited-requires Inv-loop μ-loop Inv-rounds μ-rounds
 visited-requires c κs = omega (arith, c .before .before .before .before .before .pre .0 .counts .few-nodes)
@@ -42,17 +43,20 @@ visited-requires c κs = omega (arith, c .before .before .before .before .before
 array-read-old : tie.Need-array-read-old Inv-loop μ-loop Inv-rounds μ-rounds
 array-read-old c =
     let entry = c .before .before .before .before .before .before in
-    omega (arith, entry .pre .1 .only-nodes (c .before .before .loop .i) (omega arith), entry .pre .0 .counts .few-nodes)
+    let few = entry .pre .0 .counts .few-nodes in
+    omega (arith, array-node (nodes (entry .args .image .now)) (entry .args .order .now) (c .before .before .loop .i) (entry .pre .1) (omega arith))
 
 node-formed-requires : tie.Need-node-formed-requires Inv-loop μ-loop Inv-rounds μ-rounds
 node-formed-requires c κs =
     let entry = c .before .before .before .before .before .before .before .before in
-    (entry .pre .0, omega (arith, entry .pre .1 .only-nodes (c .before .before .before .before .loop .i) (omega arith)), entry .pre .3)
+    let in-nodes = array-node (nodes (entry .args .image .now)) (entry .args .order .now) (c .before .before .before .before .loop .i) (entry .pre .1) (omega arith) in
+    (entry .pre .0, omega arith, entry .pre .3)
 
 array-write-formed : tie.Need-array-write-formed Inv-loop μ-loop Inv-rounds μ-rounds
 array-write-formed c =
     let entry = c .before .before .before .before .before .before .before .before .before .before in
-    omega (arith, entry .pre .1 .only-nodes (c .before .before .before .before .before .before .loop .i) (omega arith), entry .pre .0 .counts .few-nodes)
+    let few = entry .pre .0 .counts .few-nodes in
+    omega (arith, array-node (nodes (entry .args .image .now)) (entry .args .order .now) (c .before .before .before .before .before .before .loop .i) (entry .pre .1) (omega arith))
 
 add-i : tie.Need-add-i Inv-loop μ-loop Inv-rounds μ-rounds
 add-i c = search needs
@@ -63,25 +67,32 @@ loop-less c = search needs
 loop-again : tie.Need-loop-again Inv-loop μ-loop Inv-rounds μ-rounds
 loop-again c =
     let at-loop = c .before .before .before in
-    let start = at-loop .before .before .before .before in
-    let img = start .args .image .now in
-    let known = start .args .known .now in
+    let entry = at-loop .before .before .before .before in
+    let img = entry .args .image .now in
+    let array = entry .args .order .now in
+    let known = entry .args .known .now in
     let formed = at-loop .loop .formed in
+    let i = at-loop .loop .i in
     let n = c .before .visited .result in
     let t = at-loop .loop .inv .1 in
-    let in-nodes : n < nodes img = omega (arith, start .pre .1 .only-nodes (at-loop .loop .i) (omega arith)) in
-    let in-list : n < length formed = omega (arith, t .sound .as-long, start .pre .0 .counts .few-nodes) in (
+    let few = entry .pre .0 .counts .few-nodes in
+    let i-in : i < nodes img = omega arith in
+    let in-order : i < length (take (nodes img) array) = omega (arith, entry .pre .1 .as-long) in
+    let in-nodes : n < nodes img = omega (arith, array-node (nodes img) array i (entry .pre .1) i-in) in
+    let in-list : n < length formed = omega (arith, t .good .as-long) in
+    let at : n ≡ getD (take (nodes img) array) i 0 = c .before .visited .ensures ∙ sym (getD-take (nodes img) array i 0 i-in) in (
       search needs,
       ⊎-elim
           (λ w. rw (w .4, w .5)
-          (turn-write t
-          (marked img known formed (start .pre .0 .words) (start .pre .2) (t .sound) n in-nodes in-list (cc))
-          (marked-heavier img known formed (start .pre .0 .words) (start .pre .2) (t .sound) n in-nodes in-list (not-true (getD formed n false) (w .0 .taken)))))
+          (turn-write t in-order
+          (marked-visit img known formed n (cc) ∙ ap (joinAt img known formed) at)
+          (marked img known formed (entry .pre .0 .words) (entry .pre .2) (t .good) n in-nodes in-list (cc))
+          (marked-heavier img known formed (entry .pre .0 .words) (entry .pre .2) (t .good) n in-nodes in-list (not-true (getD formed n false) (w .0 .taken)))))
           (λ v. ⊎-elim
           (λ w. rw (w .4, w .5)
-          (turn-keep t (rw (c .before .visited .ensures) at (not-qualified img known formed n (cc)))))
+          (turn-keep t in-order (ap (joinAt img known formed) (sym at) ∙ unqualified-visit img known formed n (cc))))
           (λ w. rw (w .1, w .2)
-          (turn-keep t (rw (c .before .visited .ensures) at (has-mark img known formed n (not-false (getD formed n false) (w .0 .left))))))
+          (turn-keep t in-order (ap (joinAt img known formed) (sym at) ∙ marked-before img known formed n (not-false (getD formed n false) (w .0 .left)))))
           v)
           (c .if1 .came),
     )
@@ -89,17 +100,28 @@ loop-again c =
 rounds-less : tie.Need-rounds-less Inv-loop μ-loop Inv-rounds μ-rounds
 rounds-less c =
     let t = c .before .before .loop .inv .1 in
-    omega (arith, round-heavier t (not-false (c .before .before .loop .changed) (c .if3 .left)), marks-bound (c .before .before .before .before .before .before .args .image .now) (c .before .before .loop .formed) (t .sound))
+    let entry = c .before .before .before .before .before .before in
+    omega (arith, round-heavier t (not-false (c .before .before .loop .changed) (c .if3 .left)), marks-bound (entry .args .image .now) (c .before .before .loop .formed) (t .good), c .before .before .before .before .header-of .ensures .its-nodes)
 
 rounds-again : tie.Need-rounds-again Inv-loop μ-loop Inv-rounds μ-rounds
-rounds-again c = c .before .before .loop .inv .1 .sound
+rounds-again c =
+    let t = c .before .before .loop .inv .1 in
+    let entry = c .before .before .before .before .before .before in
+    let whole : length (take (nodes (entry .args .image .now)) (entry .args .order .now)) ≤ c .before .before .loop .i =
+    omega (arith, entry .pre .1 .as-long, c .before .before .before .before .header-of .ensures .its-nodes) in
+    (t .good, reached-more _ (c .before .before .before .rounds .inv .1) (turn-whole t whole))
 
 returns : tie.Need-returns Inv-loop μ-loop Inv-rounds μ-rounds
 returns c =
-    let entry = c .before .before .before .before .before .before in
     let t = c .before .before .loop .inv .1 in
-    least-marks (entry .args .image .now) (entry .args .known .now) (entry .args .order .now) (c .before .before .loop .formed) (entry .pre .0 .words) (entry .pre .1) (entry .pre .2) (t .sound)
-    (λ k l. round-closed t (not-true (c .before .before .loop .changed) (c .if3 .taken)) k (omega (arith, c .before .before .before .before .header-of .ensures .its-nodes)))
+    let entry = c .before .before .before .before .before .before in
+    let img = entry .args .image .now in
+    let array = entry .args .order .now in
+    let whole : length (take (nodes img) array) ≤ c .before .before .loop .i =
+    omega (arith, entry .pre .1 .as-long, c .before .before .before .before .header-of .ensures .its-nodes) in
+    formed-nodes-left img (entry .args .known .now) (take (nodes img) array) (entry .pre .0 .counts) (entry .pre .0 .words) (entry .pre .2) (entry .pre .1) (c .before .before .loop .formed)
+    (reached-more _ (c .before .before .before .rounds .inv .1) (turn-whole t whole))
+    (turn-last t whole (not-true (c .before .before .loop .changed) (c .if3 .taken)))
 
 pub formed-nodes-spec : {M : Type 1} → statement M
 formed-nodes-spec =

@@ -1,6 +1,6 @@
 use mathlib.Core.Path.{ap}
-use Rattle.checker.proofs.Descending.{descending}
-use Rattle.lawful.proofs.Writes.{next-written}
+use Rattle.rounds.proofs.Orders.{descending-array}
+use Rattle.grammar.proofs.Writes.{next-written}
 use native.Mathlib.Omega.{arith}
 use lib.ListN.{length, getD, length-set}
 use mathlib.Core.Path.{_≡_, refl, _∙_}
@@ -52,7 +52,7 @@ loop-again c =
 
 returns : tie.Need-returns Inv-loop μ-loop
 returns c =
-    descending _ (c .before .loop .order) (λ i l. c .before .loop .inv .2 i (omega (arith, c .before .before .header-of .ensures .its-nodes)) ∙ ap (λ (m : ℕ). m - 1 - i) (c .before .before .header-of .ensures .its-nodes))
+    descending-array _ (c .before .loop .order) (omega (arith, c .before .loop .inv .1, c .before .before .before .before .pre .few-nodes)) (λ i l. c .before .loop .inv .2 i (omega (arith, c .before .before .header-of .ensures .its-nodes)) ∙ ap (λ (m : ℕ). m - 1 - i) (c .before .before .header-of .ensures .its-nodes))
 
 pub round-order-spec : {M : Type 1} → statement M
 round-order-spec =

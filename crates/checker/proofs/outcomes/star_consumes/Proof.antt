@@ -1,4 +1,4 @@
-use Rattle.checker.specs.Sets.{bit}
+use Rattle.rounds.specs.Sets.{bit}
 use lib.ListN.{getD}
 use mathlib.Core.Bool.{false}
 use Rattle.grammar.proofs.Nodes.{kind-of-star, is-star}

@@ -1,5 +1,5 @@
 use Rattle.lawful.proofs.Told.{so, not-so, said-no, said-yes}
-use Rattle.checker.specs.Rounds.{StarConsumes}
+use Rattle.rounds.specs.Rounds.{StarConsumes}
 use borrow.Author.Count.{below-none, below-more}
 use native.Mathlib.Omega.{arith}
 use Prim.Native.Nat.{ℕ, _≤_, _<_, _-_}

@@ -1,0 +1,4 @@
+-- The lemmas of a visit.
+pub mod Tables
+pub mod Links
+pub mod ByKind
