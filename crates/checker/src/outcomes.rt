@@ -11,32 +11,49 @@ ghost use Rattle.grammar.specs.Questions.{Lawful, Question6};
 ghost use Rattle.lawful.specs.Tells.{Tells};
 ghost use Rattle.rounds.specs.Order.{VisitsAll};
 ghost use Rattle.visits.specs.Nodes.{NodeWords};
-ghost use Rattle.rounds.specs.Rounds.{outcomeSets, Outcomes, StarConsumes};
+ghost use Rattle.visits.specs.Sets.{SetTable};
+ghost use Rattle.rounds.specs.Visits.{gatherAt};
+ghost use Rattle.rounds.specs.Rounds.{round, RoundMade, Sound, outcomeSets, Outcomes, StarConsumes};
+
+// One round over an order, and whether it added anything.
+fn outcome_round(
+    image: &[u8],
+    order: &[u16; 1024],
+    table: &[[[u8; 8]; 8]; 8],
+    words: &[u32; 1024],
+    known: &mut [u8; 1024],
+) -> bool
+    requires { ⌜ Lawful (now image) × VisitsAll (nodes (now image)) (take (nodes (now image)) (now order)) × SetTable (now table) × NodeWords (now image) (now words) × Sound (now image) (now known) ⌝ }
+    ensures { λ added. ⌜ RoundMade (round (gatherAt (now (image .entry))) (take (nodes (now (image .entry))) (now (order .entry))) (now (known .entry))) (now (known .entry)) (now (known .exit)) added ⌝ }
+{
+    let header = image::header_of(image);
+    let count = header.nodes;
+    let mut added = false;
+    for i in 0..count {
+        let n = order::visited(order, i);
+        let old = known[n];
+        // A full set gains nothing.
+        if old != 7 {
+            let new = sets::join(old, visit::node_outcomes(image, table, words, known, n));
+            if new != old {
+                known[n] = new;
+                added = true;
+            }
+        }
+    }
+    added
+}
 
 // The sets that the rounds over an order leave. "The rounds stop at the first that adds nothing."
 pub fn outcome_sets(image: &[u8], order: &[u16; 1024], words: &[u32; 1024]) -> [u8; 1024]
     requires { ⌜ Lawful (now image) × VisitsAll (nodes (now image)) (take (nodes (now image)) (now order)) × NodeWords (now image) (now words) ⌝ }
     ensures { λ r. ⌜ r ≡ outcomeSets (now (image .entry)) (take (nodes (now (image .entry))) (now (order .entry))) ⌝ }
 {
-    let header = image::header_of(image);
-    let count = header.nodes;
     let table = table::set_table();
     let mut known = [0u8; 1024];
     'rounds: loop {
-        let mut changed = false;
-        for i in 0..count {
-            let n = order::visited(order, i);
-            let old = known[n];
-            // A full set gains nothing.
-            if old != 7 {
-                let new = sets::join(old, visit::node_outcomes(image, &table, words, &known, n));
-                if new != old {
-                    known[n] = new;
-                    changed = true;
-                }
-            }
-        }
-        if !changed {
+        let added = outcome_round(image, order, &table, words, &mut known);
+        if !added {
             break 'rounds;
         }
     }

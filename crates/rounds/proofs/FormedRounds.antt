@@ -6,7 +6,6 @@
 -- Assumes nothing.
 use Prim.Native.Nat.{ℕ, _+_, _*_, _≤_, _<_}
 use native.Mathlib.Omega.{arith}
-use native.Mathlib.Nat.{one-mul}
 use mathlib.Core.Path.{_≡_, refl, sym, ap, _∙_, subst}
 use mathlib.Core.Bool.{Bool, true, false, _||_, or-true, true≢false}
 use mathlib.Core.Logic.{_⊎_, inl, inr}
@@ -20,17 +19,11 @@ use Rattle.grammar.specs.Questions.{Question2, Question4, oneIf}
 use Rattle.grammar.proofs.References.{refers}
 use Rattle.rounds.specs.Order.{VisitsAll}
 use Rattle.rounds.specs.Visits.{formedFrom, joinAt}
-use Rattle.rounds.specs.Rounds.{round, rounds, StopAfter, noMarks, formedNodes, Outcomes, Formed}
+use Rattle.rounds.specs.Rounds.{round, rounds, StopAfter, noMarks, formedNodes, SoundMarks, RoundMade, Outcomes, Formed}
 use Rattle.rounds.proofs.Forming.{OnlyFormed, CannotJoin, formed-only, formed-all}
 use Rattle.rounds.proofs.Weights.{weightBy, weight-set, weight-most}
-use Rattle.rounds.proofs.Stops.{Growing, round-still, rounds-good, still-at-most, same-left, stop}
+use Rattle.rounds.proofs.Stops.{Growing, round-good, round-grows, round-still, rounds-good, still-at-most, same-left, stop}
 use Rattle.rounds.proofs.Turns.{Reached}
-
--- The marks so far: a place for each possible node, none wrong, none past the nodes.
-pub record SoundMarks (img : List ℕ) (formed : List Bool) : Type 0 where
-  pub as-long : length formed ≡ 1024
-  pub only : OnlyFormed img formed
-  pub beyond : (n : ℕ) → nodes img ≤ n → getD formed n false ≡ false
 
 -- The number of marks.
 abbrev pub marks : List Bool → ℕ
@@ -182,6 +175,28 @@ module _
     sound-nodes : SoundMarks img (formedNodes img known order)
     unfolding formedNodes
     sound-nodes = rounds-good law order noMarks (all .only-nodes) start (nodes img)
+
+    -- A round that adds something makes one mark more at least, and leaves right ones.
+    pub round-marks :
+        {formed next : List Bool} {added : Bool}
+        → SoundMarks img formed
+        → RoundMade (round (joinAt img known) order formed) formed next added
+        → added ≡ true
+        → marks formed < marks next
+    round-marks {formed} {next} s m e = go (round-grows law order formed (all .only-nodes) s)
+      where
+        go :
+            (round (joinAt img known) order formed ≡ formed) ⊎ (marks formed < marks (round (joinAt img known) order formed))
+            → marks formed < marks next
+        go (inl f) = absurd (m .something e (m .is-round ∙ f))
+        go (inr h) = rw (m .is-round) h
+
+    pub round-marks-sound :
+        {formed next : List Bool} {added : Bool}
+        → SoundMarks img formed
+        → RoundMade (round (joinAt img known) order formed) formed next added
+        → SoundMarks img next
+    round-marks-sound {formed} s m = subst (SoundMarks img) (sym (m .is-round)) (round-good law order formed (all .only-nodes) s)
 
     -- A visit that adds nothing found a node that cannot join.
     cannot-by : (formed : List Bool) (n : ℕ) → n < nodes img → SoundMarks img formed → joinAt img known formed n ≡ formed → CannotJoin img known formed n

@@ -24,19 +24,12 @@ use Rattle.grammar.proofs.References.{refers}
 use Rattle.rounds.specs.Sets.{bit, pack, union}
 use Rattle.rounds.specs.Order.{VisitsAll}
 use Rattle.rounds.specs.Visits.{gathered, gatherAt}
-use Rattle.rounds.specs.Rounds.{round, rounds, StopAfter, noOutcomes, outcomeSets, Outcomes}
+use Rattle.rounds.specs.Rounds.{round, rounds, StopAfter, noOutcomes, outcomeSets, Sound, RoundMade, Outcomes}
 use Rattle.rounds.proofs.Bits.{bit-union, union-small, size, size-most, union-larger}
 use Rattle.rounds.proofs.Gathering.{Only, Closed, gathered-only, gathered-all}
 use Rattle.rounds.proofs.Weights.{weightBy, weight-set, weight-most}
-use Rattle.rounds.proofs.Stops.{Growing, round-still, rounds-good, still-at-most, same-left, stop}
+use Rattle.rounds.proofs.Stops.{Growing, round-good, round-grows, round-still, rounds-good, still-at-most, same-left, stop}
 use Rattle.rounds.proofs.Turns.{Reached}
-
--- The sets so far: a place for each possible node, each entry a set, nothing wrong in any, nothing past the nodes.
-pub record Sound (img known : List ℕ) : Type 0 where
-  pub as-long : length known ≡ 1024
-  pub small : (n : ℕ) → getD known n 0 < 8
-  pub only : Only img known
-  pub beyond : (n : ℕ) → nodes img ≤ n → getD known n 0 ≡ 0
 
 -- The number of outcomes in all sets.
 abbrev pub weight : List ℕ → ℕ
@@ -182,6 +175,28 @@ module _ (img order : List ℕ) (counts : Question2 img) (words : Question4 img)
   pub sound-sets : Sound img (outcomeSets img order)
   unfolding outcomeSets
   sound-sets = rounds-good law order noOutcomes (all .only-nodes) start (3 * nodes img)
+
+  -- A round that adds something makes the sets heavier, and leaves right ones.
+  pub round-adds :
+      {known next : List ℕ} {added : Bool}
+      → Sound img known
+      → RoundMade (round (gatherAt img) order known) known next added
+      → added ≡ true
+      → weight known < weight next
+  round-adds {known} {next} s m e = go (round-grows law order known (all .only-nodes) s)
+    where
+      go :
+          (round (gatherAt img) order known ≡ known) ⊎ (weight known < weight (round (gatherAt img) order known))
+          → weight known < weight next
+      go (inl f) = absurd (m .something e (m .is-round ∙ f))
+      go (inr h) = rw (m .is-round) h
+
+  pub round-sound :
+      {known next : List ℕ} {added : Bool}
+      → Sound img known
+      → RoundMade (round (gatherAt img) order known) known next added
+      → Sound img next
+  round-sound {known} s m = subst (Sound img) (sym (m .is-round)) (round-good law order known (all .only-nodes) s)
 
   -- A visit that adds nothing found the node closed.
   closed-by : (known : List ℕ) (n : ℕ) → n < nodes img → Sound img known → gatherAt img known n ≡ known → Closed img known n

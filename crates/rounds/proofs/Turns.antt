@@ -2,13 +2,14 @@
 -- Assumes nothing.
 use Prim.Native.Nat.{ℕ, suc, _+_, _≤_, _<_}
 use native.Mathlib.Nat.{lt-trans}
+use native.Mathlib.Omega.{arith}
 use native.Mathlib.Numerals.{add-one}
 use mathlib.Core.Path.{_≡_, refl, sym, ap, _∙_, subst}
 use mathlib.Core.Bool.{Bool, true, false, true≢false}
 use mathlib.Core.List.{List, [], _∷_, _++_}
 use lib.ListN.{length, getD, take}
 use lib.Seq.{take-suc, take-all}
-use Rattle.rounds.specs.Rounds.{round, rounds}
+use Rattle.rounds.specs.Rounds.{round, rounds, RoundMade}
 
 module _ {A : Type 0} (visit : List A → ℕ → List A) where
   round-append : (xs ys : List ℕ) (start : List A) → round visit (xs ++ ys) start ≡ round visit ys (round visit xs start)
@@ -98,7 +99,7 @@ module _ {A : Type 0} {visit : List A → ℕ → List A} {weight : List A → �
         progress = t .progress;
       }
 
-  pub round-heavier :
+  round-heavier :
       {start now : List A} {i : ℕ} {changed : Bool}
       → Turned visit weight Good order start now i changed
       → changed ≡ true
@@ -118,18 +119,30 @@ module _ {A : Type 0} {visit : List A → ℕ → List A} {weight : List A → �
       go false e p = p
 
   -- The round as a whole,
-  pub turn-whole :
+  turn-whole :
       {start now : List A} {i : ℕ} {changed : Bool}
       → Turned visit weight Good order start now i changed
       → length order ≤ i
       → now ≡ round visit order start
   turn-whole {start} {now} {i} t l = t .so-far ∙ ap (λ (xs : List ℕ). round visit xs start) (take-all i order l)
 
-  -- and one that changed nothing: another adds nothing either.
-  pub turn-last :
+  -- and what the function that makes it answers.
+  pub turn-made :
       {start now : List A} {i : ℕ} {changed : Bool}
       → Turned visit weight Good order start now i changed
       → length order ≤ i
-      → changed ≡ false
-      → round visit order now ≡ now
-  turn-last t l e = ap (round visit order) (round-same t e) ∙ sym (turn-whole t l)
+      → RoundMade (round visit order start) start now changed
+  turn-made {start} {now} {i} {changed} t l =
+      record {
+        is-round = turn-whole t l;
+        nothing = round-same t;
+        something = λ e same. let h = round-heavier t e in let w = ap weight same in omega arith;
+      }
+
+-- A round that added nothing: another adds nothing either.
+pub nothing-more :
+    {A : Type 0} (visit : List A → ℕ → List A) (order : List ℕ) {before after : List A} {added : Bool}
+    → RoundMade (round visit order before) before after added
+    → added ≡ false
+    → round visit order after ≡ after
+nothing-more visit order m e = ap (round visit order) (m .nothing e) ∙ sym (m .is-round)

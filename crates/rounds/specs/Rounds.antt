@@ -1,9 +1,9 @@
 -- Rounds over the nodes in an order, and what they leave: the outcome sets and the well-formed set, as functions of the order.
-use Prim.Native.Nat.{ℕ, zero, suc, _*_, _<_}
+use Prim.Native.Nat.{ℕ, zero, suc, _*_, _≤_, _<_}
 use mathlib.Core.Path.{_≡_}
 use mathlib.Core.Bool.{Bool, true, false}
 use mathlib.Core.List.{List, [], _∷_}
-use lib.ListN.{getD, replicate}
+use lib.ListN.{length, getD, replicate}
 use Rattle.grammar.specs.Image.{star, node, nodes}
 use Rattle.grammar.specs.Outcomes.{Outcome, matches-empty, Has}
 use Rattle.grammar.specs.WellFormed.{WellFormed}
@@ -41,6 +41,25 @@ outcomeSets img order = rounds (gatherAt img) (3 * nodes img) order noOutcomes
 -- A round that adds something to the well-formed set adds a node at least.
 unfoldable pub formedNodes : (img known order : List ℕ) → List Bool
 formedNodes img known order = rounds (joinAt img known) (nodes img) order noMarks
+
+-- Sets that rounds may have left: a place for each possible node, each entry a set, nothing wrong in any, nothing past the nodes.
+pub record Sound (img known : List ℕ) : Type 0 where
+  pub as-long : length known ≡ 1024
+  pub small : (n : ℕ) → getD known n 0 < 8
+  pub only : (n : ℕ) (o : Outcome) → bit o (getD known n 0) ≡ true → Has img (node img n) o
+  pub beyond : (n : ℕ) → nodes img ≤ n → getD known n 0 ≡ 0
+
+-- Marks that rounds may have left: a place for each possible node, none wrong, none past the nodes.
+pub record SoundMarks (img : List ℕ) (formed : List Bool) : Type 0 where
+  pub as-long : length formed ≡ 1024
+  pub only : (n : ℕ) → getD formed n false ≡ true → WellFormed img (node img n)
+  pub beyond : (n : ℕ) → nodes img ≤ n → getD formed n false ≡ false
+
+-- What a function that makes a round answers: whether it added anything.
+pub record RoundMade {A : Type 0} (made before after : List A) (added : Bool) : Type 0 where
+  pub is-round : after ≡ made
+  pub nothing : added ≡ false → after ≡ before
+  pub something : added ≡ true → after ≡ before → ⊥
 
 -- "These are the least sets."
 pub record Outcomes (img known : List ℕ) : Type 0 where
