@@ -14,6 +14,7 @@ use Rattle.buffers.proofs.Fill.{cut, fit}
 use Rattle.buffers.proofs.Parts.{part-zeros}
 use Rattle.records.specs.Words.{isHeld}
 use Rattle.editing.specs.Held.{onlyHeld, keptWord, heldTo}
+use Rattle.words.specs.Counted.{Counted}
 use Rattle.back.specs.Back.{Carried, RowOf, Put, BackFits, cameWord, Back}
 use Rattle.editing.proofs.Held.{held-add, held-same, held-none, held-most, bit-only}
 
@@ -118,6 +119,18 @@ back-done {row} {words} {c} {d} rules gone new tail old carried zeros ends B R C
     let Y = fit (part-zeros (new + tail) (length front - (new + tail)) front ends e (omega arith)) refl (let i : new + tail + (length front - (new + tail)) ≡ length old = omega arith in i) (λ j h k. refl) in
     back-is gone new tail old (B .new-fits) C Z Y rules B R P
 
--- The count fits, since there are not more words.
+-- The counts fit, since there are not more words: those carried and put, and all of the back.
+pub counts-fit :
+    {f held : ℕ → ℕ} {row old new before words : List ℕ} {lo hi count rules c d : ℕ}
+    → Counted f old new lo hi held count c
+    → Put row before words rules d
+    → c + d ≤ count + rules
+counts-fit {held = held} {words = words} {count = count} {rules = rules} C P =
+    let e = C .counted in
+    let h = held-most held count in
+    let m = P .counted in
+    let l = held-most (at words) rules in
+    omega arith
+
 pub count-fits : {rules gone new tail c : ℕ} {old words : List ℕ} → Back rules gone new tail old words c → c ≤ length old
 count-fits {old = old} {words = words} B = let e = B .counted in let h = held-most (at words) (length old) in omega arith

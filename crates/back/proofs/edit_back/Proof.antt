@@ -1,7 +1,7 @@
 -- `edit_back` meets its contract, by the law of the back. Assumes nothing.
 use native.Mathlib.Omega.{arith}
 use borrow.Author.Needs.{needs}
-use Rattle.back.proofs.BackLaw.{back-done, count-fits}
+use Rattle.back.proofs.BackLaw.{back-done, counts-fit}
 use Rattle.back.proofs.edit_back.Statement.{statement}
 use Rattle.back.proofs.edit_back.Tie as tie
 
@@ -47,29 +47,10 @@ put-row-requires c κs = search needs
 add-result : tie.Need-add-result
 add-result c =
     let at-put-row = c .before .before in
-    let at-clear2 = at-put-row .before .before .before .before .before in
-    let at-clear = at-clear2 .before .before .before .before in
-    let at-carry = at-clear .before .before .before .before in
-    let at-staying-row = at-carry .before .before in
-    let start = at-staying-row .before .before .before in
-    let B =
-    back-done
-    (start .args .rules)
-    (start .args .gone)
-    (start .args .new)
-    (start .args .tail)
-    (start .args .part .now)
-    (at-carry .carry .last .0)
-    (at-clear .clear .last .0)
-    (at-clear2 .clear2 .last .0)
-    (start .pre)
-    (at-staying-row .staying-row .ensures)
-    (at-carry .carry .ensures)
-    (at-clear .clear .ensures)
-    (at-clear2 .clear2 .ensures)
-    (at-put-row .put-row .ensures) in
-    let few = count-fits B in
-    omega arith
+    let at-carry = at-put-row .before .before .before .before .before .before .before .before .before .before .before .before .before in
+    let start = at-carry .before .before .before .before .before in
+    let few = counts-fit (at-carry .carry .ensures) (at-put-row .put-row .ensures) in
+    omega (arith, start .pre .most-rules, start .pre .new-fits)
 
 same-length : tie.Need-same-length
 same-length c = search needs
