@@ -297,6 +297,7 @@ eval-choice-returns-2 t c =
 
 eval-choice-eval-node-requires-2 : (t : ℕ) → eval-choice-lts.Need-eval-node-requires-2 (eval-choice-claims t) (eval-choice-at t) eval-choice.Post
 eval-choice-eval-node-requires-2 t c κs =
+    let else1 : eval-choice-place eval-choice-lts.Else1 t = search in
     let start : eval-choice-place eval-choice-lts.Start t = search in
     let pre = start .pre in
     (omega (arith, pre .0), (record { short = pre .1 .0 .short; here = pre .1 .0 .here; most = omega (arith, pre .1 .0 .most) }, pre .1 .2))
@@ -792,6 +793,7 @@ eval-star-returns-3 t c =
 eval-star-add-consumed : (t : ℕ) → eval-star-lts.Need-add-consumed (eval-star-claims t) (eval-star-at t) eval-star.Post eval-star-Inv-loop eval-star-μ-loop
 eval-star-add-consumed t c =
     let after-length-of : eval-star-place eval-star-lts.After-length-of t = search in
+    let after-examined-of : eval-star-place eval-star-lts.After-examined-of t = search in
     let at-loop : eval-star-place eval-star-lts.At-loop t = search in
     let start : eval-star-place eval-star-lts.Start t = search in
     let pre = start .pre in
