@@ -185,18 +185,20 @@ walk-choice-returns : (t : ℕ) → walk-choice-lts.Need-returns (walk-choice-cl
 walk-choice-returns t c =
     let after-walk-part : walk-choice-place walk-choice-lts.After-walk-part t = search in
     let start : walk-choice-place walk-choice-lts.Start t = search in
+    let given = start .args in
     let pre = start .pre in
-    let inner = nodeV (start .args .room) (start .args .words .now) (start .args .text .now .now) (start .args .table .now .now) (start .args .left) in
-    choice-first (start .args .text .now .now) (start .args .room) inner (pre .1 .0 .short) (node-bounded (start .args .room) (start .args .words .now) (start .args .text .now .now) (start .args .table .now .now) (start .args .left)) (pairV (rulesIn (start .args .words .now)) (start .args .b) (start .args .room) (start .args .text .now .now) (start .args .table .now .now) inner) (start .args .a) (start .args .b) (start .args .at) (start .args .lo) (start .args .hi) (start .args .depth) (pre .1 .0 .here) (pre .1 .0 .few) (after-walk-part .walk-part .ensures) (c .if1 .taken)
+    let inner = nodeV (given .room) (given .words .now) (given .text .now .now) (given .table .now .now) (given .left) in
+    choice-first (given .text .now .now) (given .room) inner (pre .1 .0 .short) (node-bounded (given .room) (given .words .now) (given .text .now .now) (given .table .now .now) (given .left)) (pairV (rulesIn (given .words .now)) (given .b) (given .room) (given .text .now .now) (given .table .now .now) inner) (given .a) (given .b) (given .at) (given .lo) (given .hi) (given .depth) (pre .1 .0 .here) (pre .1 .0 .few) (after-walk-part .walk-part .ensures) (c .if1 .taken)
 
 walk-choice-walk-node-requires : (t : ℕ) → walk-choice-lts.Need-walk-node-requires (walk-choice-claims t) (walk-choice-at t) walk-choice.Post
 walk-choice-walk-node-requires t c κs =
     let else1 : walk-choice-place walk-choice-lts.Else1 t = search in
     let after-walk-part : walk-choice-place walk-choice-lts.After-walk-part t = search in
     let start : walk-choice-place walk-choice-lts.Start t = search in
+    let given = start .args in
     let pre = start .pre in
-    let inner = nodeV (start .args .room) (start .args .words .now) (start .args .text .now .now) (start .args .table .now .now) (start .args .left) in
-    (omega (arith, pre .0), (record { short = (pre .1 .0 .short); here = (pre .1 .0 .here); few = choice-failed (start .args .text .now .now) (start .args .room) inner (pre .1 .0 .short) (node-bounded (start .args .room) (start .args .words .now) (start .args .text .now .now) (start .args .table .now .now) (start .args .left)) (pairV (rulesIn (start .args .words .now)) (start .args .b) (start .args .room) (start .args .text .now .now) (start .args .table .now .now) inner) (start .args .a) (start .args .b) (start .args .at) (start .args .lo) (start .args .hi) (start .args .depth) (pre .1 .0 .here) (pre .1 .0 .few) (after-walk-part .walk-part .ensures) (else1 .if1 .left); shallow = omega (arith, pre .1 .0 .shallow) }, pre .1 .2))
+    let inner = nodeV (given .room) (given .words .now) (given .text .now .now) (given .table .now .now) (given .left) in
+    (omega (arith, pre .0), (record { short = (pre .1 .0 .short); here = (pre .1 .0 .here); few = choice-failed (given .text .now .now) (given .room) inner (pre .1 .0 .short) (node-bounded (given .room) (given .words .now) (given .text .now .now) (given .table .now .now) (given .left)) (pairV (rulesIn (given .words .now)) (given .b) (given .room) (given .text .now .now) (given .table .now .now) inner) (given .a) (given .b) (given .at) (given .lo) (given .hi) (given .depth) (pre .1 .0 .here) (pre .1 .0 .few) (after-walk-part .walk-part .ensures) (else1 .if1 .left); shallow = omega (arith, pre .1 .0 .shallow) }, pre .1 .2))
 
 walk-choice-same-length-2 : (t : ℕ) → walk-choice-lts.Need-same-length-2 (walk-choice-claims t) (walk-choice-at t) walk-choice.Post
 walk-choice-same-length-2 t c = search needs
@@ -207,9 +209,10 @@ walk-choice-returns-2 t c =
     let else1 : walk-choice-place walk-choice-lts.Else1 t = search in
     let after-walk-part : walk-choice-place walk-choice-lts.After-walk-part t = search in
     let start : walk-choice-place walk-choice-lts.Start t = search in
+    let given = start .args in
     let pre = start .pre in
-    let inner = nodeV (start .args .room) (start .args .words .now) (start .args .text .now .now) (start .args .table .now .now) (start .args .left) in
-    choice-second (start .args .text .now .now) (start .args .room) inner (pre .1 .0 .short) (node-bounded (start .args .room) (start .args .words .now) (start .args .text .now .now) (start .args .table .now .now) (start .args .left)) (pairV (rulesIn (start .args .words .now)) (start .args .b) (start .args .room) (start .args .text .now .now) (start .args .table .now .now) inner) (start .args .a) (start .args .b) (start .args .at) (start .args .lo) (start .args .hi) (start .args .depth) (pre .1 .0 .here) (pre .1 .0 .few) (after-walk-part .walk-part .ensures) (else1 .if1 .left) (after-walk-node .walk-node .ensures)
+    let inner = nodeV (given .room) (given .words .now) (given .text .now .now) (given .table .now .now) (given .left) in
+    choice-second (given .text .now .now) (given .room) inner (pre .1 .0 .short) (node-bounded (given .room) (given .words .now) (given .text .now .now) (given .table .now .now) (given .left)) (pairV (rulesIn (given .words .now)) (given .b) (given .room) (given .text .now .now) (given .table .now .now) inner) (given .a) (given .b) (given .at) (given .lo) (given .hi) (given .depth) (pre .1 .0 .here) (pre .1 .0 .few) (after-walk-part .walk-part .ensures) (else1 .if1 .left) (after-walk-node .walk-node .ensures)
 
 walk-node-add-result : (t : ℕ) → walk-node-lts.Need-add-result (walk-node-claims t) (walk-node-at t) walk-node.Post
 walk-node-add-result t c = search needs
@@ -217,7 +220,8 @@ walk-node-add-result t c = search needs
 walk-node-returns : (t : ℕ) → walk-node-lts.Need-returns (walk-node-claims t) (walk-node-at t) walk-node.Post
 walk-node-returns t c =
     let start : walk-node-place walk-node-lts.Start t = search in
-    node-too-deep (start .args .room) (start .args .words .now) (start .args .text .now .now) (start .args .table .now .now) (start .args .node) (start .args .at) (start .args .lo) (start .args .hi) (start .args .depth) (start .args .count .now) (start .args .rows .now) (start .args .left) (c .if1 .taken)
+    let given = start .args in
+    node-too-deep (given .room) (given .words .now) (given .text .now .now) (given .table .now .now) (given .node) (given .at) (given .lo) (given .hi) (given .depth) (given .count .now) (given .rows .now) (given .left) (c .if1 .taken)
 
 walk-node-mul-node-of : (t : ℕ) → walk-node-lts.Need-mul-node-of (walk-node-claims t) (walk-node-at t) walk-node.Post
 walk-node-mul-node-of t c =
@@ -315,7 +319,8 @@ walk-node-returns-2 t c =
     let after-node-of : walk-node-place walk-node-lts.After-node-of t = search in
     let else1 : walk-node-place walk-node-lts.Else1 t = search in
     let start : walk-node-place walk-node-lts.Start t = search in
-    node-goes (start .args .room) (start .args .words .now) (start .args .text .now .now) (start .args .table .now .now) (start .args .node) (start .args .at) (start .args .lo) (start .args .hi) (start .args .depth) (start .args .count .now) (start .args .rows .now) (start .args .left) (else1 .if1 .left) (word-is (getD (start .args .words .now) (start .args .node) 0) (after-node-of .node-of .ensures) {k = 0} (omega arith)) (empty-goes (start .args .room) (start .args .words .now) (start .args .text .now .now) (start .args .table .now .now) (start .args .node) (start .args .at) (start .args .lo) (start .args .hi) (start .args .depth) (start .args .count .now) (start .args .rows .now) (start .args .left - 1))
+    let given = start .args in
+    node-goes (given .room) (given .words .now) (given .text .now .now) (given .table .now .now) (given .node) (given .at) (given .lo) (given .hi) (given .depth) (given .count .now) (given .rows .now) (given .left) (else1 .if1 .left) (word-is (getD (given .words .now) (given .node) 0) (after-node-of .node-of .ensures) {k = 0} (omega arith)) (empty-goes (given .room) (given .words .now) (given .text .now .now) (given .table .now .now) (given .node) (given .at) (given .lo) (given .hi) (given .depth) (given .count .now) (given .rows .now) (given .left - 1))
 
 walk-node-returns-3 : (t : ℕ) → walk-node-lts.Need-returns-3 (walk-node-claims t) (walk-node-at t) walk-node.Post
 unfolding nodeOfKind
@@ -323,7 +328,8 @@ walk-node-returns-3 t c =
     let after-node-of : walk-node-place walk-node-lts.After-node-of t = search in
     let else1 : walk-node-place walk-node-lts.Else1 t = search in
     let start : walk-node-place walk-node-lts.Start t = search in
-    node-goes (start .args .room) (start .args .words .now) (start .args .text .now .now) (start .args .table .now .now) (start .args .node) (start .args .at) (start .args .lo) (start .args .hi) (start .args .depth) (start .args .count .now) (start .args .rows .now) (start .args .left) (else1 .if1 .left) (word-is (getD (start .args .words .now) (start .args .node) 0) (after-node-of .node-of .ensures) {k = 1} (omega arith)) (terminal-goes (start .args .room) (start .args .words .now) (start .args .text .now .now) (start .args .table .now .now) (start .args .node) (start .args .at) (start .args .lo) (start .args .hi) (start .args .depth) (start .args .count .now) (start .args .rows .now) (start .args .left - 1) any (c .any-byte .ensures))
+    let given = start .args in
+    node-goes (given .room) (given .words .now) (given .text .now .now) (given .table .now .now) (given .node) (given .at) (given .lo) (given .hi) (given .depth) (given .count .now) (given .rows .now) (given .left) (else1 .if1 .left) (word-is (getD (given .words .now) (given .node) 0) (after-node-of .node-of .ensures) {k = 1} (omega arith)) (terminal-goes (given .room) (given .words .now) (given .text .now .now) (given .table .now .now) (given .node) (given .at) (given .lo) (given .hi) (given .depth) (given .count .now) (given .rows .now) (given .left - 1) any (c .any-byte .ensures))
 
 walk-node-returns-4 : (t : ℕ) → walk-node-lts.Need-returns-4 (walk-node-claims t) (walk-node-at t) walk-node.Post
 unfolding nodeOfKind
@@ -331,7 +337,8 @@ walk-node-returns-4 t c =
     let after-node-of : walk-node-place walk-node-lts.After-node-of t = search in
     let else1 : walk-node-place walk-node-lts.Else1 t = search in
     let start : walk-node-place walk-node-lts.Start t = search in
-    node-goes (start .args .room) (start .args .words .now) (start .args .text .now .now) (start .args .table .now .now) (start .args .node) (start .args .at) (start .args .lo) (start .args .hi) (start .args .depth) (start .args .count .now) (start .args .rows .now) (start .args .left) (else1 .if1 .left) (word-is (getD (start .args .words .now) (start .args .node) 0) (after-node-of .node-of .ensures) {k = 2} (omega arith)) (terminal-goes (start .args .room) (start .args .words .now) (start .args .text .now .now) (start .args .table .now .now) (start .args .node) (start .args .at) (start .args .lo) (start .args .hi) (start .args .depth) (start .args .count .now) (start .args .rows .now) (start .args .left - 1) (range (after-node-of .node-of .result .a) (after-node-of .node-of .result .b)) (c .byte-between .ensures))
+    let given = start .args in
+    node-goes (given .room) (given .words .now) (given .text .now .now) (given .table .now .now) (given .node) (given .at) (given .lo) (given .hi) (given .depth) (given .count .now) (given .rows .now) (given .left) (else1 .if1 .left) (word-is (getD (given .words .now) (given .node) 0) (after-node-of .node-of .ensures) {k = 2} (omega arith)) (terminal-goes (given .room) (given .words .now) (given .text .now .now) (given .table .now .now) (given .node) (given .at) (given .lo) (given .hi) (given .depth) (given .count .now) (given .rows .now) (given .left - 1) (range (after-node-of .node-of .result .a) (after-node-of .node-of .result .b)) (c .byte-between .ensures))
 
 walk-node-same-length : (t : ℕ) → walk-node-lts.Need-same-length (walk-node-claims t) (walk-node-at t) walk-node.Post
 walk-node-same-length t c = search needs
@@ -343,7 +350,8 @@ walk-node-returns-5 t c =
     let after-node-of : walk-node-place walk-node-lts.After-node-of t = search in
     let else1 : walk-node-place walk-node-lts.Else1 t = search in
     let start : walk-node-place walk-node-lts.Start t = search in
-    node-goes (start .args .room) (start .args .words .now) (start .args .text .now .now) (start .args .table .now .now) (start .args .node) (start .args .at) (start .args .lo) (start .args .hi) (start .args .depth) (start .args .count .now) (start .args .rows .now) (start .args .left) (else1 .if1 .left) (word-is (getD (start .args .words .now) (start .args .node) 0) (after-node-of .node-of .ensures) {k = 3} (omega arith)) (after-walk-sequence .walk-sequence .ensures)
+    let given = start .args in
+    node-goes (given .room) (given .words .now) (given .text .now .now) (given .table .now .now) (given .node) (given .at) (given .lo) (given .hi) (given .depth) (given .count .now) (given .rows .now) (given .left) (else1 .if1 .left) (word-is (getD (given .words .now) (given .node) 0) (after-node-of .node-of .ensures) {k = 3} (omega arith)) (after-walk-sequence .walk-sequence .ensures)
 
 walk-node-same-length-2 : (t : ℕ) → walk-node-lts.Need-same-length-2 (walk-node-claims t) (walk-node-at t) walk-node.Post
 walk-node-same-length-2 t c = search needs
@@ -355,7 +363,8 @@ walk-node-returns-6 t c =
     let after-node-of : walk-node-place walk-node-lts.After-node-of t = search in
     let else1 : walk-node-place walk-node-lts.Else1 t = search in
     let start : walk-node-place walk-node-lts.Start t = search in
-    node-goes (start .args .room) (start .args .words .now) (start .args .text .now .now) (start .args .table .now .now) (start .args .node) (start .args .at) (start .args .lo) (start .args .hi) (start .args .depth) (start .args .count .now) (start .args .rows .now) (start .args .left) (else1 .if1 .left) (word-is (getD (start .args .words .now) (start .args .node) 0) (after-node-of .node-of .ensures) {k = 4} (omega arith)) (after-walk-choice .walk-choice .ensures)
+    let given = start .args in
+    node-goes (given .room) (given .words .now) (given .text .now .now) (given .table .now .now) (given .node) (given .at) (given .lo) (given .hi) (given .depth) (given .count .now) (given .rows .now) (given .left) (else1 .if1 .left) (word-is (getD (given .words .now) (given .node) 0) (after-node-of .node-of .ensures) {k = 4} (omega arith)) (after-walk-choice .walk-choice .ensures)
 
 walk-node-same-length-3 : (t : ℕ) → walk-node-lts.Need-same-length-3 (walk-node-claims t) (walk-node-at t) walk-node.Post
 walk-node-same-length-3 t c = search needs
@@ -367,7 +376,8 @@ walk-node-returns-7 t c =
     let after-node-of : walk-node-place walk-node-lts.After-node-of t = search in
     let else1 : walk-node-place walk-node-lts.Else1 t = search in
     let start : walk-node-place walk-node-lts.Start t = search in
-    node-goes (start .args .room) (start .args .words .now) (start .args .text .now .now) (start .args .table .now .now) (start .args .node) (start .args .at) (start .args .lo) (start .args .hi) (start .args .depth) (start .args .count .now) (start .args .rows .now) (start .args .left) (else1 .if1 .left) (word-is (getD (start .args .words .now) (start .args .node) 0) (after-node-of .node-of .ensures) {k = 5} (omega arith)) (after-walk-star .walk-star .ensures)
+    let given = start .args in
+    node-goes (given .room) (given .words .now) (given .text .now .now) (given .table .now .now) (given .node) (given .at) (given .lo) (given .hi) (given .depth) (given .count .now) (given .rows .now) (given .left) (else1 .if1 .left) (word-is (getD (given .words .now) (given .node) 0) (after-node-of .node-of .ensures) {k = 5} (omega arith)) (after-walk-star .walk-star .ensures)
 
 walk-node-same-length-4 : (t : ℕ) → walk-node-lts.Need-same-length-4 (walk-node-claims t) (walk-node-at t) walk-node.Post
 walk-node-same-length-4 t c = search needs
@@ -379,7 +389,8 @@ walk-node-returns-8 t c =
     let after-node-of : walk-node-place walk-node-lts.After-node-of t = search in
     let else1 : walk-node-place walk-node-lts.Else1 t = search in
     let start : walk-node-place walk-node-lts.Start t = search in
-    node-goes (start .args .room) (start .args .words .now) (start .args .text .now .now) (start .args .table .now .now) (start .args .node) (start .args .at) (start .args .lo) (start .args .hi) (start .args .depth) (start .args .count .now) (start .args .rows .now) (start .args .left) (else1 .if1 .left) (word-is (getD (start .args .words .now) (start .args .node) 0) (after-node-of .node-of .ensures) {k = 6} (omega arith)) (after-walk-not .walk-not .ensures)
+    let given = start .args in
+    node-goes (given .room) (given .words .now) (given .text .now .now) (given .table .now .now) (given .node) (given .at) (given .lo) (given .hi) (given .depth) (given .count .now) (given .rows .now) (given .left) (else1 .if1 .left) (word-is (getD (given .words .now) (given .node) 0) (after-node-of .node-of .ensures) {k = 6} (omega arith)) (after-walk-not .walk-not .ensures)
 
 walk-node-same-length-5 : (t : ℕ) → walk-node-lts.Need-same-length-5 (walk-node-claims t) (walk-node-at t) walk-node.Post
 walk-node-same-length-5 t c = search needs
@@ -391,7 +402,8 @@ walk-node-returns-9 t c =
     let after-node-of : walk-node-place walk-node-lts.After-node-of t = search in
     let else1 : walk-node-place walk-node-lts.Else1 t = search in
     let start : walk-node-place walk-node-lts.Start t = search in
-    node-goes (start .args .room) (start .args .words .now) (start .args .text .now .now) (start .args .table .now .now) (start .args .node) (start .args .at) (start .args .lo) (start .args .hi) (start .args .depth) (start .args .count .now) (start .args .rows .now) (start .args .left) (else1 .if1 .left) (word-is (getD (start .args .words .now) (start .args .node) 0) (after-node-of .node-of .ensures) {k = 7} (omega arith)) (rw (after-node-of .node-of .ensures .its-b) at (after-walk-rule .walk-rule .ensures))
+    let given = start .args in
+    node-goes (given .room) (given .words .now) (given .text .now .now) (given .table .now .now) (given .node) (given .at) (given .lo) (given .hi) (given .depth) (given .count .now) (given .rows .now) (given .left) (else1 .if1 .left) (word-is (getD (given .words .now) (given .node) 0) (after-node-of .node-of .ensures) {k = 7} (omega arith)) (rw (after-node-of .node-of .ensures .its-b) at (after-walk-rule .walk-rule .ensures))
 
 walk-node-returns-10 : (t : ℕ) → walk-node-lts.Need-returns-10 (walk-node-claims t) (walk-node-at t) walk-node.Post
 walk-node-returns-10 t c =
@@ -399,8 +411,9 @@ walk-node-returns-10 t c =
     let after-node-of : walk-node-place walk-node-lts.After-node-of t = search in
     let else1 : walk-node-place walk-node-lts.Else1 t = search in
     let start : walk-node-place walk-node-lts.Start t = search in
+    let given = start .args in
     let k = past-7 (after-node-of .node-of .result .kind) (at-match-rest .match .rest .0 .0 .0 .0 .0 .0 .0 .1) (at-match-rest .match .rest .0 .0 .0 .0 .0 .0 .1) (at-match-rest .match .rest .0 .0 .0 .0 .0 .1) (at-match-rest .match .rest .0 .0 .0 .0 .1) (at-match-rest .match .rest .0 .0 .0 .1) (at-match-rest .match .rest .0 .0 .1) (at-match-rest .match .rest .0 .1) (at-match-rest .match .rest .1) in
-    node-goes (start .args .room) (start .args .words .now) (start .args .text .now .now) (start .args .table .now .now) (start .args .node) (start .args .at) (start .args .lo) (start .args .hi) (start .args .depth) (start .args .count .now) (start .args .rows .now) (start .args .left) (else1 .if1 .left) (word-unlawful (getD (start .args .words .now) (start .args .node) 0) (after-node-of .node-of .ensures) k) (unlawful-goes (start .args .room) (start .args .words .now) (start .args .text .now .now) (start .args .table .now .now) (start .args .node) (start .args .at) (start .args .lo) (start .args .hi) (start .args .depth) (start .args .count .now) (start .args .rows .now) (start .args .left - 1))
+    node-goes (given .room) (given .words .now) (given .text .now .now) (given .table .now .now) (given .node) (given .at) (given .lo) (given .hi) (given .depth) (given .count .now) (given .rows .now) (given .left) (else1 .if1 .left) (word-unlawful (getD (given .words .now) (given .node) 0) (after-node-of .node-of .ensures) k) (unlawful-goes (given .room) (given .words .now) (given .text .now .now) (given .table .now .now) (given .node) (given .at) (given .lo) (given .hi) (given .depth) (given .count .now) (given .rows .now) (given .left - 1))
 
 walk-node-returns-11 : (t : ℕ) → walk-node-lts.Need-returns-11 (walk-node-claims t) (walk-node-at t) walk-node.Post
 walk-node-returns-11 t c =
@@ -408,8 +421,9 @@ walk-node-returns-11 t c =
     let after-node-of : walk-node-place walk-node-lts.After-node-of t = search in
     let else1 : walk-node-place walk-node-lts.Else1 t = search in
     let start : walk-node-place walk-node-lts.Start t = search in
+    let given = start .args in
     let k = past-7 (after-node-of .node-of .result .kind) (at-match-rest .match .rest .0 .0 .0 .0 .0 .0 .0 .1) (at-match-rest .match .rest .0 .0 .0 .0 .0 .0 .1) (at-match-rest .match .rest .0 .0 .0 .0 .0 .1) (at-match-rest .match .rest .0 .0 .0 .0 .1) (at-match-rest .match .rest .0 .0 .0 .1) (at-match-rest .match .rest .0 .0 .1) (at-match-rest .match .rest .0 .1) (at-match-rest .match .rest .1) in
-    node-goes (start .args .room) (start .args .words .now) (start .args .text .now .now) (start .args .table .now .now) (start .args .node) (start .args .at) (start .args .lo) (start .args .hi) (start .args .depth) (start .args .count .now) (start .args .rows .now) (start .args .left) (else1 .if1 .left) (word-unlawful (getD (start .args .words .now) (start .args .node) 0) (after-node-of .node-of .ensures) k) (unlawful-goes (start .args .room) (start .args .words .now) (start .args .text .now .now) (start .args .table .now .now) (start .args .node) (start .args .at) (start .args .lo) (start .args .hi) (start .args .depth) (start .args .count .now) (start .args .rows .now) (start .args .left - 1))
+    node-goes (given .room) (given .words .now) (given .text .now .now) (given .table .now .now) (given .node) (given .at) (given .lo) (given .hi) (given .depth) (given .count .now) (given .rows .now) (given .left) (else1 .if1 .left) (word-unlawful (getD (given .words .now) (given .node) 0) (after-node-of .node-of .ensures) k) (unlawful-goes (given .room) (given .words .now) (given .text .now .now) (given .table .now .now) (given .node) (given .at) (given .lo) (given .hi) (given .depth) (given .count .now) (given .rows .now) (given .left - 1))
 
 walk-not-add-walk-node : (t : ℕ) → walk-not-lts.Need-add-walk-node (walk-not-claims t) (walk-not-at t) walk-not.Post
 walk-not-add-walk-node t c =
@@ -431,9 +445,10 @@ walk-not-returns : (t : ℕ) → walk-not-lts.Need-returns (walk-not-claims t) (
 walk-not-returns t c =
     let after-walk-node : walk-not-place walk-not-lts.After-walk-node t = search in
     let start : walk-not-place walk-not-lts.Start t = search in
+    let given = start .args in
     let pre = start .pre in
-    let inner = nodeV (start .args .room) (start .args .words .now) (start .args .text .now .now) (start .args .table .now .now) (start .args .left) in
-    not-stops (start .args .text .now .now) (start .args .room) inner (pre .1 .0 .short) (node-bounded (start .args .room) (start .args .words .now) (start .args .text .now .now) (start .args .table .now .now) (start .args .left)) (pairV (rulesIn (start .args .words .now)) 0 (start .args .room) (start .args .text .now .now) (start .args .table .now .now) inner) (start .args .a) (start .args .at) 0 0 (start .args .depth) (pre .1 .0 .here) (pre .1 .0 .few) (after-walk-node .walk-node .ensures) (c .if1 .taken)
+    let inner = nodeV (given .room) (given .words .now) (given .text .now .now) (given .table .now .now) (given .left) in
+    not-stops (given .text .now .now) (given .room) inner (pre .1 .0 .short) (node-bounded (given .room) (given .words .now) (given .text .now .now) (given .table .now .now) (given .left)) (pairV (rulesIn (given .words .now)) 0 (given .room) (given .text .now .now) (given .table .now .now) inner) (given .a) (given .at) 0 0 (given .depth) (pre .1 .0 .here) (pre .1 .0 .few) (after-walk-node .walk-node .ensures) (c .if1 .taken)
 
 walk-not-same-length-2 : (t : ℕ) → walk-not-lts.Need-same-length-2 (walk-not-claims t) (walk-not-at t) walk-not.Post
 walk-not-same-length-2 t c = search needs
@@ -442,9 +457,10 @@ walk-not-returns-2 : (t : ℕ) → walk-not-lts.Need-returns-2 (walk-not-claims 
 walk-not-returns-2 t c =
     let after-walk-node : walk-not-place walk-not-lts.After-walk-node t = search in
     let start : walk-not-place walk-not-lts.Start t = search in
+    let given = start .args in
     let pre = start .pre in
-    let inner = nodeV (start .args .room) (start .args .words .now) (start .args .text .now .now) (start .args .table .now .now) (start .args .left) in
-    not-fails (start .args .text .now .now) (start .args .room) inner (pre .1 .0 .short) (node-bounded (start .args .room) (start .args .words .now) (start .args .text .now .now) (start .args .table .now .now) (start .args .left)) (pairV (rulesIn (start .args .words .now)) 0 (start .args .room) (start .args .text .now .now) (start .args .table .now .now) inner) (start .args .a) (start .args .at) 0 0 (start .args .depth) (pre .1 .0 .here) (pre .1 .0 .few) (after-walk-node .walk-node .ensures) (c .if2 .taken)
+    let inner = nodeV (given .room) (given .words .now) (given .text .now .now) (given .table .now .now) (given .left) in
+    not-fails (given .text .now .now) (given .room) inner (pre .1 .0 .short) (node-bounded (given .room) (given .words .now) (given .text .now .now) (given .table .now .now) (given .left)) (pairV (rulesIn (given .words .now)) 0 (given .room) (given .text .now .now) (given .table .now .now) inner) (given .a) (given .at) 0 0 (given .depth) (pre .1 .0 .here) (pre .1 .0 .few) (after-walk-node .walk-node .ensures) (c .if2 .taken)
 
 walk-not-same-length-3 : (t : ℕ) → walk-not-lts.Need-same-length-3 (walk-not-claims t) (walk-not-at t) walk-not.Post
 walk-not-same-length-3 t c = search needs
@@ -454,9 +470,10 @@ walk-not-returns-3 t c =
     let else1 : walk-not-place walk-not-lts.Else1 t = search in
     let after-walk-node : walk-not-place walk-not-lts.After-walk-node t = search in
     let start : walk-not-place walk-not-lts.Start t = search in
+    let given = start .args in
     let pre = start .pre in
-    let inner = nodeV (start .args .room) (start .args .words .now) (start .args .text .now .now) (start .args .table .now .now) (start .args .left) in
-    not-matches (start .args .text .now .now) (start .args .room) inner (pre .1 .0 .short) (node-bounded (start .args .room) (start .args .words .now) (start .args .text .now .now) (start .args .table .now .now) (start .args .left)) (pairV (rulesIn (start .args .words .now)) 0 (start .args .room) (start .args .text .now .now) (start .args .table .now .now) inner) (start .args .a) (start .args .at) 0 0 (start .args .depth) (pre .1 .0 .here) (pre .1 .0 .few) (after-walk-node .walk-node .ensures) (let a = else1 .if1 .left in let b = c .if2 .left in omega arith)
+    let inner = nodeV (given .room) (given .words .now) (given .text .now .now) (given .table .now .now) (given .left) in
+    not-matches (given .text .now .now) (given .room) inner (pre .1 .0 .short) (node-bounded (given .room) (given .words .now) (given .text .now .now) (given .table .now .now) (given .left)) (pairV (rulesIn (given .words .now)) 0 (given .room) (given .text .now .now) (given .table .now .now) inner) (given .a) (given .at) 0 0 (given .depth) (pre .1 .0 .here) (pre .1 .0 .few) (after-walk-node .walk-node .ensures) (let a = else1 .if1 .left in let b = c .if2 .left in omega arith)
 
 walk-part-add-walk-node : (t : ℕ) → walk-part-lts.Need-add-walk-node (walk-part-claims t) (walk-part-at t) walk-part.Post
 walk-part-add-walk-node t c =
@@ -476,17 +493,19 @@ walk-part-returns : (t : ℕ) → walk-part-lts.Need-returns (walk-part-claims t
 walk-part-returns t c =
     let after-walk-node : walk-part-place walk-part-lts.After-walk-node t = search in
     let start : walk-part-place walk-part-lts.Start t = search in
+    let given = start .args in
     let pre = start .pre in
-    let inner = nodeV (start .args .room) (start .args .words .now) (start .args .text .now .now) (start .args .table .now .now) (start .args .left) in
-    part-ends (start .args .text .now .now) (start .args .room) inner (pre .1 .0 .short) (node-bounded (start .args .room) (start .args .words .now) (start .args .text .now .now) (start .args .table .now .now) (start .args .left)) (pairV (rulesIn (start .args .words .now)) 0 (start .args .room) (start .args .text .now .now) (start .args .table .now .now) inner) (start .args .a) (start .args .at) (start .args .lo) (start .args .hi) (start .args .depth) (pre .1 .0 .here) (pre .1 .0 .few) (after-walk-node .walk-node .ensures) (c .if1 .taken)
+    let inner = nodeV (given .room) (given .words .now) (given .text .now .now) (given .table .now .now) (given .left) in
+    part-ends (given .text .now .now) (given .room) inner (pre .1 .0 .short) (node-bounded (given .room) (given .words .now) (given .text .now .now) (given .table .now .now) (given .left)) (pairV (rulesIn (given .words .now)) 0 (given .room) (given .text .now .now) (given .table .now .now) inner) (given .a) (given .at) (given .lo) (given .hi) (given .depth) (pre .1 .0 .here) (pre .1 .0 .few) (after-walk-node .walk-node .ensures) (c .if1 .taken)
 
 walk-part-touched-requires : (t : ℕ) → walk-part-lts.Need-touched-requires (walk-part-claims t) (walk-part-at t) walk-part.Post
 walk-part-touched-requires t c κs =
     let after-walk-node : walk-part-place walk-part-lts.After-walk-node t = search in
     let start : walk-part-place walk-part-lts.Start t = search in
+    let given = start .args in
     let pre = start .pre in
-    let inner = nodeV (start .args .room) (start .args .words .now) (start .args .text .now .now) (start .args .table .now .now) (start .args .left) in
-    omega (arith, (part-found (start .args .text .now .now) (start .args .room) inner (pre .1 .0 .short) (node-bounded (start .args .room) (start .args .words .now) (start .args .text .now .now) (start .args .table .now .now) (start .args .left)) (pairV (rulesIn (start .args .words .now)) 0 (start .args .room) (start .args .text .now .now) (start .args .table .now .now) inner) (start .args .a) (start .args .at) (start .args .lo) (start .args .hi) (start .args .depth) (pre .1 .0 .here) (pre .1 .0 .few) (after-walk-node .walk-node .ensures) (c .if1 .left)) .in-text, (pre .1 .0 .short))
+    let inner = nodeV (given .room) (given .words .now) (given .text .now .now) (given .table .now .now) (given .left) in
+    omega (arith, (part-found (given .text .now .now) (given .room) inner (pre .1 .0 .short) (node-bounded (given .room) (given .words .now) (given .text .now .now) (given .table .now .now) (given .left)) (pairV (rulesIn (given .words .now)) 0 (given .room) (given .text .now .now) (given .table .now .now) inner) (given .a) (given .at) (given .lo) (given .hi) (given .depth) (pre .1 .0 .here) (pre .1 .0 .few) (after-walk-node .walk-node .ensures) (c .if1 .left)) .in-text, (pre .1 .0 .short))
 
 walk-part-same-length-2 : (t : ℕ) → walk-part-lts.Need-same-length-2 (walk-part-claims t) (walk-part-at t) walk-part.Post
 walk-part-same-length-2 t c = search needs
@@ -497,18 +516,20 @@ walk-part-returns-2 t c =
     let else1 : walk-part-place walk-part-lts.Else1 t = search in
     let after-walk-node : walk-part-place walk-part-lts.After-walk-node t = search in
     let start : walk-part-place walk-part-lts.Start t = search in
+    let given = start .args in
     let pre = start .pre in
-    let inner = nodeV (start .args .room) (start .args .words .now) (start .args .text .now .now) (start .args .table .now .now) (start .args .left) in
-    part-missed (start .args .text .now .now) (start .args .room) inner (pre .1 .0 .short) (node-bounded (start .args .room) (start .args .words .now) (start .args .text .now .now) (start .args .table .now .now) (start .args .left)) (pairV (rulesIn (start .args .words .now)) 0 (start .args .room) (start .args .text .now .now) (start .args .table .now .now) inner) (start .args .a) (start .args .at) (start .args .lo) (start .args .hi) (start .args .depth) (pre .1 .0 .here) (pre .1 .0 .few) (after-walk-node .walk-node .ensures) (else1 .if1 .left) (sym (after-touched .touched .ensures) ∙ not-true (after-touched .touched .result) (c .if2 .taken))
+    let inner = nodeV (given .room) (given .words .now) (given .text .now .now) (given .table .now .now) (given .left) in
+    part-missed (given .text .now .now) (given .room) inner (pre .1 .0 .short) (node-bounded (given .room) (given .words .now) (given .text .now .now) (given .table .now .now) (given .left)) (pairV (rulesIn (given .words .now)) 0 (given .room) (given .text .now .now) (given .table .now .now) inner) (given .a) (given .at) (given .lo) (given .hi) (given .depth) (pre .1 .0 .here) (pre .1 .0 .few) (after-walk-node .walk-node .ensures) (else1 .if1 .left) (sym (after-touched .touched .ensures) ∙ not-true (after-touched .touched .result) (c .if2 .taken))
 
 walk-part-walk-node-requires-2 : (t : ℕ) → walk-part-lts.Need-walk-node-requires-2 (walk-part-claims t) (walk-part-at t) walk-part.Post
 walk-part-walk-node-requires-2 t c κs =
     let else1 : walk-part-place walk-part-lts.Else1 t = search in
     let after-walk-node : walk-part-place walk-part-lts.After-walk-node t = search in
     let start : walk-part-place walk-part-lts.Start t = search in
+    let given = start .args in
     let pre = start .pre in
-    let inner = nodeV (start .args .room) (start .args .words .now) (start .args .text .now .now) (start .args .table .now .now) (start .args .left) in
-    (omega (arith, pre .0), (record { short = (pre .1 .0 .short); here = (pre .1 .0 .here); few = (part-found (start .args .text .now .now) (start .args .room) inner (pre .1 .0 .short) (node-bounded (start .args .room) (start .args .words .now) (start .args .text .now .now) (start .args .table .now .now) (start .args .left)) (pairV (rulesIn (start .args .words .now)) 0 (start .args .room) (start .args .text .now .now) (start .args .table .now .now) inner) (start .args .a) (start .args .at) (start .args .lo) (start .args .hi) (start .args .depth) (pre .1 .0 .here) (pre .1 .0 .few) (after-walk-node .walk-node .ensures) (else1 .if1 .left)) .few; shallow = omega (arith, pre .1 .0 .shallow) }, pre .1 .1))
+    let inner = nodeV (given .room) (given .words .now) (given .text .now .now) (given .table .now .now) (given .left) in
+    (omega (arith, pre .0), (record { short = (pre .1 .0 .short); here = (pre .1 .0 .here); few = (part-found (given .text .now .now) (given .room) inner (pre .1 .0 .short) (node-bounded (given .room) (given .words .now) (given .text .now .now) (given .table .now .now) (given .left)) (pairV (rulesIn (given .words .now)) 0 (given .room) (given .text .now .now) (given .table .now .now) inner) (given .a) (given .at) (given .lo) (given .hi) (given .depth) (pre .1 .0 .here) (pre .1 .0 .few) (after-walk-node .walk-node .ensures) (else1 .if1 .left)) .few; shallow = omega (arith, pre .1 .0 .shallow) }, pre .1 .1))
 
 walk-part-same-length-3 : (t : ℕ) → walk-part-lts.Need-same-length-3 (walk-part-claims t) (walk-part-at t) walk-part.Post
 walk-part-same-length-3 t c = search needs
@@ -521,9 +542,10 @@ walk-part-returns-3 t c =
     let else1 : walk-part-place walk-part-lts.Else1 t = search in
     let after-walk-node : walk-part-place walk-part-lts.After-walk-node t = search in
     let start : walk-part-place walk-part-lts.Start t = search in
+    let given = start .args in
     let pre = start .pre in
-    let inner = nodeV (start .args .room) (start .args .words .now) (start .args .text .now .now) (start .args .table .now .now) (start .args .left) in
-    part-goes (start .args .text .now .now) (start .args .room) inner (pre .1 .0 .short) (node-bounded (start .args .room) (start .args .words .now) (start .args .text .now .now) (start .args .table .now .now) (start .args .left)) (pairV (rulesIn (start .args .words .now)) 0 (start .args .room) (start .args .text .now .now) (start .args .table .now .now) inner) (start .args .a) (start .args .at) (start .args .lo) (start .args .hi) (start .args .depth) (pre .1 .0 .here) (pre .1 .0 .few) (after-walk-node .walk-node .ensures) (else1 .if1 .left) (sym (after-touched .touched .ensures) ∙ not-false (after-touched .touched .result) (else2 .if2 .left)) (after-walk-node2 .walk-node2 .ensures)
+    let inner = nodeV (given .room) (given .words .now) (given .text .now .now) (given .table .now .now) (given .left) in
+    part-goes (given .text .now .now) (given .room) inner (pre .1 .0 .short) (node-bounded (given .room) (given .words .now) (given .text .now .now) (given .table .now .now) (given .left)) (pairV (rulesIn (given .words .now)) 0 (given .room) (given .text .now .now) (given .table .now .now) inner) (given .a) (given .at) (given .lo) (given .hi) (given .depth) (pre .1 .0 .here) (pre .1 .0 .few) (after-walk-node .walk-node .ensures) (else1 .if1 .left) (sym (after-touched .touched .ensures) ∙ not-false (after-touched .touched .result) (else2 .if2 .left)) (after-walk-node2 .walk-node2 .ensures)
 
 walk-rule-rules-in-requires : (t : ℕ) → walk-rule-lts.Need-rules-in-requires (walk-rule-claims t) (walk-rule-at t) walk-rule.Post
 walk-rule-rules-in-requires t c κs = search needs
@@ -543,7 +565,8 @@ walk-rule-returns t c =
     let after-look : walk-rule-place walk-rule-lts.After-look t = search in
     let after-rules-in : walk-rule-place walk-rule-lts.After-rules-in t = search in
     let start : walk-rule-place walk-rule-lts.Start t = search in
-    rule-empty (rulesIn (start .args .words .now)) (start .args .root) (start .args .room) (start .args .text .now .now) (start .args .table .now .now) (nodeV (start .args .room) (start .args .words .now) (start .args .text .now .now) (start .args .table .now .now) (start .args .left)) (start .args .rule) (start .args .at) (start .args .lo) (start .args .hi) (start .args .depth) (after-look .look .ensures ∙ ap (λ (n : ℕ). getD (start .args .table .now .now) ((start .args .at) * n + (start .args .rule)) 0) (after-rules-in .rules-in .ensures .0)) (start .args .count .now) (start .args .rows .now) (sym (after-is-held .is-held .ensures) ∙ not-true (after-is-held .is-held .result) (c .if1 .taken))
+    let given = start .args in
+    rule-empty (rulesIn (given .words .now)) (given .root) (given .room) (given .text .now .now) (given .table .now .now) (nodeV (given .room) (given .words .now) (given .text .now .now) (given .table .now .now) (given .left)) (given .rule) (given .at) (given .lo) (given .hi) (given .depth) (after-look .look .ensures ∙ ap (λ (n : ℕ). getD (given .table .now .now) ((given .at) * n + (given .rule)) 0) (after-rules-in .rules-in .ensures .0)) (given .count .now) (given .rows .now) (sym (after-is-held .is-held .ensures) ∙ not-true (after-is-held .is-held .result) (c .if1 .taken))
 
 walk-rule-from-word-requires : (t : ℕ) → walk-rule-lts.Need-from-word-requires (walk-rule-claims t) (walk-rule-at t) walk-rule.Post
 walk-rule-from-word-requires t c κs = search needs
@@ -563,7 +586,8 @@ walk-rule-returns-2 t c =
     let after-look : walk-rule-place walk-rule-lts.After-look t = search in
     let after-rules-in : walk-rule-place walk-rule-lts.After-rules-in t = search in
     let start : walk-rule-place walk-rule-lts.Start t = search in
-    rule-impossible (rulesIn (start .args .words .now)) (start .args .root) (start .args .room) (start .args .text .now .now) (start .args .table .now .now) (nodeV (start .args .room) (start .args .words .now) (start .args .text .now .now) (start .args .table .now .now) (start .args .left)) (start .args .rule) (start .args .at) (start .args .lo) (start .args .hi) (start .args .depth) (after-look .look .ensures ∙ ap (λ (n : ℕ). getD (start .args .table .now .now) ((start .args .at) * n + (start .args .rule)) 0) (after-rules-in .rules-in .ensures .0)) (start .args .count .now) (start .args .rows .now) (was-impossible (recordOf (after-look .look .result)) (possible (after-look .look .result) (start .args .at) (length (start .args .text .now .now))) (sym (c .enum-told .given .1) ∙ after-from-word .from-word .ensures))
+    let given = start .args in
+    rule-impossible (rulesIn (given .words .now)) (given .root) (given .room) (given .text .now .now) (given .table .now .now) (nodeV (given .room) (given .words .now) (given .text .now .now) (given .table .now .now) (given .left)) (given .rule) (given .at) (given .lo) (given .hi) (given .depth) (after-look .look .ensures ∙ ap (λ (n : ℕ). getD (given .table .now .now) ((given .at) * n + (given .rule)) 0) (after-rules-in .rules-in .ensures .0)) (given .count .now) (given .rows .now) (was-impossible (recordOf (after-look .look .result)) (possible (after-look .look .result) (given .at) (length (given .text .now .now))) (sym (c .enum-told .given .1) ∙ after-from-word .from-word .ensures))
 
 walk-rule-returns-3 : (t : ℕ) → walk-rule-lts.Need-returns-3 (walk-rule-claims t) (walk-rule-at t) walk-rule.Post
 walk-rule-returns-3 t c =
@@ -574,10 +598,11 @@ walk-rule-returns-3 t c =
     let after-look : walk-rule-place walk-rule-lts.After-look t = search in
     let after-rules-in : walk-rule-place walk-rule-lts.After-rules-in t = search in
     let start : walk-rule-place walk-rule-lts.Start t = search in
-    let w = was-possible (after-held .held .given .0 .0) (recordOf (after-look .look .result)) (possible (after-look .look .result) (start .args .at) (length (start .args .text .now .now))) (sym (after-held .held .given .1) ∙ after-from-word .from-word .ensures) in
+    let given = start .args in
+    let w = was-possible (after-held .held .given .0 .0) (recordOf (after-look .look .result)) (possible (after-look .look .result) (given .at) (length (given .text .now .now))) (sym (after-held .held .given .1) ∙ after-from-word .from-word .ensures) in
     let m = ap (λ (r : Record). r .matched) (w .1) in
     let n = ap (λ (r : Record). r .length) (w .1) in
-    rule-failed (rulesIn (start .args .words .now)) (start .args .root) (start .args .room) (start .args .text .now .now) (start .args .table .now .now) (nodeV (start .args .room) (start .args .words .now) (start .args .text .now .now) (start .args .table .now .now) (start .args .left)) (start .args .rule) (start .args .at) (start .args .lo) (start .args .hi) (start .args .depth) (after-look .look .ensures ∙ ap (λ (n : ℕ). getD (start .args .table .now .now) ((start .args .at) * n + (start .args .rule)) 0) (after-rules-in .rules-in .ensures .0)) (start .args .count .now) (start .args .rows .now) (sym (after-is-held .is-held .ensures) ∙ not-false (after-is-held .is-held .result) (else1 .if1 .left)) (w .0) (sym m ∙ not-true (after-held .held .given .0 .0 .matched) (c .if2 .taken))
+    rule-failed (rulesIn (given .words .now)) (given .root) (given .room) (given .text .now .now) (given .table .now .now) (nodeV (given .room) (given .words .now) (given .text .now .now) (given .table .now .now) (given .left)) (given .rule) (given .at) (given .lo) (given .hi) (given .depth) (after-look .look .ensures ∙ ap (λ (n : ℕ). getD (given .table .now .now) ((given .at) * n + (given .rule)) 0) (after-rules-in .rules-in .ensures .0)) (given .count .now) (given .rows .now) (sym (after-is-held .is-held .ensures) ∙ not-false (after-is-held .is-held .result) (else1 .if1 .left)) (w .0) (sym m ∙ not-true (after-held .held .given .0 .0 .matched) (c .if2 .taken))
 
 walk-rule-touched-requires : (t : ℕ) → walk-rule-lts.Need-touched-requires (walk-rule-claims t) (walk-rule-at t) walk-rule.Post
 walk-rule-touched-requires t c κs =
@@ -588,11 +613,11 @@ walk-rule-touched-requires t c κs =
     let after-look : walk-rule-place walk-rule-lts.After-look t = search in
     let after-rules-in : walk-rule-place walk-rule-lts.After-rules-in t = search in
     let start : walk-rule-place walk-rule-lts.Start t = search in
-    let pre = start .pre in
-    let w = was-possible (after-held .held .given .0 .0) (recordOf (after-look .look .result)) (possible (after-look .look .result) (start .args .at) (length (start .args .text .now .now))) (sym (after-held .held .given .1) ∙ after-from-word .from-word .ensures) in
+    let given = start .args in
+    let w = was-possible (after-held .held .given .0 .0) (recordOf (after-look .look .result)) (possible (after-look .look .result) (given .at) (length (given .text .now .now))) (sym (after-held .held .given .1) ∙ after-from-word .from-word .ensures) in
     let m = ap (λ (r : Record). r .matched) (w .1) in
     let n = ap (λ (r : Record). r .length) (w .1) in
-    omega (arith, n, rule-in-text (rulesIn (start .args .words .now)) (start .args .root) (start .args .room) (start .args .text .now .now) (start .args .table .now .now) (nodeV (start .args .room) (start .args .words .now) (start .args .text .now .now) (start .args .table .now .now) (start .args .left)) (start .args .rule) (start .args .at) (start .args .lo) (start .args .hi) (start .args .depth) (after-look .look .ensures ∙ ap (λ (n : ℕ). getD (start .args .table .now .now) ((start .args .at) * n + (start .args .rule)) 0) (after-rules-in .rules-in .ensures .0)) (start .args .count .now) (start .args .rows .now) (sym (after-is-held .is-held .ensures) ∙ not-false (after-is-held .is-held .result) (else1 .if1 .left)) (w .0), (pre .1 .0 .short))
+    omega (arith, n, rule-in-text (rulesIn (given .words .now)) (given .root) (given .room) (given .text .now .now) (given .table .now .now) (nodeV (given .room) (given .words .now) (given .text .now .now) (given .table .now .now) (given .left)) (given .rule) (given .at) (given .lo) (given .hi) (given .depth) (after-look .look .ensures ∙ ap (λ (n : ℕ). getD (given .table .now .now) ((given .at) * n + (given .rule)) 0) (after-rules-in .rules-in .ensures .0)) (given .count .now) (given .rows .now) (sym (after-is-held .is-held .ensures) ∙ not-false (after-is-held .is-held .result) (else1 .if1 .left)) (w .0), (start .pre .1 .0 .short))
 
 walk-rule-returns-4 : (t : ℕ) → walk-rule-lts.Need-returns-4 (walk-rule-claims t) (walk-rule-at t) walk-rule.Post
 walk-rule-returns-4 t c =
@@ -605,10 +630,11 @@ walk-rule-returns-4 t c =
     let after-look : walk-rule-place walk-rule-lts.After-look t = search in
     let after-rules-in : walk-rule-place walk-rule-lts.After-rules-in t = search in
     let start : walk-rule-place walk-rule-lts.Start t = search in
-    let w = was-possible (after-held .held .given .0 .0) (recordOf (after-look .look .result)) (possible (after-look .look .result) (start .args .at) (length (start .args .text .now .now))) (sym (after-held .held .given .1) ∙ after-from-word .from-word .ensures) in
+    let given = start .args in
+    let w = was-possible (after-held .held .given .0 .0) (recordOf (after-look .look .result)) (possible (after-look .look .result) (given .at) (length (given .text .now .now))) (sym (after-held .held .given .1) ∙ after-from-word .from-word .ensures) in
     let m = ap (λ (r : Record). r .matched) (w .1) in
     let n = ap (λ (r : Record). r .length) (w .1) in
-    rule-missed (rulesIn (start .args .words .now)) (start .args .root) (start .args .room) (start .args .text .now .now) (start .args .table .now .now) (nodeV (start .args .room) (start .args .words .now) (start .args .text .now .now) (start .args .table .now .now) (start .args .left)) (start .args .rule) (start .args .at) (start .args .lo) (start .args .hi) (start .args .depth) (after-look .look .ensures ∙ ap (λ (n : ℕ). getD (start .args .table .now .now) ((start .args .at) * n + (start .args .rule)) 0) (after-rules-in .rules-in .ensures .0)) (start .args .count .now) (start .args .rows .now) (sym (after-is-held .is-held .ensures) ∙ not-false (after-is-held .is-held .result) (else1 .if1 .left)) (w .0) (sym m ∙ not-false (after-held .held .given .0 .0 .matched) (else2 .if2 .left)) n (sym (after-touched .touched .ensures) ∙ not-true (after-touched .touched .result) (c .if3 .taken))
+    rule-missed (rulesIn (given .words .now)) (given .root) (given .room) (given .text .now .now) (given .table .now .now) (nodeV (given .room) (given .words .now) (given .text .now .now) (given .table .now .now) (given .left)) (given .rule) (given .at) (given .lo) (given .hi) (given .depth) (after-look .look .ensures ∙ ap (λ (n : ℕ). getD (given .table .now .now) ((given .at) * n + (given .rule)) 0) (after-rules-in .rules-in .ensures .0)) (given .count .now) (given .rows .now) (sym (after-is-held .is-held .ensures) ∙ not-false (after-is-held .is-held .result) (else1 .if1 .left)) (w .0) (sym m ∙ not-false (after-held .held .given .0 .0 .matched) (else2 .if2 .left)) n (sym (after-touched .touched .ensures) ∙ not-true (after-touched .touched .result) (c .if3 .taken))
 
 walk-rule-add-result-3 : (t : ℕ) → walk-rule-lts.Need-add-result-3 (walk-rule-claims t) (walk-rule-at t) walk-rule.Post
 walk-rule-add-result-3 t c = search needs
@@ -625,10 +651,11 @@ walk-rule-returns-5 t c =
     let after-look : walk-rule-place walk-rule-lts.After-look t = search in
     let after-rules-in : walk-rule-place walk-rule-lts.After-rules-in t = search in
     let start : walk-rule-place walk-rule-lts.Start t = search in
-    let w = was-possible (after-held .held .given .0 .0) (recordOf (after-look .look .result)) (possible (after-look .look .result) (start .args .at) (length (start .args .text .now .now))) (sym (after-held .held .given .1) ∙ after-from-word .from-word .ensures) in
+    let given = start .args in
+    let w = was-possible (after-held .held .given .0 .0) (recordOf (after-look .look .result)) (possible (after-look .look .result) (given .at) (length (given .text .now .now))) (sym (after-held .held .given .1) ∙ after-from-word .from-word .ensures) in
     let m = ap (λ (r : Record). r .matched) (w .1) in
     let n = ap (λ (r : Record). r .length) (w .1) in
-    rule-full (rulesIn (start .args .words .now)) (start .args .root) (start .args .room) (start .args .text .now .now) (start .args .table .now .now) (nodeV (start .args .room) (start .args .words .now) (start .args .text .now .now) (start .args .table .now .now) (start .args .left)) (start .args .rule) (start .args .at) (start .args .lo) (start .args .hi) (start .args .depth) (after-look .look .ensures ∙ ap (λ (n : ℕ). getD (start .args .table .now .now) ((start .args .at) * n + (start .args .rule)) 0) (after-rules-in .rules-in .ensures .0)) (start .args .count .now) (start .args .rows .now) (sym (after-is-held .is-held .ensures) ∙ not-false (after-is-held .is-held .result) (else1 .if1 .left)) (w .0) (sym m ∙ not-false (after-held .held .given .0 .0 .matched) (else2 .if2 .left)) n (sym (after-touched .touched .ensures) ∙ not-false (after-touched .touched .result) (else3 .if3 .left)) (c .if4 .taken)
+    rule-full (rulesIn (given .words .now)) (given .root) (given .room) (given .text .now .now) (given .table .now .now) (nodeV (given .room) (given .words .now) (given .text .now .now) (given .table .now .now) (given .left)) (given .rule) (given .at) (given .lo) (given .hi) (given .depth) (after-look .look .ensures ∙ ap (λ (n : ℕ). getD (given .table .now .now) ((given .at) * n + (given .rule)) 0) (after-rules-in .rules-in .ensures .0)) (given .count .now) (given .rows .now) (sym (after-is-held .is-held .ensures) ∙ not-false (after-is-held .is-held .result) (else1 .if1 .left)) (w .0) (sym m ∙ not-false (after-held .held .given .0 .0 .matched) (else2 .if2 .left)) n (sym (after-touched .touched .ensures) ∙ not-false (after-touched .touched .result) (else3 .if3 .left)) (c .if4 .taken)
 
 walk-rule-row-word-requires : (t : ℕ) → walk-rule-lts.Need-row-word-requires (walk-rule-claims t) (walk-rule-at t) walk-rule.Post
 walk-rule-row-word-requires t c κs =
@@ -639,11 +666,12 @@ walk-rule-row-word-requires t c κs =
     let after-look : walk-rule-place walk-rule-lts.After-look t = search in
     let after-rules-in : walk-rule-place walk-rule-lts.After-rules-in t = search in
     let start : walk-rule-place walk-rule-lts.Start t = search in
+    let given = start .args in
     let pre = start .pre in
-    let w = was-possible (after-held .held .given .0 .0) (recordOf (after-look .look .result)) (possible (after-look .look .result) (start .args .at) (length (start .args .text .now .now))) (sym (after-held .held .given .1) ∙ after-from-word .from-word .ensures) in
+    let w = was-possible (after-held .held .given .0 .0) (recordOf (after-look .look .result)) (possible (after-look .look .result) (given .at) (length (given .text .now .now))) (sym (after-held .held .given .1) ∙ after-from-word .from-word .ensures) in
     let m = ap (λ (r : Record). r .matched) (w .1) in
     let n = ap (λ (r : Record). r .length) (w .1) in
-    (omega (arith, pre .1 .0 .shallow), omega (arith, (pre .1 .0 .here), (pre .1 .0 .short)), omega (arith, n, rule-in-text (rulesIn (start .args .words .now)) (start .args .root) (start .args .room) (start .args .text .now .now) (start .args .table .now .now) (nodeV (start .args .room) (start .args .words .now) (start .args .text .now .now) (start .args .table .now .now) (start .args .left)) (start .args .rule) (start .args .at) (start .args .lo) (start .args .hi) (start .args .depth) (after-look .look .ensures ∙ ap (λ (n : ℕ). getD (start .args .table .now .now) ((start .args .at) * n + (start .args .rule)) 0) (after-rules-in .rules-in .ensures .0)) (start .args .count .now) (start .args .rows .now) (sym (after-is-held .is-held .ensures) ∙ not-false (after-is-held .is-held .result) (else1 .if1 .left)) (w .0), (pre .1 .0 .short)))
+    (omega (arith, pre .1 .0 .shallow), omega (arith, (pre .1 .0 .here), (pre .1 .0 .short)), omega (arith, n, rule-in-text (rulesIn (given .words .now)) (given .root) (given .room) (given .text .now .now) (given .table .now .now) (nodeV (given .room) (given .words .now) (given .text .now .now) (given .table .now .now) (given .left)) (given .rule) (given .at) (given .lo) (given .hi) (given .depth) (after-look .look .ensures ∙ ap (λ (n : ℕ). getD (given .table .now .now) ((given .at) * n + (given .rule)) 0) (after-rules-in .rules-in .ensures .0)) (given .count .now) (given .rows .now) (sym (after-is-held .is-held .ensures) ∙ not-false (after-is-held .is-held .result) (else1 .if1 .left)) (w .0), (pre .1 .0 .short)))
 
 walk-rule-put-requires : (t : ℕ) → walk-rule-lts.Need-put-requires (walk-rule-claims t) (walk-rule-at t) walk-rule.Post
 walk-rule-put-requires t c κs = search needs
@@ -661,8 +689,7 @@ walk-rule-add-walk-node t c =
     let else4 : walk-rule-place walk-rule-lts.Else4 t = search in
     let after-held : walk-rule-place walk-rule-lts.After-held t = search in
     let start : walk-rule-place walk-rule-lts.Start t = search in
-    let pre = start .pre in
-    omega (arith, pre .1 .0 .shallow)
+    omega (arith, start .pre .1 .0 .shallow)
 
 walk-rule-walk-node-requires : (t : ℕ) → walk-rule-lts.Need-walk-node-requires (walk-rule-claims t) (walk-rule-at t) walk-rule.Post
 walk-rule-walk-node-requires t c κs =
@@ -691,11 +718,12 @@ walk-rule-returns-6 t c =
     let after-look : walk-rule-place walk-rule-lts.After-look t = search in
     let after-rules-in : walk-rule-place walk-rule-lts.After-rules-in t = search in
     let start : walk-rule-place walk-rule-lts.Start t = search in
+    let given = start .args in
     let pre = start .pre in
-    let w = was-possible (after-held .held .given .0 .0) (recordOf (after-look .look .result)) (possible (after-look .look .result) (start .args .at) (length (start .args .text .now .now))) (sym (after-held .held .given .1) ∙ after-from-word .from-word .ensures) in
+    let w = was-possible (after-held .held .given .0 .0) (recordOf (after-look .look .result)) (possible (after-look .look .result) (given .at) (length (given .text .now .now))) (sym (after-held .held .given .1) ∙ after-from-word .from-word .ensures) in
     let m = ap (λ (r : Record). r .matched) (w .1) in
     let n = ap (λ (r : Record). r .length) (w .1) in
-    rule-stops (rulesIn (start .args .words .now)) (start .args .root) (start .args .room) (start .args .text .now .now) (start .args .table .now .now) (nodeV (start .args .room) (start .args .words .now) (start .args .text .now .now) (start .args .table .now .now) (start .args .left)) (start .args .rule) (start .args .at) (start .args .lo) (start .args .hi) (start .args .depth) (after-look .look .ensures ∙ ap (λ (n : ℕ). getD (start .args .table .now .now) ((start .args .at) * n + (start .args .rule)) 0) (after-rules-in .rules-in .ensures .0)) (start .args .count .now) (start .args .rows .now) (sym (after-is-held .is-held .ensures) ∙ not-false (after-is-held .is-held .result) (else1 .if1 .left)) (w .0) (sym m ∙ not-false (after-held .held .given .0 .0 .matched) (else2 .if2 .left)) n (sym (after-touched .touched .ensures) ∙ not-false (after-touched .touched .result) (else3 .if3 .left)) (else4 .if4 .left) (after-row-word .row-word .ensures) (pre .1 .0 .short) (pre .1 .0 .here) (node-bounded (start .args .room) (start .args .words .now) (start .args .text .now .now) (start .args .table .now .now) (start .args .left)) _ _ _ (rw (after-put .put .ensures) at (after-walk-node .walk-node .ensures)) (c .if5 .taken)
+    rule-stops (rulesIn (given .words .now)) (given .root) (given .room) (given .text .now .now) (given .table .now .now) (nodeV (given .room) (given .words .now) (given .text .now .now) (given .table .now .now) (given .left)) (given .rule) (given .at) (given .lo) (given .hi) (given .depth) (after-look .look .ensures ∙ ap (λ (n : ℕ). getD (given .table .now .now) ((given .at) * n + (given .rule)) 0) (after-rules-in .rules-in .ensures .0)) (given .count .now) (given .rows .now) (sym (after-is-held .is-held .ensures) ∙ not-false (after-is-held .is-held .result) (else1 .if1 .left)) (w .0) (sym m ∙ not-false (after-held .held .given .0 .0 .matched) (else2 .if2 .left)) n (sym (after-touched .touched .ensures) ∙ not-false (after-touched .touched .result) (else3 .if3 .left)) (else4 .if4 .left) (after-row-word .row-word .ensures) (pre .1 .0 .short) (pre .1 .0 .here) (node-bounded (given .room) (given .words .now) (given .text .now .now) (given .table .now .now) (given .left)) _ _ _ (rw (after-put .put .ensures) at (after-walk-node .walk-node .ensures)) (c .if5 .taken)
 
 walk-rule-same-length-2 : (t : ℕ) → walk-rule-lts.Need-same-length-2 (walk-rule-claims t) (walk-rule-at t) walk-rule.Post
 walk-rule-same-length-2 t c = search needs
@@ -716,11 +744,12 @@ walk-rule-returns-7 t c =
     let after-look : walk-rule-place walk-rule-lts.After-look t = search in
     let after-rules-in : walk-rule-place walk-rule-lts.After-rules-in t = search in
     let start : walk-rule-place walk-rule-lts.Start t = search in
+    let given = start .args in
     let pre = start .pre in
-    let w = was-possible (after-held .held .given .0 .0) (recordOf (after-look .look .result)) (possible (after-look .look .result) (start .args .at) (length (start .args .text .now .now))) (sym (after-held .held .given .1) ∙ after-from-word .from-word .ensures) in
+    let w = was-possible (after-held .held .given .0 .0) (recordOf (after-look .look .result)) (possible (after-look .look .result) (given .at) (length (given .text .now .now))) (sym (after-held .held .given .1) ∙ after-from-word .from-word .ensures) in
     let m = ap (λ (r : Record). r .matched) (w .1) in
     let n = ap (λ (r : Record). r .length) (w .1) in
-    rule-goes (rulesIn (start .args .words .now)) (start .args .root) (start .args .room) (start .args .text .now .now) (start .args .table .now .now) (nodeV (start .args .room) (start .args .words .now) (start .args .text .now .now) (start .args .table .now .now) (start .args .left)) (start .args .rule) (start .args .at) (start .args .lo) (start .args .hi) (start .args .depth) (after-look .look .ensures ∙ ap (λ (n : ℕ). getD (start .args .table .now .now) ((start .args .at) * n + (start .args .rule)) 0) (after-rules-in .rules-in .ensures .0)) (start .args .count .now) (start .args .rows .now) (sym (after-is-held .is-held .ensures) ∙ not-false (after-is-held .is-held .result) (else1 .if1 .left)) (w .0) (sym m ∙ not-false (after-held .held .given .0 .0 .matched) (else2 .if2 .left)) n (sym (after-touched .touched .ensures) ∙ not-false (after-touched .touched .result) (else3 .if3 .left)) (else4 .if4 .left) (after-row-word .row-word .ensures) (pre .1 .0 .short) (pre .1 .0 .here) (node-bounded (start .args .room) (start .args .words .now) (start .args .text .now .now) (start .args .table .now .now) (start .args .left)) _ _ _ (rw (after-put .put .ensures) at (after-walk-node .walk-node .ensures)) (c .if5 .left)
+    rule-goes (rulesIn (given .words .now)) (given .root) (given .room) (given .text .now .now) (given .table .now .now) (nodeV (given .room) (given .words .now) (given .text .now .now) (given .table .now .now) (given .left)) (given .rule) (given .at) (given .lo) (given .hi) (given .depth) (after-look .look .ensures ∙ ap (λ (n : ℕ). getD (given .table .now .now) ((given .at) * n + (given .rule)) 0) (after-rules-in .rules-in .ensures .0)) (given .count .now) (given .rows .now) (sym (after-is-held .is-held .ensures) ∙ not-false (after-is-held .is-held .result) (else1 .if1 .left)) (w .0) (sym m ∙ not-false (after-held .held .given .0 .0 .matched) (else2 .if2 .left)) n (sym (after-touched .touched .ensures) ∙ not-false (after-touched .touched .result) (else3 .if3 .left)) (else4 .if4 .left) (after-row-word .row-word .ensures) (pre .1 .0 .short) (pre .1 .0 .here) (node-bounded (given .room) (given .words .now) (given .text .now .now) (given .table .now .now) (given .left)) _ _ _ (rw (after-put .put .ensures) at (after-walk-node .walk-node .ensures)) (c .if5 .left)
 
 walk-sequence-walk-node-requires : (t : ℕ) → walk-sequence-lts.Need-walk-node-requires (walk-sequence-claims t) (walk-sequence-at t) walk-sequence.Post
 walk-sequence-walk-node-requires t c κs =
@@ -735,27 +764,30 @@ walk-sequence-returns : (t : ℕ) → walk-sequence-lts.Need-returns (walk-seque
 walk-sequence-returns t c =
     let after-walk-node : walk-sequence-place walk-sequence-lts.After-walk-node t = search in
     let start : walk-sequence-place walk-sequence-lts.Start t = search in
+    let given = start .args in
     let pre = start .pre in
-    let inner = nodeV (start .args .room) (start .args .words .now) (start .args .text .now .now) (start .args .table .now .now) (start .args .left) in
-    sequence-ends (start .args .text .now .now) (start .args .room) inner (pre .1 .0 .short) (node-bounded (start .args .room) (start .args .words .now) (start .args .text .now .now) (start .args .table .now .now) (start .args .left)) (pairV (rulesIn (start .args .words .now)) (start .args .b) (start .args .room) (start .args .text .now .now) (start .args .table .now .now) inner) (start .args .a) (start .args .b) (start .args .at) (start .args .lo) (start .args .hi) (start .args .depth) (pre .1 .0 .here) (pre .1 .0 .few) (after-walk-node .walk-node .ensures) (c .if1 .taken)
+    let inner = nodeV (given .room) (given .words .now) (given .text .now .now) (given .table .now .now) (given .left) in
+    sequence-ends (given .text .now .now) (given .room) inner (pre .1 .0 .short) (node-bounded (given .room) (given .words .now) (given .text .now .now) (given .table .now .now) (given .left)) (pairV (rulesIn (given .words .now)) (given .b) (given .room) (given .text .now .now) (given .table .now .now) inner) (given .a) (given .b) (given .at) (given .lo) (given .hi) (given .depth) (pre .1 .0 .here) (pre .1 .0 .few) (after-walk-node .walk-node .ensures) (c .if1 .taken)
 
 walk-sequence-add-walk-node : (t : ℕ) → walk-sequence-lts.Need-add-walk-node (walk-sequence-claims t) (walk-sequence-at t) walk-sequence.Post
 walk-sequence-add-walk-node t c =
     let else1 : walk-sequence-place walk-sequence-lts.Else1 t = search in
     let after-walk-node : walk-sequence-place walk-sequence-lts.After-walk-node t = search in
     let start : walk-sequence-place walk-sequence-lts.Start t = search in
+    let given = start .args in
     let pre = start .pre in
-    let inner = nodeV (start .args .room) (start .args .words .now) (start .args .text .now .now) (start .args .table .now .now) (start .args .left) in
-    omega (arith, (sequence-first (start .args .text .now .now) (start .args .room) inner (pre .1 .0 .short) (node-bounded (start .args .room) (start .args .words .now) (start .args .text .now .now) (start .args .table .now .now) (start .args .left)) (pairV (rulesIn (start .args .words .now)) (start .args .b) (start .args .room) (start .args .text .now .now) (start .args .table .now .now) inner) (start .args .a) (start .args .b) (start .args .at) (start .args .lo) (start .args .hi) (start .args .depth) (pre .1 .0 .here) (pre .1 .0 .few) (after-walk-node .walk-node .ensures) (else1 .if1 .left)) .in-text, (pre .1 .0 .short))
+    let inner = nodeV (given .room) (given .words .now) (given .text .now .now) (given .table .now .now) (given .left) in
+    omega (arith, (sequence-first (given .text .now .now) (given .room) inner (pre .1 .0 .short) (node-bounded (given .room) (given .words .now) (given .text .now .now) (given .table .now .now) (given .left)) (pairV (rulesIn (given .words .now)) (given .b) (given .room) (given .text .now .now) (given .table .now .now) inner) (given .a) (given .b) (given .at) (given .lo) (given .hi) (given .depth) (pre .1 .0 .here) (pre .1 .0 .few) (after-walk-node .walk-node .ensures) (else1 .if1 .left)) .in-text, (pre .1 .0 .short))
 
 walk-sequence-walk-node-requires-2 : (t : ℕ) → walk-sequence-lts.Need-walk-node-requires-2 (walk-sequence-claims t) (walk-sequence-at t) walk-sequence.Post
 walk-sequence-walk-node-requires-2 t c κs =
     let else1 : walk-sequence-place walk-sequence-lts.Else1 t = search in
     let after-walk-node : walk-sequence-place walk-sequence-lts.After-walk-node t = search in
     let start : walk-sequence-place walk-sequence-lts.Start t = search in
+    let given = start .args in
     let pre = start .pre in
-    let inner = nodeV (start .args .room) (start .args .words .now) (start .args .text .now .now) (start .args .table .now .now) (start .args .left) in
-    (omega (arith, pre .0), (record { short = (pre .1 .0 .short); here = (sequence-first (start .args .text .now .now) (start .args .room) inner (pre .1 .0 .short) (node-bounded (start .args .room) (start .args .words .now) (start .args .text .now .now) (start .args .table .now .now) (start .args .left)) (pairV (rulesIn (start .args .words .now)) (start .args .b) (start .args .room) (start .args .text .now .now) (start .args .table .now .now) inner) (start .args .a) (start .args .b) (start .args .at) (start .args .lo) (start .args .hi) (start .args .depth) (pre .1 .0 .here) (pre .1 .0 .few) (after-walk-node .walk-node .ensures) (else1 .if1 .left)) .in-text; few = (sequence-first (start .args .text .now .now) (start .args .room) inner (pre .1 .0 .short) (node-bounded (start .args .room) (start .args .words .now) (start .args .text .now .now) (start .args .table .now .now) (start .args .left)) (pairV (rulesIn (start .args .words .now)) (start .args .b) (start .args .room) (start .args .text .now .now) (start .args .table .now .now) inner) (start .args .a) (start .args .b) (start .args .at) (start .args .lo) (start .args .hi) (start .args .depth) (pre .1 .0 .here) (pre .1 .0 .few) (after-walk-node .walk-node .ensures) (else1 .if1 .left)) .few; shallow = omega (arith, pre .1 .0 .shallow) }, pre .1 .2))
+    let inner = nodeV (given .room) (given .words .now) (given .text .now .now) (given .table .now .now) (given .left) in
+    (omega (arith, pre .0), (record { short = (pre .1 .0 .short); here = (sequence-first (given .text .now .now) (given .room) inner (pre .1 .0 .short) (node-bounded (given .room) (given .words .now) (given .text .now .now) (given .table .now .now) (given .left)) (pairV (rulesIn (given .words .now)) (given .b) (given .room) (given .text .now .now) (given .table .now .now) inner) (given .a) (given .b) (given .at) (given .lo) (given .hi) (given .depth) (pre .1 .0 .here) (pre .1 .0 .few) (after-walk-node .walk-node .ensures) (else1 .if1 .left)) .in-text; few = (sequence-first (given .text .now .now) (given .room) inner (pre .1 .0 .short) (node-bounded (given .room) (given .words .now) (given .text .now .now) (given .table .now .now) (given .left)) (pairV (rulesIn (given .words .now)) (given .b) (given .room) (given .text .now .now) (given .table .now .now) inner) (given .a) (given .b) (given .at) (given .lo) (given .hi) (given .depth) (pre .1 .0 .here) (pre .1 .0 .few) (after-walk-node .walk-node .ensures) (else1 .if1 .left)) .few; shallow = omega (arith, pre .1 .0 .shallow) }, pre .1 .2))
 
 walk-sequence-same-length-2 : (t : ℕ) → walk-sequence-lts.Need-same-length-2 (walk-sequence-claims t) (walk-sequence-at t) walk-sequence.Post
 walk-sequence-same-length-2 t c = search needs
@@ -766,9 +798,10 @@ walk-sequence-returns-2 t c =
     let else1 : walk-sequence-place walk-sequence-lts.Else1 t = search in
     let after-walk-node : walk-sequence-place walk-sequence-lts.After-walk-node t = search in
     let start : walk-sequence-place walk-sequence-lts.Start t = search in
+    let given = start .args in
     let pre = start .pre in
-    let inner = nodeV (start .args .room) (start .args .words .now) (start .args .text .now .now) (start .args .table .now .now) (start .args .left) in
-    sequence-second-ends (start .args .text .now .now) (start .args .room) inner (pre .1 .0 .short) (node-bounded (start .args .room) (start .args .words .now) (start .args .text .now .now) (start .args .table .now .now) (start .args .left)) (pairV (rulesIn (start .args .words .now)) (start .args .b) (start .args .room) (start .args .text .now .now) (start .args .table .now .now) inner) (start .args .a) (start .args .b) (start .args .at) (start .args .lo) (start .args .hi) (start .args .depth) (pre .1 .0 .here) (pre .1 .0 .few) (after-walk-node .walk-node .ensures) (else1 .if1 .left) (after-walk-node2 .walk-node2 .ensures) (c .if2 .taken)
+    let inner = nodeV (given .room) (given .words .now) (given .text .now .now) (given .table .now .now) (given .left) in
+    sequence-second-ends (given .text .now .now) (given .room) inner (pre .1 .0 .short) (node-bounded (given .room) (given .words .now) (given .text .now .now) (given .table .now .now) (given .left)) (pairV (rulesIn (given .words .now)) (given .b) (given .room) (given .text .now .now) (given .table .now .now) inner) (given .a) (given .b) (given .at) (given .lo) (given .hi) (given .depth) (pre .1 .0 .here) (pre .1 .0 .few) (after-walk-node .walk-node .ensures) (else1 .if1 .left) (after-walk-node2 .walk-node2 .ensures) (c .if2 .taken)
 
 walk-sequence-add-result : (t : ℕ) → walk-sequence-lts.Need-add-result (walk-sequence-claims t) (walk-sequence-at t) walk-sequence.Post
 walk-sequence-add-result t c =
@@ -776,9 +809,10 @@ walk-sequence-add-result t c =
     let else1 : walk-sequence-place walk-sequence-lts.Else1 t = search in
     let after-walk-node : walk-sequence-place walk-sequence-lts.After-walk-node t = search in
     let start : walk-sequence-place walk-sequence-lts.Start t = search in
+    let given = start .args in
     let pre = start .pre in
-    let inner = nodeV (start .args .room) (start .args .words .now) (start .args .text .now .now) (start .args .table .now .now) (start .args .left) in
-    omega (arith, (sequence-second (start .args .text .now .now) (start .args .room) inner (pre .1 .0 .short) (node-bounded (start .args .room) (start .args .words .now) (start .args .text .now .now) (start .args .table .now .now) (start .args .left)) (pairV (rulesIn (start .args .words .now)) (start .args .b) (start .args .room) (start .args .text .now .now) (start .args .table .now .now) inner) (start .args .a) (start .args .b) (start .args .at) (start .args .lo) (start .args .hi) (start .args .depth) (pre .1 .0 .here) (pre .1 .0 .few) (after-walk-node .walk-node .ensures) (else1 .if1 .left) (after-walk-node2 .walk-node2 .ensures) (c .if2 .left)) .in-text, (pre .1 .0 .short))
+    let inner = nodeV (given .room) (given .words .now) (given .text .now .now) (given .table .now .now) (given .left) in
+    omega (arith, (sequence-second (given .text .now .now) (given .room) inner (pre .1 .0 .short) (node-bounded (given .room) (given .words .now) (given .text .now .now) (given .table .now .now) (given .left)) (pairV (rulesIn (given .words .now)) (given .b) (given .room) (given .text .now .now) (given .table .now .now) inner) (given .a) (given .b) (given .at) (given .lo) (given .hi) (given .depth) (pre .1 .0 .here) (pre .1 .0 .few) (after-walk-node .walk-node .ensures) (else1 .if1 .left) (after-walk-node2 .walk-node2 .ensures) (c .if2 .left)) .in-text, (pre .1 .0 .short))
 
 walk-sequence-same-length-3 : (t : ℕ) → walk-sequence-lts.Need-same-length-3 (walk-sequence-claims t) (walk-sequence-at t) walk-sequence.Post
 walk-sequence-same-length-3 t c = search needs
@@ -789,9 +823,10 @@ walk-sequence-returns-3 t c =
     let else1 : walk-sequence-place walk-sequence-lts.Else1 t = search in
     let after-walk-node : walk-sequence-place walk-sequence-lts.After-walk-node t = search in
     let start : walk-sequence-place walk-sequence-lts.Start t = search in
+    let given = start .args in
     let pre = start .pre in
-    let inner = nodeV (start .args .room) (start .args .words .now) (start .args .text .now .now) (start .args .table .now .now) (start .args .left) in
-    sequence-both (start .args .text .now .now) (start .args .room) inner (pre .1 .0 .short) (node-bounded (start .args .room) (start .args .words .now) (start .args .text .now .now) (start .args .table .now .now) (start .args .left)) (pairV (rulesIn (start .args .words .now)) (start .args .b) (start .args .room) (start .args .text .now .now) (start .args .table .now .now) inner) (start .args .a) (start .args .b) (start .args .at) (start .args .lo) (start .args .hi) (start .args .depth) (pre .1 .0 .here) (pre .1 .0 .few) (after-walk-node .walk-node .ensures) (else1 .if1 .left) (after-walk-node2 .walk-node2 .ensures) (c .if2 .left)
+    let inner = nodeV (given .room) (given .words .now) (given .text .now .now) (given .table .now .now) (given .left) in
+    sequence-both (given .text .now .now) (given .room) inner (pre .1 .0 .short) (node-bounded (given .room) (given .words .now) (given .text .now .now) (given .table .now .now) (given .left)) (pairV (rulesIn (given .words .now)) (given .b) (given .room) (given .text .now .now) (given .table .now .now) inner) (given .a) (given .b) (given .at) (given .lo) (given .hi) (given .depth) (pre .1 .0 .here) (pre .1 .0 .few) (after-walk-node .walk-node .ensures) (else1 .if1 .left) (after-walk-node2 .walk-node2 .ensures) (c .if2 .left)
 
 abbrev walk-star-Inv-loop : walk-star-lts.InvT-loop
 walk-star-Inv-loop words text table rows₀ count₀ room a at lo hi depth left before₀ rows count before =
@@ -840,8 +875,9 @@ walk-star-returns t c =
     let after-walk-part : walk-star-place walk-star-lts.After-walk-part t = search in
     let at-loop : walk-star-place walk-star-lts.At-loop t = search in
     let start : walk-star-place walk-star-lts.Start t = search in
+    let given = start .args in
     let pre = start .pre in
-    star-stops (start .args .text .now .now) (start .args .room) (nodeV (start .args .room) (start .args .words .now) (start .args .text .now .now) (start .args .table .now .now) (start .args .left)) (pre .1 .0 .short) (node-bounded (start .args .room) (start .args .words .now) (start .args .text .now .now) (start .args .table .now .now) (start .args .left)) (start .args .a) (start .args .at) (start .args .lo) (start .args .hi) (start .args .depth) (at-loop .loop .inv .1 (pre .1 .0 .short)) (after-walk-part .walk-part .ensures) (c .if1 .taken)
+    star-stops (given .text .now .now) (given .room) (nodeV (given .room) (given .words .now) (given .text .now .now) (given .table .now .now) (given .left)) (pre .1 .0 .short) (node-bounded (given .room) (given .words .now) (given .text .now .now) (given .table .now .now) (given .left)) (given .a) (given .at) (given .lo) (given .hi) (given .depth) (at-loop .loop .inv .1 (pre .1 .0 .short)) (after-walk-part .walk-part .ensures) (c .if1 .taken)
 
 walk-star-same-length-2 : (t : ℕ) → walk-star-lts.Need-same-length-2 (walk-star-claims t) (walk-star-at t) walk-star.Post walk-star-Inv-loop walk-star-μ-loop
 walk-star-same-length-2 t c = search needs
@@ -855,8 +891,9 @@ walk-star-returns-2 t c =
     let after-walk-part : walk-star-place walk-star-lts.After-walk-part t = search in
     let at-loop : walk-star-place walk-star-lts.At-loop t = search in
     let start : walk-star-place walk-star-lts.Start t = search in
+    let given = start .args in
     let pre = start .pre in
-    star-last (start .args .text .now .now) (start .args .room) (nodeV (start .args .room) (start .args .words .now) (start .args .text .now .now) (start .args .table .now .now) (start .args .left)) (pre .1 .0 .short) (node-bounded (start .args .room) (start .args .words .now) (start .args .text .now .now) (start .args .table .now .now) (start .args .left)) (start .args .a) (start .args .at) (start .args .lo) (start .args .hi) (start .args .depth) (at-loop .loop .inv .1 (pre .1 .0 .short)) (after-walk-part .walk-part .ensures) (c .if2 .taken)
+    star-last (given .text .now .now) (given .room) (nodeV (given .room) (given .words .now) (given .text .now .now) (given .table .now .now) (given .left)) (pre .1 .0 .short) (node-bounded (given .room) (given .words .now) (given .text .now .now) (given .table .now .now) (given .left)) (given .a) (given .at) (given .lo) (given .hi) (given .depth) (at-loop .loop .inv .1 (pre .1 .0 .short)) (after-walk-part .walk-part .ensures) (c .if2 .taken)
 
 walk-star-add-result : (t : ℕ) → walk-star-lts.Need-add-result (walk-star-claims t)
     (walk-star-at t)
@@ -877,8 +914,9 @@ walk-star-returns-3 t c =
     let after-walk-part : walk-star-place walk-star-lts.After-walk-part t = search in
     let at-loop : walk-star-place walk-star-lts.At-loop t = search in
     let start : walk-star-place walk-star-lts.Start t = search in
+    let given = start .args in
     let pre = start .pre in
-    star-still (start .args .text .now .now) (start .args .room) (nodeV (start .args .room) (start .args .words .now) (start .args .text .now .now) (start .args .table .now .now) (start .args .left)) (pre .1 .0 .short) (node-bounded (start .args .room) (start .args .words .now) (start .args .text .now .now) (start .args .table .now .now) (start .args .left)) (start .args .a) (start .args .at) (start .args .lo) (start .args .hi) (start .args .depth) (at-loop .loop .inv .1 (pre .1 .0 .short)) (after-walk-part .walk-part .ensures) (c .if3 .taken)
+    star-still (given .text .now .now) (given .room) (nodeV (given .room) (given .words .now) (given .text .now .now) (given .table .now .now) (given .left)) (pre .1 .0 .short) (node-bounded (given .room) (given .words .now) (given .text .now .now) (given .table .now .now) (given .left)) (given .a) (given .at) (given .lo) (given .hi) (given .depth) (at-loop .loop .inv .1 (pre .1 .0 .short)) (after-walk-part .walk-part .ensures) (c .if3 .taken)
 
 walk-star-add-before : (t : ℕ) → walk-star-lts.Need-add-before (walk-star-claims t)
     (walk-star-at t)
@@ -891,8 +929,9 @@ walk-star-add-before t c =
     let after-walk-part : walk-star-place walk-star-lts.After-walk-part t = search in
     let at-loop : walk-star-place walk-star-lts.At-loop t = search in
     let start : walk-star-place walk-star-lts.Start t = search in
+    let given = start .args in
     let pre = start .pre in
-    omega (arith, (star-found (start .args .text .now .now) (start .args .room) (nodeV (start .args .room) (start .args .words .now) (start .args .text .now .now) (start .args .table .now .now) (start .args .left)) (pre .1 .0 .short) (node-bounded (start .args .room) (start .args .words .now) (start .args .text .now .now) (start .args .table .now .now) (start .args .left)) (start .args .a) (start .args .at) (start .args .lo) (start .args .hi) (start .args .depth) (at-loop .loop .inv .1 (pre .1 .0 .short)) (after-walk-part .walk-part .ensures) (let a = else1 .if1 .left in let b = else2 .if2 .left in omega (arith, b))) .in-text, (pre .1 .0 .short))
+    omega (arith, (star-found (given .text .now .now) (given .room) (nodeV (given .room) (given .words .now) (given .text .now .now) (given .table .now .now) (given .left)) (pre .1 .0 .short) (node-bounded (given .room) (given .words .now) (given .text .now .now) (given .table .now .now) (given .left)) (given .a) (given .at) (given .lo) (given .hi) (given .depth) (at-loop .loop .inv .1 (pre .1 .0 .short)) (after-walk-part .walk-part .ensures) (let a = else1 .if1 .left in let b = else2 .if2 .left in omega (arith, b))) .in-text, (pre .1 .0 .short))
 
 walk-star-loop-less : (t : ℕ) → walk-star-lts.Need-loop-less (walk-star-claims t)
     (walk-star-at t)
@@ -905,8 +944,9 @@ walk-star-loop-less t c =
     let after-walk-part : walk-star-place walk-star-lts.After-walk-part t = search in
     let at-loop : walk-star-place walk-star-lts.At-loop t = search in
     let start : walk-star-place walk-star-lts.Start t = search in
+    let given = start .args in
     let pre = start .pre in
-    let ne = c .if3 .left in omega (arith, ne, (star-found (start .args .text .now .now) (start .args .room) (nodeV (start .args .room) (start .args .words .now) (start .args .text .now .now) (start .args .table .now .now) (start .args .left)) (pre .1 .0 .short) (node-bounded (start .args .room) (start .args .words .now) (start .args .text .now .now) (start .args .table .now .now) (start .args .left)) (start .args .a) (start .args .at) (start .args .lo) (start .args .hi) (start .args .depth) (at-loop .loop .inv .1 (pre .1 .0 .short)) (after-walk-part .walk-part .ensures) (let a = else1 .if1 .left in let b = else2 .if2 .left in omega (arith, b))) .in-text)
+    let ne = c .if3 .left in omega (arith, ne, (star-found (given .text .now .now) (given .room) (nodeV (given .room) (given .words .now) (given .text .now .now) (given .table .now .now) (given .left)) (pre .1 .0 .short) (node-bounded (given .room) (given .words .now) (given .text .now .now) (given .table .now .now) (given .left)) (given .a) (given .at) (given .lo) (given .hi) (given .depth) (at-loop .loop .inv .1 (pre .1 .0 .short)) (after-walk-part .walk-part .ensures) (let a = else1 .if1 .left in let b = else2 .if2 .left in omega (arith, b))) .in-text)
 
 walk-star-loop-again : (t : ℕ) → walk-star-lts.Need-loop-again (walk-star-claims t)
     (walk-star-at t)
@@ -919,7 +959,8 @@ walk-star-loop-again t c =
     let after-walk-part : walk-star-place walk-star-lts.After-walk-part t = search in
     let at-loop : walk-star-place walk-star-lts.At-loop t = search in
     let start : walk-star-place walk-star-lts.Start t = search in
-    (after-walk-part .walk-part .kept .1 .1 .1 .0 ∙ at-loop .loop .inv .0, λ short. star-more (start .args .text .now .now) (start .args .room) (nodeV (start .args .room) (start .args .words .now) (start .args .text .now .now) (start .args .table .now .now) (start .args .left)) short (node-bounded (start .args .room) (start .args .words .now) (start .args .text .now .now) (start .args .table .now .now) (start .args .left)) (start .args .a) (start .args .at) (start .args .lo) (start .args .hi) (start .args .depth) (at-loop .loop .inv .1 short) (after-walk-part .walk-part .ensures) (let a = else1 .if1 .left in let b = else2 .if2 .left in omega (arith, b)) (c .if3 .left))
+    let given = start .args in
+    (after-walk-part .walk-part .kept .1 .1 .1 .0 ∙ at-loop .loop .inv .0, λ short. star-more (given .text .now .now) (given .room) (nodeV (given .room) (given .words .now) (given .text .now .now) (given .table .now .now) (given .left)) short (node-bounded (given .room) (given .words .now) (given .text .now .now) (given .table .now .now) (given .left)) (given .a) (given .at) (given .lo) (given .hi) (given .depth) (at-loop .loop .inv .1 short) (after-walk-part .walk-part .ensures) (let a = else1 .if1 .left in let b = else2 .if2 .left in omega (arith, b)) (c .if3 .left))
 
 pub +walk-choice+walk-node+walk-not+walk-part+walk-rule+walk-sequence+walk-star-spec :
     {M : Type 1} → statement M

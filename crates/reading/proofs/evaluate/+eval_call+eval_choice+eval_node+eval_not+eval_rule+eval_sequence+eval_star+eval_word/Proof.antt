@@ -372,8 +372,7 @@ eval-node-returns-2 t c =
     let else1 : eval-node-place eval-node-lts.Else1 t = search in
     let start : eval-node-place eval-node-lts.Start t = search in
     let a = start .args in
-    let pre = start .pre in
-    let s = shape (range (after-node-of .node-of .result .a) (after-node-of .node-of .result .b)) (a .text .now .now) (a .at) (pre .1 .0 .here) in
+    let s = shape (range (after-node-of .node-of .result .a) (after-node-of .node-of .result .b)) (a .text .now .now) (a .at) (start .pre .1 .0 .here) in
     node-goes (a .words .now) (a .text .now .now) (a .left) (a .node) (a .at) (a .table .now) (a .count .now) (else1 .if1 .left) (word-goes (a .words .now) (a .text .now .now) (a .left) (getD (a .words .now) (a .node) 0) (a .at) (a .table .now) (a .count .now) (else1 .if1 .left) (word-is (getD (a .words .now) (a .node) 0) (after-node-of .node-of .ensures) {k = 2} (then2 .if2 .taken))
     (gives-value (terminalAt (range (after-node-of .node-of .result .a) (after-node-of .node-of .result .b)) (a .text .now .now) (a .at)) refl (c .byte-between .ensures)
     (record { in-text = s .in-text; up-to-end = s .up-to-end; in-examined = s .in-examined; failure = s .failure; nested = omega (arith, s .flat) })
@@ -675,8 +674,7 @@ eval-star-add-eval-node : (t : ℕ) → eval-star-lts.Need-add-eval-node (eval-s
 eval-star-add-eval-node t c =
     let at-loop : eval-star-place eval-star-lts.At-loop t = search in
     let start : eval-star-place eval-star-lts.Start t = search in
-    let pre = start .pre in
-    omega (arith, at-loop .loop .inv .1 .in-text, pre .1 .0 .short)
+    omega (arith, at-loop .loop .inv .1 .in-text, start .pre .1 .0 .short)
 
 eval-star-eval-node-requires : (t : ℕ) → eval-star-lts.Need-eval-node-requires (eval-star-claims t) (eval-star-at t) eval-star.Post eval-star-Inv-loop eval-star-μ-loop
 eval-star-eval-node-requires t c κs =
@@ -705,8 +703,7 @@ eval-star-add-larger : (t : ℕ) → eval-star-lts.Need-add-larger (eval-star-cl
 eval-star-add-larger t c =
     let at-loop : eval-star-place eval-star-lts.At-loop t = search in
     let start : eval-star-place eval-star-lts.Start t = search in
-    let pre = start .pre in
-    omega (arith, c .examined-of .ensures .1, at-loop .loop .inv .1 .in-text, pre .1 .0 .short)
+    omega (arith, c .examined-of .ensures .1, at-loop .loop .inv .1 .in-text, start .pre .1 .0 .short)
 
 eval-star-larger-requires : (t : ℕ) → eval-star-lts.Need-larger-requires (eval-star-claims t) (eval-star-at t) eval-star.Post eval-star-Inv-loop eval-star-μ-loop
 eval-star-larger-requires t c κs = search needs
@@ -796,8 +793,7 @@ eval-star-add-consumed t c =
     let after-examined-of : eval-star-place eval-star-lts.After-examined-of t = search in
     let at-loop : eval-star-place eval-star-lts.At-loop t = search in
     let start : eval-star-place eval-star-lts.Start t = search in
-    let pre = start .pre in
-    omega (arith, after-length-of .length-of .ensures .1, at-loop .loop .inv .1 .in-text, pre .1 .0 .short)
+    omega (arith, after-length-of .length-of .ensures .1, at-loop .loop .inv .1 .in-text, start .pre .1 .0 .short)
 
 eval-star-loop-less : (t : ℕ) → eval-star-lts.Need-loop-less (eval-star-claims t) (eval-star-at t) eval-star.Post eval-star-Inv-loop eval-star-μ-loop
 eval-star-loop-less t c =
@@ -838,8 +834,7 @@ eval-word-byte-between-requires t c κs = search needs
 eval-word-sub-eval-sequence : (t : ℕ) → eval-word-lts.Need-sub-eval-sequence (eval-word-claims t) (eval-word-at t) eval-word.Post
 eval-word-sub-eval-sequence t c =
     let start : eval-word-place eval-word-lts.Start t = search in
-    let pre = start .pre in
-    omega (arith, pre .1 .1)
+    omega (arith, start .pre .1 .1)
 
 eval-word-eval-sequence-requires : (t : ℕ) → eval-word-lts.Need-eval-sequence-requires (eval-word-claims t) (eval-word-at t) eval-word.Post
 eval-word-eval-sequence-requires t c κs =
@@ -851,8 +846,7 @@ eval-word-eval-sequence-requires t c κs =
 eval-word-sub-eval-choice : (t : ℕ) → eval-word-lts.Need-sub-eval-choice (eval-word-claims t) (eval-word-at t) eval-word.Post
 eval-word-sub-eval-choice t c =
     let start : eval-word-place eval-word-lts.Start t = search in
-    let pre = start .pre in
-    omega (arith, pre .1 .1)
+    omega (arith, start .pre .1 .1)
 
 eval-word-eval-choice-requires : (t : ℕ) → eval-word-lts.Need-eval-choice-requires (eval-word-claims t) (eval-word-at t) eval-word.Post
 eval-word-eval-choice-requires t c κs =
@@ -864,8 +858,7 @@ eval-word-eval-choice-requires t c κs =
 eval-word-sub-eval-star : (t : ℕ) → eval-word-lts.Need-sub-eval-star (eval-word-claims t) (eval-word-at t) eval-word.Post
 eval-word-sub-eval-star t c =
     let start : eval-word-place eval-word-lts.Start t = search in
-    let pre = start .pre in
-    omega (arith, pre .1 .1)
+    omega (arith, start .pre .1 .1)
 
 eval-word-eval-star-requires : (t : ℕ) → eval-word-lts.Need-eval-star-requires (eval-word-claims t) (eval-word-at t) eval-word.Post
 eval-word-eval-star-requires t c κs =
@@ -877,8 +870,7 @@ eval-word-eval-star-requires t c κs =
 eval-word-sub-eval-not : (t : ℕ) → eval-word-lts.Need-sub-eval-not (eval-word-claims t) (eval-word-at t) eval-word.Post
 eval-word-sub-eval-not t c =
     let start : eval-word-place eval-word-lts.Start t = search in
-    let pre = start .pre in
-    omega (arith, pre .1 .1)
+    omega (arith, start .pre .1 .1)
 
 eval-word-eval-not-requires : (t : ℕ) → eval-word-lts.Need-eval-not-requires (eval-word-claims t) (eval-word-at t) eval-word.Post
 eval-word-eval-not-requires t c κs =
@@ -890,8 +882,7 @@ eval-word-eval-not-requires t c κs =
 eval-word-sub-eval-call : (t : ℕ) → eval-word-lts.Need-sub-eval-call (eval-word-claims t) (eval-word-at t) eval-word.Post
 eval-word-sub-eval-call t c =
     let start : eval-word-place eval-word-lts.Start t = search in
-    let pre = start .pre in
-    omega (arith, pre .1 .1)
+    omega (arith, start .pre .1 .1)
 
 eval-word-eval-call-requires : (t : ℕ) → eval-word-lts.Need-eval-call-requires (eval-word-claims t) (eval-word-at t) eval-word.Post
 eval-word-eval-call-requires t c κs =
@@ -943,8 +934,7 @@ eval-word-returns-4 t c =
     let after-node-of : eval-word-place eval-word-lts.After-node-of t = search in
     let start : eval-word-place eval-word-lts.Start t = search in
     let a = start .args in
-    let pre = start .pre in
-    word-goes (a .words .now) (a .text .now .now) (a .left) (a .word) (a .at) (a .table .now) (a .count .now) (λ z. let l = pre .1 .1 in omega arith) (word-is (a .word) (after-node-of .node-of .ensures) {k = 3} (omega arith)) (after-eval-sequence .eval-sequence .ensures)
+    word-goes (a .words .now) (a .text .now .now) (a .left) (a .word) (a .at) (a .table .now) (a .count .now) (λ z. let l = start .pre .1 .1 in omega arith) (word-is (a .word) (after-node-of .node-of .ensures) {k = 3} (omega arith)) (after-eval-sequence .eval-sequence .ensures)
 
 eval-word-same-length-2 : (t : ℕ) → eval-word-lts.Need-same-length-2 (eval-word-claims t) (eval-word-at t) eval-word.Post
 eval-word-same-length-2 t c = search needs
@@ -956,8 +946,7 @@ eval-word-returns-5 t c =
     let after-node-of : eval-word-place eval-word-lts.After-node-of t = search in
     let start : eval-word-place eval-word-lts.Start t = search in
     let a = start .args in
-    let pre = start .pre in
-    word-goes (a .words .now) (a .text .now .now) (a .left) (a .word) (a .at) (a .table .now) (a .count .now) (λ z. let l = pre .1 .1 in omega arith) (word-is (a .word) (after-node-of .node-of .ensures) {k = 4} (omega arith)) (after-eval-choice .eval-choice .ensures)
+    word-goes (a .words .now) (a .text .now .now) (a .left) (a .word) (a .at) (a .table .now) (a .count .now) (λ z. let l = start .pre .1 .1 in omega arith) (word-is (a .word) (after-node-of .node-of .ensures) {k = 4} (omega arith)) (after-eval-choice .eval-choice .ensures)
 
 eval-word-same-length-3 : (t : ℕ) → eval-word-lts.Need-same-length-3 (eval-word-claims t) (eval-word-at t) eval-word.Post
 eval-word-same-length-3 t c = search needs
@@ -969,8 +958,7 @@ eval-word-returns-6 t c =
     let after-node-of : eval-word-place eval-word-lts.After-node-of t = search in
     let start : eval-word-place eval-word-lts.Start t = search in
     let a = start .args in
-    let pre = start .pre in
-    word-goes (a .words .now) (a .text .now .now) (a .left) (a .word) (a .at) (a .table .now) (a .count .now) (λ z. let l = pre .1 .1 in omega arith) (word-is (a .word) (after-node-of .node-of .ensures) {k = 5} (omega arith)) (after-eval-star .eval-star .ensures)
+    word-goes (a .words .now) (a .text .now .now) (a .left) (a .word) (a .at) (a .table .now) (a .count .now) (λ z. let l = start .pre .1 .1 in omega arith) (word-is (a .word) (after-node-of .node-of .ensures) {k = 5} (omega arith)) (after-eval-star .eval-star .ensures)
 
 eval-word-same-length-4 : (t : ℕ) → eval-word-lts.Need-same-length-4 (eval-word-claims t) (eval-word-at t) eval-word.Post
 eval-word-same-length-4 t c = search needs
@@ -982,8 +970,7 @@ eval-word-returns-7 t c =
     let after-node-of : eval-word-place eval-word-lts.After-node-of t = search in
     let start : eval-word-place eval-word-lts.Start t = search in
     let a = start .args in
-    let pre = start .pre in
-    word-goes (a .words .now) (a .text .now .now) (a .left) (a .word) (a .at) (a .table .now) (a .count .now) (λ z. let l = pre .1 .1 in omega arith) (word-is (a .word) (after-node-of .node-of .ensures) {k = 6} (omega arith)) (after-eval-not .eval-not .ensures)
+    word-goes (a .words .now) (a .text .now .now) (a .left) (a .word) (a .at) (a .table .now) (a .count .now) (λ z. let l = start .pre .1 .1 in omega arith) (word-is (a .word) (after-node-of .node-of .ensures) {k = 6} (omega arith)) (after-eval-not .eval-not .ensures)
 
 eval-word-same-length-5 : (t : ℕ) → eval-word-lts.Need-same-length-5 (eval-word-claims t) (eval-word-at t) eval-word.Post
 eval-word-same-length-5 t c = search needs
@@ -995,8 +982,7 @@ eval-word-returns-8 t c =
     let after-node-of : eval-word-place eval-word-lts.After-node-of t = search in
     let start : eval-word-place eval-word-lts.Start t = search in
     let a = start .args in
-    let pre = start .pre in
-    call-goes (a .words .now) (a .text .now .now) (a .left) (a .word) (a .at) (a .table .now) (a .count .now) (λ z. let l = pre .1 .1 in omega arith) (after-node-of .node-of .ensures .its-b) (word-is (a .word) (after-node-of .node-of .ensures) {k = 7} (omega arith)) (after-eval-call .eval-call .ensures)
+    call-goes (a .words .now) (a .text .now .now) (a .left) (a .word) (a .at) (a .table .now) (a .count .now) (λ z. let l = start .pre .1 .1 in omega arith) (after-node-of .node-of .ensures .its-b) (word-is (a .word) (after-node-of .node-of .ensures) {k = 7} (omega arith)) (after-eval-call .eval-call .ensures)
 
 eval-word-returns-9 : (t : ℕ) → eval-word-lts.Need-returns-9 (eval-word-claims t) (eval-word-at t) eval-word.Post
 unfolding kindM
@@ -1005,9 +991,8 @@ eval-word-returns-9 t c =
     let after-node-of : eval-word-place eval-word-lts.After-node-of t = search in
     let start : eval-word-place eval-word-lts.Start t = search in
     let a = start .args in
-    let pre = start .pre in
     let k = past-7 (after-node-of .node-of .result .kind) (at-match-rest .match .rest .0 .0 .0 .0 .0 .0 .0 .1) (at-match-rest .match .rest .0 .0 .0 .0 .0 .0 .1) (at-match-rest .match .rest .0 .0 .0 .0 .0 .1) (at-match-rest .match .rest .0 .0 .0 .0 .1) (at-match-rest .match .rest .0 .0 .0 .1) (at-match-rest .match .rest .0 .0 .1) (at-match-rest .match .rest .0 .1) (at-match-rest .match .rest .1) in
-    word-goes (a .words .now) (a .text .now .now) (a .left) (a .word) (a .at) (a .table .now) (a .count .now) (λ z. let l = pre .1 .1 in omega arith) (word-unlawful (a .word) (after-node-of .node-of .ensures) k) (gives-refusal refl (omega arith))
+    word-goes (a .words .now) (a .text .now .now) (a .left) (a .word) (a .at) (a .table .now) (a .count .now) (λ z. let l = start .pre .1 .1 in omega arith) (word-unlawful (a .word) (after-node-of .node-of .ensures) k) (gives-refusal refl (omega arith))
 
 eval-word-returns-10 : (t : ℕ) → eval-word-lts.Need-returns-10 (eval-word-claims t) (eval-word-at t) eval-word.Post
 unfolding kindM
@@ -1016,9 +1001,8 @@ eval-word-returns-10 t c =
     let after-node-of : eval-word-place eval-word-lts.After-node-of t = search in
     let start : eval-word-place eval-word-lts.Start t = search in
     let a = start .args in
-    let pre = start .pre in
     let k = past-7 (after-node-of .node-of .result .kind) (at-match-rest .match .rest .0 .0 .0 .0 .0 .0 .0 .1) (at-match-rest .match .rest .0 .0 .0 .0 .0 .0 .1) (at-match-rest .match .rest .0 .0 .0 .0 .0 .1) (at-match-rest .match .rest .0 .0 .0 .0 .1) (at-match-rest .match .rest .0 .0 .0 .1) (at-match-rest .match .rest .0 .0 .1) (at-match-rest .match .rest .0 .1) (at-match-rest .match .rest .1) in
-    word-goes (a .words .now) (a .text .now .now) (a .left) (a .word) (a .at) (a .table .now) (a .count .now) (λ z. let l = pre .1 .1 in omega arith) (word-unlawful (a .word) (after-node-of .node-of .ensures) k) (gives-refusal refl (omega arith))
+    word-goes (a .words .now) (a .text .now .now) (a .left) (a .word) (a .at) (a .table .now) (a .count .now) (λ z. let l = start .pre .1 .1 in omega arith) (word-unlawful (a .word) (after-node-of .node-of .ensures) k) (gives-refusal refl (omega arith))
 
 pub +eval-call+eval-choice+eval-node+eval-not+eval-rule+eval-sequence+eval-star+eval-word-spec :
     {M : Type 1} → statement M
