@@ -659,6 +659,7 @@ walk-rule-returns-5 t c =
 
 walk-rule-row-word-requires : (t : ℕ) → walk-rule-lts.Need-row-word-requires (walk-rule-claims t) (walk-rule-at t) walk-rule.Post
 walk-rule-row-word-requires t c κs =
+    let after-touched : walk-rule-place walk-rule-lts.After-touched t = search in
     let after-held : walk-rule-place walk-rule-lts.After-held t = search in
     let after-from-word : walk-rule-place walk-rule-lts.After-from-word t = search in
     let else1 : walk-rule-place walk-rule-lts.Else1 t = search in
@@ -679,22 +680,26 @@ walk-rule-put-requires t c κs = search needs
 walk-rule-add-count : (t : ℕ) → walk-rule-lts.Need-add-count (walk-rule-claims t) (walk-rule-at t) walk-rule.Post
 walk-rule-add-count t c =
     let else4 : walk-rule-place walk-rule-lts.Else4 t = search in
-    let after-held : walk-rule-place walk-rule-lts.After-held t = search in
+    let else2 : walk-rule-place walk-rule-lts.Else2 t = search in
+    let else1 : walk-rule-place walk-rule-lts.Else1 t = search in
     let start : walk-rule-place walk-rule-lts.Start t = search in
     let fits = start .fits in
     let f = fits in let a = else4 .if4 .left in omega (arith, a, f)
 
 walk-rule-add-walk-node : (t : ℕ) → walk-rule-lts.Need-add-walk-node (walk-rule-claims t) (walk-rule-at t) walk-rule.Post
 walk-rule-add-walk-node t c =
-    let else4 : walk-rule-place walk-rule-lts.Else4 t = search in
-    let after-held : walk-rule-place walk-rule-lts.After-held t = search in
+    let after-row-word : walk-rule-place walk-rule-lts.After-row-word t = search in
+    let else2 : walk-rule-place walk-rule-lts.Else2 t = search in
+    let else1 : walk-rule-place walk-rule-lts.Else1 t = search in
     let start : walk-rule-place walk-rule-lts.Start t = search in
     omega (arith, start .pre .1 .0 .shallow)
 
 walk-rule-walk-node-requires : (t : ℕ) → walk-rule-lts.Need-walk-node-requires (walk-rule-claims t) (walk-rule-at t) walk-rule.Post
 walk-rule-walk-node-requires t c κs =
+    let after-put : walk-rule-place walk-rule-lts.After-put t = search in
     let else4 : walk-rule-place walk-rule-lts.Else4 t = search in
-    let after-held : walk-rule-place walk-rule-lts.After-held t = search in
+    let else2 : walk-rule-place walk-rule-lts.Else2 t = search in
+    let else1 : walk-rule-place walk-rule-lts.Else1 t = search in
     let start : walk-rule-place walk-rule-lts.Start t = search in
     let pre = start .pre in
     (omega (arith, pre .0), (record { short = (pre .1 .0 .short); here = (pre .1 .0 .here); few = (let a = else4 .if4 .left in omega (arith, a)); shallow = omega (arith, pre .1 .0 .shallow) }, pre .1 .2))

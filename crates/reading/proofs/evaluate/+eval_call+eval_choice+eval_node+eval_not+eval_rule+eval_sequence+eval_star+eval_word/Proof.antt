@@ -298,6 +298,7 @@ eval-choice-returns-2 t c =
 eval-choice-eval-node-requires-2 : (t : ℕ) → eval-choice-lts.Need-eval-node-requires-2 (eval-choice-claims t) (eval-choice-at t) eval-choice.Post
 eval-choice-eval-node-requires-2 t c κs =
     let else1 : eval-choice-place eval-choice-lts.Else1 t = search in
+    let after-eval-node : eval-choice-place eval-choice-lts.After-eval-node t = search in
     let start : eval-choice-place eval-choice-lts.Start t = search in
     let pre = start .pre in
     (omega (arith, pre .0), (record { short = pre .1 .0 .short; here = pre .1 .0 .here; most = omega (arith, pre .1 .0 .most) }, pre .1 .2))
@@ -391,6 +392,7 @@ eval-node-same-length t c = search needs
 eval-node-returns-3 : (t : ℕ) → eval-node-lts.Need-returns-3 (eval-node-claims t) (eval-node-at t) eval-node.Post
 eval-node-returns-3 t c =
     let after-eval-word : eval-node-place eval-node-lts.After-eval-word t = search in
+    let else2 : eval-node-place eval-node-lts.Else2 t = search in
     let else1 : eval-node-place eval-node-lts.Else1 t = search in
     let start : eval-node-place eval-node-lts.Start t = search in
     let a = start .args in
@@ -504,6 +506,7 @@ eval-rule-returns-3 t c =
 
 eval-rule-eval-node-requires : (t : ℕ) → eval-rule-lts.Need-eval-node-requires (eval-rule-claims t) (eval-rule-at t) eval-rule.Post
 eval-rule-eval-node-requires t c κs =
+    let after-look : eval-rule-place eval-rule-lts.After-look t = search in
     let start : eval-rule-place eval-rule-lts.Start t = search in
     let pre = start .pre in
     (omega (arith, pre .0), (pre .1 .0, pre .1 .2))
@@ -701,6 +704,7 @@ eval-star-examined-of-requires t c κs = search needs
 
 eval-star-add-larger : (t : ℕ) → eval-star-lts.Need-add-larger (eval-star-claims t) (eval-star-at t) eval-star.Post eval-star-Inv-loop eval-star-μ-loop
 eval-star-add-larger t c =
+    let after-eval-node : eval-star-place eval-star-lts.After-eval-node t = search in
     let at-loop : eval-star-place eval-star-lts.At-loop t = search in
     let start : eval-star-place eval-star-lts.Start t = search in
     omega (arith, c .examined-of .ensures .1, at-loop .loop .inv .1 .in-text, start .pre .1 .0 .short)
@@ -790,7 +794,8 @@ eval-star-returns-3 t c =
 eval-star-add-consumed : (t : ℕ) → eval-star-lts.Need-add-consumed (eval-star-claims t) (eval-star-at t) eval-star.Post eval-star-Inv-loop eval-star-μ-loop
 eval-star-add-consumed t c =
     let after-length-of : eval-star-place eval-star-lts.After-length-of t = search in
-    let after-examined-of : eval-star-place eval-star-lts.After-examined-of t = search in
+    let after-nesting-of : eval-star-place eval-star-lts.After-nesting-of t = search in
+    let else1 : eval-star-place eval-star-lts.Else1 t = search in
     let at-loop : eval-star-place eval-star-lts.At-loop t = search in
     let start : eval-star-place eval-star-lts.Start t = search in
     omega (arith, after-length-of .length-of .ensures .1, at-loop .loop .inv .1 .in-text, start .pre .1 .0 .short)
@@ -798,6 +803,7 @@ eval-star-add-consumed t c =
 eval-star-loop-less : (t : ℕ) → eval-star-lts.Need-loop-less (eval-star-claims t) (eval-star-at t) eval-star.Post eval-star-Inv-loop eval-star-μ-loop
 eval-star-loop-less t c =
     let after-length-of : eval-star-place eval-star-lts.After-length-of t = search in
+    let after-larger2 : eval-star-place eval-star-lts.After-larger2 t = search in
     let else1 : eval-star-place eval-star-lts.Else1 t = search in
     let after-eval-node : eval-star-place eval-star-lts.After-eval-node t = search in
     let start : eval-star-place eval-star-lts.Start t = search in

@@ -89,6 +89,7 @@ part-list-over-start c = search needs
 
 part-list-over-end : tie.Need-part-list-over-end
 part-list-over-end c =
+    let after-start-over : tie.After-start-over = search in
     let else1 : tie.Else1 = search in
     let after-asked : tie.After-asked = search in
     let start : tie.Start = search in
@@ -101,6 +102,7 @@ part-list-over-end c =
 
 list-over-requires : tie.Need-list-over-requires
 list-over-requires c κs =
+    let after-start-over : tie.After-start-over = search in
     let else1 : tie.Else1 = search in
     let after-asked : tie.After-asked = search in
     let start : tie.Start = search in
@@ -124,6 +126,7 @@ stopped-requires : tie.Need-stopped-requires
 stopped-requires c κs =
     let after-k : tie.After-k = search in
     let after-list-over : tie.After-list-over = search in
+    let else2 : tie.Else2 = search in
     let after-start-over : tie.After-start-over = search in
     let else1 : tie.Else1 = search in
     let after-asked : tie.After-asked = search in
