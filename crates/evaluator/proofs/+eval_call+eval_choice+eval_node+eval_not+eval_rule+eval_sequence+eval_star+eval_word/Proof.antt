@@ -24,7 +24,7 @@ use borrow.Author.Tests.{not-true, not-false}
 use native.Mathlib.Omega.{arith}
 use Prim.Native.Nat.{ℕ, suc, _+_, _*_, _-_, _<_}
 use borrow.Author.Needs.{needs}
-use borrow.Fn.Kinds.{In}
+use borrow.Fn.Kinds.{In, Out}
 use borrow.Fn.PlainCycle.{Measures, is, falls, and}
 use Rattle.evaluator.proofs.eval_call.Reads as eval-call
 use Rattle.evaluator.proofs.eval_call.Kinds as eval-call-kinds
@@ -175,20 +175,38 @@ eval-word-below t =
 abbrev eval-call-claims : ℕ → eval-call-lts.Claims
 eval-call-claims t = (eval-rule-below t, eval-rule.Post, taken-over-reads.Asked, taken-over-reads.Learnt)
 
+abbrev eval-call-place : (eval-call-lts.Claims → In 5 eval-call-kinds.ps → Out 5 eval-call-kinds.ps eval-call-kinds.r → Type 0) → ℕ → Type 0
+eval-call-place place t = place (eval-call-claims t) (eval-call-at t) eval-call.Post
+
 abbrev eval-choice-claims : ℕ → eval-choice-lts.Claims
 eval-choice-claims t = (eval-node-below t, eval-node.Post, matched-of-reads.Asked, matched-of-reads.Learnt, taken-over-reads.Asked, taken-over-reads.Learnt, second-choice-reads.Asked, second-choice-reads.Learnt)
+
+abbrev eval-choice-place : (eval-choice-lts.Claims → In 5 eval-choice-kinds.ps → Out 5 eval-choice-kinds.ps eval-choice-kinds.r → Type 0) → ℕ → Type 0
+eval-choice-place place t = place (eval-choice-claims t) (eval-choice-at t) eval-choice.Post
 
 abbrev eval-node-claims : ℕ → eval-node-lts.Claims
 eval-node-claims t = (node-of-reads.Asked, node-of-reads.Learnt, byte-between-reads.Asked, byte-between-reads.Learnt, eval-word-below t, eval-word.Post)
 
+abbrev eval-node-place : (eval-node-lts.Claims → In 5 eval-node-kinds.ps → Out 5 eval-node-kinds.ps eval-node-kinds.r → Type 0) → ℕ → Type 0
+eval-node-place place t = place (eval-node-claims t) (eval-node-at t) eval-node.Post
+
 abbrev eval-not-claims : ℕ → eval-not-lts.Claims
 eval-not-claims t = (eval-node-below t, eval-node.Post, negated-answer-reads.Asked, negated-answer-reads.Learnt)
+
+abbrev eval-not-place : (eval-not-lts.Claims → In 5 eval-not-kinds.ps → Out 5 eval-not-kinds.ps eval-not-kinds.r → Type 0) → ℕ → Type 0
+eval-not-place place t = place (eval-not-claims t) (eval-not-at t) eval-not.Post
 
 abbrev eval-rule-claims : ℕ → eval-rule-lts.Claims
 eval-rule-claims t = (rules-in-reads.Asked, rules-in-reads.Learnt, look-reads.Asked, look-reads.Learnt, is-held-reads.Asked, is-held-reads.Learnt, from-word-reads.Asked, from-word-reads.Learnt, word-reads.Asked, word-reads.Learnt, eval-node-below t, eval-node.Post, put-reads.Asked, put-reads.Learnt, wrapping-add-u64-reads.Asked, wrapping-add-u64-reads.Learnt)
 
+abbrev eval-rule-place : (eval-rule-lts.Claims → In 5 eval-rule-kinds.ps → Out 5 eval-rule-kinds.ps eval-rule-kinds.r → Type 0) → ℕ → Type 0
+eval-rule-place place t = place (eval-rule-claims t) (eval-rule-at t) eval-rule.Post
+
 abbrev eval-sequence-claims : ℕ → eval-sequence-lts.Claims
 eval-sequence-claims t = (eval-node-below t, eval-node.Post, matched-of-reads.Asked, matched-of-reads.Learnt, first-failed-reads.Asked, first-failed-reads.Learnt, length-of-reads.Asked, length-of-reads.Learnt, in-sequence-reads.Asked, in-sequence-reads.Learnt)
+
+abbrev eval-sequence-place : (eval-sequence-lts.Claims → In 5 eval-sequence-kinds.ps → Out 5 eval-sequence-kinds.ps eval-sequence-kinds.r → Type 0) → ℕ → Type 0
+eval-sequence-place place t = place (eval-sequence-claims t) (eval-sequence-at t) eval-sequence.Post
 
 abbrev eval-star-claims : ℕ → eval-star-lts.Claims
 eval-star-claims t = (eval-node-below t, eval-node.Post, examined-of-reads.Asked, examined-of-reads.Learnt, larger-reads.Asked, larger-reads.Learnt, nesting-of-reads.Asked, nesting-of-reads.Learnt, matched-of-reads.Asked, matched-of-reads.Learnt, answer-reads.Asked, answer-reads.Learnt, length-of-reads.Asked, length-of-reads.Learnt)
@@ -196,9 +214,13 @@ eval-star-claims t = (eval-node-below t, eval-node.Post, examined-of-reads.Asked
 abbrev eval-word-claims : ℕ → eval-word-lts.Claims
 eval-word-claims t = (node-of-reads.Asked, node-of-reads.Learnt, any-byte-reads.Asked, any-byte-reads.Learnt, byte-between-reads.Asked, byte-between-reads.Learnt, eval-sequence-below t, eval-sequence.Post, eval-choice-below t, eval-choice.Post, eval-star-below t, eval-star.Post, eval-not-below t, eval-not.Post, eval-call-below t, eval-call.Post)
 
+abbrev eval-word-place : (eval-word-lts.Claims → In 5 eval-word-kinds.ps → Out 5 eval-word-kinds.ps eval-word-kinds.r → Type 0) → ℕ → Type 0
+eval-word-place place t = place (eval-word-claims t) (eval-word-at t) eval-word.Post
+
 eval-call-eval-rule-requires : (t : ℕ) → eval-call-lts.Need-eval-rule-requires (eval-call-claims t) (eval-call-at t) eval-call.Post
 eval-call-eval-rule-requires t c κs =
-    let pre = c .before .before .before .pre in
+    let start : eval-call-place eval-call-lts.Start t = search in
+    let pre = start .pre in
     (omega (arith, pre .0), (record { short = pre .1 .0 .short; here = pre .1 .0 .here; most = omega (arith, pre .1 .0 .most) }, pre .1 .1, pre .1 .2))
 
 eval-call-same-length : (t : ℕ) → eval-call-lts.Need-same-length (eval-call-claims t) (eval-call-at t) eval-call.Post
@@ -206,29 +228,35 @@ eval-call-same-length t c = search needs
 
 eval-call-returns : (t : ℕ) → eval-call-lts.Need-returns (eval-call-claims t) (eval-call-at t) eval-call.Post
 eval-call-returns t c =
-    let a = c .before .before .before .before .before .before .before .args in
-    let pre = c .before .before .before .before .before .before .before .pre in
-    call-refused (a .text .now .now) (nodeW (a .words .now) (a .text .now .now) (a .left)) (pairM (rulesIn (a .words .now)) (a .root) (a .text .now .now) (nodeW (a .words .now) (a .text .now .now) (a .left)) (a .left)) (a .table .now) (a .count .now) (pre .1 .0 .short) (pre .1 .0 .most) (a .rule) (c .before .before .before .eval-rule .ensures) (c .if1 .taken)
+    let after-eval-rule : eval-call-place eval-call-lts.After-eval-rule t = search in
+    let start : eval-call-place eval-call-lts.Start t = search in
+    let a = start .args in
+    let pre = start .pre in
+    call-refused (a .text .now .now) (nodeW (a .words .now) (a .text .now .now) (a .left)) (pairM (rulesIn (a .words .now)) (a .root) (a .text .now .now) (nodeW (a .words .now) (a .text .now .now) (a .left)) (a .left)) (a .table .now) (a .count .now) (pre .1 .0 .short) (pre .1 .0 .most) (a .rule) (after-eval-rule .eval-rule .ensures) (c .if1 .taken)
 
 eval-call-taken-over-requires : (t : ℕ) → eval-call-lts.Need-taken-over-requires (eval-call-claims t) (eval-call-at t) eval-call.Post
 eval-call-taken-over-requires t c κs =
-    let pre = c .before .before .before .before .before .before .before .pre in
-    let x = c .before .before .before .eval-rule in
-    (says-itself (pre .1 .0 .short) (omega (arith, pre .1 .0 .most)) (x .ensures) (c .if1 .left), omega (arith, nesting-allowed (pre .1 .0 .short) (omega (arith, pre .1 .0 .most)) (x .ensures) (c .if1 .left), pre .1 .0 .most))
+    let after-eval-rule : eval-call-place eval-call-lts.After-eval-rule t = search in
+    let start : eval-call-place eval-call-lts.Start t = search in
+    let pre = start .pre in
+    (says-itself (pre .1 .0 .short) (omega (arith, pre .1 .0 .most)) (after-eval-rule .eval-rule .ensures) (c .if1 .left), omega (arith, nesting-allowed (pre .1 .0 .short) (omega (arith, pre .1 .0 .most)) (after-eval-rule .eval-rule .ensures) (c .if1 .left), pre .1 .0 .most))
 
 eval-call-same-length-2 : (t : ℕ) → eval-call-lts.Need-same-length-2 (eval-call-claims t) (eval-call-at t) eval-call.Post
 eval-call-same-length-2 t c = search needs
 
 eval-call-returns-2 : (t : ℕ) → eval-call-lts.Need-returns-2 (eval-call-claims t) (eval-call-at t) eval-call.Post
 eval-call-returns-2 t c =
-    let a = c .before .before .before .before .before .before .before .before .args in
-    let pre = c .before .before .before .before .before .before .before .before .pre in
-    let x = c .before .before .before .before .eval-rule in
-    call-answered (a .text .now .now) (nodeW (a .words .now) (a .text .now .now) (a .left)) (pairM (rulesIn (a .words .now)) (a .root) (a .text .now .now) (nodeW (a .words .now) (a .text .now .now) (a .left)) (a .left)) (a .table .now) (a .count .now) (pre .1 .0 .short) (pre .1 .0 .most) (a .rule) (x .ensures) (c .before .if1 .left) (c .taken-over .ensures)
+    let else1 : eval-call-place eval-call-lts.Else1 t = search in
+    let after-eval-rule : eval-call-place eval-call-lts.After-eval-rule t = search in
+    let start : eval-call-place eval-call-lts.Start t = search in
+    let a = start .args in
+    let pre = start .pre in
+    call-answered (a .text .now .now) (nodeW (a .words .now) (a .text .now .now) (a .left)) (pairM (rulesIn (a .words .now)) (a .root) (a .text .now .now) (nodeW (a .words .now) (a .text .now .now) (a .left)) (a .left)) (a .table .now) (a .count .now) (pre .1 .0 .short) (pre .1 .0 .most) (a .rule) (after-eval-rule .eval-rule .ensures) (else1 .if1 .left) (c .taken-over .ensures)
 
 eval-choice-eval-node-requires : (t : ℕ) → eval-choice-lts.Need-eval-node-requires (eval-choice-claims t) (eval-choice-at t) eval-choice.Post
 eval-choice-eval-node-requires t c κs =
-    let pre = c .before .before .before .pre in
+    let start : eval-choice-place eval-choice-lts.Start t = search in
+    let pre = start .pre in
     (omega (arith, pre .0), (record { short = pre .1 .0 .short; here = pre .1 .0 .here; most = omega (arith, pre .1 .0 .most) }, pre .1 .1))
 
 eval-choice-same-length : (t : ℕ) → eval-choice-lts.Need-same-length (eval-choice-claims t) (eval-choice-at t) eval-choice.Post
@@ -236,33 +264,43 @@ eval-choice-same-length t c = search needs
 
 eval-choice-returns : (t : ℕ) → eval-choice-lts.Need-returns (eval-choice-claims t) (eval-choice-at t) eval-choice.Post
 eval-choice-returns t c =
-    let a = c .before .before .before .before .before .before .before .args in
-    let pre = c .before .before .before .before .before .before .before .pre in
-    choice-refused (a .text .now .now) (nodeW (a .words .now) (a .text .now .now) (a .left)) (pairM (rulesIn (a .words .now)) (a .b) (a .text .now .now) (nodeW (a .words .now) (a .text .now .now) (a .left)) (a .left)) (a .table .now) (a .count .now) (pre .1 .0 .short) (pre .1 .0 .most) (a .a) (a .b) (c .before .before .before .eval-node .ensures) (c .if1 .taken)
+    let after-eval-node : eval-choice-place eval-choice-lts.After-eval-node t = search in
+    let start : eval-choice-place eval-choice-lts.Start t = search in
+    let a = start .args in
+    let pre = start .pre in
+    choice-refused (a .text .now .now) (nodeW (a .words .now) (a .text .now .now) (a .left)) (pairM (rulesIn (a .words .now)) (a .b) (a .text .now .now) (nodeW (a .words .now) (a .text .now .now) (a .left)) (a .left)) (a .table .now) (a .count .now) (pre .1 .0 .short) (pre .1 .0 .most) (a .a) (a .b) (after-eval-node .eval-node .ensures) (c .if1 .taken)
 
 eval-choice-matched-of-requires : (t : ℕ) → eval-choice-lts.Need-matched-of-requires (eval-choice-claims t) (eval-choice-at t) eval-choice.Post
 eval-choice-matched-of-requires t c κs = search needs
 
 eval-choice-taken-over-requires : (t : ℕ) → eval-choice-lts.Need-taken-over-requires (eval-choice-claims t) (eval-choice-at t) eval-choice.Post
 eval-choice-taken-over-requires t c κs =
-    let pre = c .before .before .before .before .before .before .before .before .before .pre in
-    let x = c .before .before .before .before .before .eval-node in
-    let if1 = c .before .before .if1 in
-    (says-itself (pre .1 .0 .short) (omega (arith, pre .1 .0 .most)) (x .ensures) (if1 .left), omega (arith, nesting-allowed (pre .1 .0 .short) (omega (arith, pre .1 .0 .most)) (x .ensures) (if1 .left), pre .1 .0 .most))
+    let else1 : eval-choice-place eval-choice-lts.Else1 t = search in
+    let after-eval-node : eval-choice-place eval-choice-lts.After-eval-node t = search in
+    let start : eval-choice-place eval-choice-lts.Start t = search in
+    let pre = start .pre in
+    (says-itself (pre .1 .0 .short) (omega (arith, pre .1 .0 .most)) (after-eval-node .eval-node .ensures) (else1 .if1 .left), omega (arith, nesting-allowed (pre .1 .0 .short) (omega (arith, pre .1 .0 .most)) (after-eval-node .eval-node .ensures) (else1 .if1 .left), pre .1 .0 .most))
 
 eval-choice-same-length-2 : (t : ℕ) → eval-choice-lts.Need-same-length-2 (eval-choice-claims t) (eval-choice-at t) eval-choice.Post
 eval-choice-same-length-2 t c = search needs
 
 eval-choice-returns-2 : (t : ℕ) → eval-choice-lts.Need-returns-2 (eval-choice-claims t) (eval-choice-at t) eval-choice.Post
 eval-choice-returns-2 t c =
-    let a = c .before .before .before .before .before .before .before .before .before .before .args in
-    let pre = c .before .before .before .before .before .before .before .before .before .before .pre in
-    let x = c .before .before .before .before .before .before .eval-node in
-    choice-first (a .text .now .now) (nodeW (a .words .now) (a .text .now .now) (a .left)) (pairM (rulesIn (a .words .now)) (a .b) (a .text .now .now) (nodeW (a .words .now) (a .text .now .now) (a .left)) (a .left)) (a .table .now) (a .count .now) (pre .1 .0 .short) (pre .1 .0 .most) (a .a) (a .b) (x .ensures) (c .before .before .before .if1 .left) (sym (c .before .before .matched-of .ensures) ∙ c .before .if2 .taken) (c .taken-over .ensures)
+    let then2 : eval-choice-place eval-choice-lts.Then2 t = search in
+    let after-matched-of : eval-choice-place eval-choice-lts.After-matched-of t = search in
+    let else1 : eval-choice-place eval-choice-lts.Else1 t = search in
+    let after-eval-node : eval-choice-place eval-choice-lts.After-eval-node t = search in
+    let start : eval-choice-place eval-choice-lts.Start t = search in
+    let a = start .args in
+    let pre = start .pre in
+    choice-first (a .text .now .now) (nodeW (a .words .now) (a .text .now .now) (a .left)) (pairM (rulesIn (a .words .now)) (a .b) (a .text .now .now) (nodeW (a .words .now) (a .text .now .now) (a .left)) (a .left)) (a .table .now) (a .count .now) (pre .1 .0 .short) (pre .1 .0 .most) (a .a) (a .b) (after-eval-node .eval-node .ensures) (else1 .if1 .left) (sym (after-matched-of .matched-of .ensures) ∙ then2 .if2 .taken) (c .taken-over .ensures)
 
 eval-choice-eval-node-requires-2 : (t : ℕ) → eval-choice-lts.Need-eval-node-requires-2 (eval-choice-claims t) (eval-choice-at t) eval-choice.Post
 eval-choice-eval-node-requires-2 t c κs =
-    let pre = c .before .before .before .before .before .before .before .before .before .before .before .pre in
+    let else1 : eval-choice-place eval-choice-lts.Else1 t = search in
+    let after-eval-node : eval-choice-place eval-choice-lts.After-eval-node t = search in
+    let start : eval-choice-place eval-choice-lts.Start t = search in
+    let pre = start .pre in
     (omega (arith, pre .0), (record { short = pre .1 .0 .short; here = pre .1 .0 .here; most = omega (arith, pre .1 .0 .most) }, pre .1 .2))
 
 eval-choice-same-length-3 : (t : ℕ) → eval-choice-lts.Need-same-length-3 (eval-choice-claims t) (eval-choice-at t) eval-choice.Post
@@ -270,47 +308,56 @@ eval-choice-same-length-3 t c = search needs
 
 eval-choice-returns-3 : (t : ℕ) → eval-choice-lts.Need-returns-3 (eval-choice-claims t) (eval-choice-at t) eval-choice.Post
 eval-choice-returns-3 t c =
-    let a = c .before .before .before .before .before .before .before .before .before .before .before .before .before .before .before .args in
-    let pre = c .before .before .before .before .before .before .before .before .before .before .before .before .before .before .before .pre in
-    let x = c .before .before .before .before .before .before .before .before .before .before .before .eval-node in
-    let if1 = c .before .before .before .before .before .before .before .before .if1 in
-    let matched-of = c .before .before .before .before .before .before .before .matched-of in
-    let if2 = c .before .before .before .before .before .before .if2 in
-    choice-second-refused (a .text .now .now) (nodeW (a .words .now) (a .text .now .now) (a .left)) (pairM (rulesIn (a .words .now)) (a .b) (a .text .now .now) (nodeW (a .words .now) (a .text .now .now) (a .left)) (a .left)) (a .table .now) (a .count .now) (pre .1 .0 .short) (pre .1 .0 .most) (a .a) (a .b) (x .ensures) (if1 .left) (sym (matched-of .ensures) ∙ if2 .left) (c .before .before .before .eval-node2 .ensures) (c .if3 .taken)
+    let after-eval-node2 : eval-choice-place eval-choice-lts.After-eval-node2 t = search in
+    let else2 : eval-choice-place eval-choice-lts.Else2 t = search in
+    let after-matched-of : eval-choice-place eval-choice-lts.After-matched-of t = search in
+    let else1 : eval-choice-place eval-choice-lts.Else1 t = search in
+    let after-eval-node : eval-choice-place eval-choice-lts.After-eval-node t = search in
+    let start : eval-choice-place eval-choice-lts.Start t = search in
+    let a = start .args in
+    let pre = start .pre in
+    choice-second-refused (a .text .now .now) (nodeW (a .words .now) (a .text .now .now) (a .left)) (pairM (rulesIn (a .words .now)) (a .b) (a .text .now .now) (nodeW (a .words .now) (a .text .now .now) (a .left)) (a .left)) (a .table .now) (a .count .now) (pre .1 .0 .short) (pre .1 .0 .most) (a .a) (a .b) (after-eval-node .eval-node .ensures) (else1 .if1 .left) (sym (after-matched-of .matched-of .ensures) ∙ else2 .if2 .left) (after-eval-node2 .eval-node2 .ensures) (c .if3 .taken)
 
 eval-choice-second-choice-requires : (t : ℕ) → eval-choice-lts.Need-second-choice-requires (eval-choice-claims t) (eval-choice-at t) eval-choice.Post
 eval-choice-second-choice-requires t c κs =
-    let pre = c .before .before .before .before .before .before .before .before .before .before .before .before .before .before .before .pre in
-    let x = c .before .before .before .before .before .before .before .before .before .before .before .eval-node in
-    let if1 = c .before .before .before .before .before .before .before .before .if1 in
-    (omega (arith, nesting-allowed (pre .1 .0 .short) (omega (arith, pre .1 .0 .most)) (x .ensures) (if1 .left), pre .1 .0 .most), omega (arith, nesting-allowed (pre .1 .0 .short) (omega (arith, pre .1 .0 .most)) (c .before .before .before .eval-node2 .ensures) (c .if3 .left), pre .1 .0 .most))
+    let after-eval-node2 : eval-choice-place eval-choice-lts.After-eval-node2 t = search in
+    let else1 : eval-choice-place eval-choice-lts.Else1 t = search in
+    let after-eval-node : eval-choice-place eval-choice-lts.After-eval-node t = search in
+    let start : eval-choice-place eval-choice-lts.Start t = search in
+    let pre = start .pre in
+    (omega (arith, nesting-allowed (pre .1 .0 .short) (omega (arith, pre .1 .0 .most)) (after-eval-node .eval-node .ensures) (else1 .if1 .left), pre .1 .0 .most), omega (arith, nesting-allowed (pre .1 .0 .short) (omega (arith, pre .1 .0 .most)) (after-eval-node2 .eval-node2 .ensures) (c .if3 .left), pre .1 .0 .most))
 
 eval-choice-same-length-4 : (t : ℕ) → eval-choice-lts.Need-same-length-4 (eval-choice-claims t) (eval-choice-at t) eval-choice.Post
 eval-choice-same-length-4 t c = search needs
 
 eval-choice-returns-4 : (t : ℕ) → eval-choice-lts.Need-returns-4 (eval-choice-claims t) (eval-choice-at t) eval-choice.Post
 eval-choice-returns-4 t c =
-    let a = c .before .before .before .before .before .before .before .before .before .before .before .before .before .before .before .before .args in
-    let pre = c .before .before .before .before .before .before .before .before .before .before .before .before .before .before .before .before .pre in
-    let x = c .before .before .before .before .before .before .before .before .before .before .before .before .eval-node in
-    let if1 = c .before .before .before .before .before .before .before .before .before .if1 in
-    let matched-of = c .before .before .before .before .before .before .before .before .matched-of in
-    let if2 = c .before .before .before .before .before .before .before .if2 in
-    let y = c .before .before .before .before .eval-node2 in
-    choice-second (a .text .now .now) (nodeW (a .words .now) (a .text .now .now) (a .left)) (pairM (rulesIn (a .words .now)) (a .b) (a .text .now .now) (nodeW (a .words .now) (a .text .now .now) (a .left)) (a .left)) (a .table .now) (a .count .now) (pre .1 .0 .short) (pre .1 .0 .most) (a .a) (a .b) (x .ensures) (if1 .left) (sym (matched-of .ensures) ∙ if2 .left) (y .ensures) (c .before .if3 .left) (c .second-choice .ensures)
+    let else3 : eval-choice-place eval-choice-lts.Else3 t = search in
+    let after-eval-node2 : eval-choice-place eval-choice-lts.After-eval-node2 t = search in
+    let else2 : eval-choice-place eval-choice-lts.Else2 t = search in
+    let after-matched-of : eval-choice-place eval-choice-lts.After-matched-of t = search in
+    let else1 : eval-choice-place eval-choice-lts.Else1 t = search in
+    let after-eval-node : eval-choice-place eval-choice-lts.After-eval-node t = search in
+    let start : eval-choice-place eval-choice-lts.Start t = search in
+    let a = start .args in
+    let pre = start .pre in
+    choice-second (a .text .now .now) (nodeW (a .words .now) (a .text .now .now) (a .left)) (pairM (rulesIn (a .words .now)) (a .b) (a .text .now .now) (nodeW (a .words .now) (a .text .now .now) (a .left)) (a .left)) (a .table .now) (a .count .now) (pre .1 .0 .short) (pre .1 .0 .most) (a .a) (a .b) (after-eval-node .eval-node .ensures) (else1 .if1 .left) (sym (after-matched-of .matched-of .ensures) ∙ else2 .if2 .left) (after-eval-node2 .eval-node2 .ensures) (else3 .if3 .left) (c .second-choice .ensures)
 
 eval-node-returns : (t : ℕ) → eval-node-lts.Need-returns (eval-node-claims t) (eval-node-at t) eval-node.Post
 eval-node-returns t c =
-    let a = c .before .before .args in
+    let start : eval-node-place eval-node-lts.Start t = search in
+    let a = start .args in
     node-too-deep (a .words .now) (a .text .now .now) (a .left) (a .node) (a .at) (a .table .now) (a .count .now) (c .if1 .taken)
 
 eval-node-mul-word : (t : ℕ) → eval-node-lts.Need-mul-word (eval-node-claims t) (eval-node-at t) eval-node.Post
 eval-node-mul-word t c =
-    omega (arith, c .before .before .pre .1 .1)
+    let start : eval-node-place eval-node-lts.Start t = search in
+    omega (arith, start .pre .1 .1)
 
 eval-node-element-copy-out-word : (t : ℕ) → eval-node-lts.Need-element-copy-out-word (eval-node-claims t) (eval-node-at t) eval-node.Post
 eval-node-element-copy-out-word t c =
-    omega (arith, c .before .before .pre .1 .1)
+    let start : eval-node-place eval-node-lts.Start t = search in
+    omega (arith, start .pre .1 .1)
 
 eval-node-node-of-requires : (t : ℕ) → eval-node-lts.Need-node-of-requires (eval-node-claims t) (eval-node-at t) eval-node.Post
 eval-node-node-of-requires t c κs = search needs
@@ -321,34 +368,40 @@ eval-node-byte-between-requires t c κs = search needs
 eval-node-returns-2 : (t : ℕ) → eval-node-lts.Need-returns-2 (eval-node-claims t) (eval-node-at t) eval-node.Post
 unfolding kindM
 eval-node-returns-2 t c =
-    let a = c .before .before .before .before .before .before .before .before .args in
-    let pre = c .before .before .before .before .before .before .before .before .pre in
-    let if1 = c .before .before .before .before .before .before .if1 in
-    let node-of = c .before .before .before .before .node-of in
-    let s = shape (byteRange (node-of .result)) (a .text .now .now) (a .at) (pre .1 .0 .here) in
-    node-goes (a .words .now) (a .text .now .now) (a .left) (a .node) (a .at) (a .table .now) (a .count .now) (if1 .left) (word-goes (a .words .now) (a .text .now .now) (a .left) (getD (a .words .now) (a .node) 0) (a .at) (a .table .now) (a .count .now) (if1 .left) (word-is (getD (a .words .now) (a .node) 0) (node-of .ensures) (is-range _ (c .before .before .if2 .taken)))
-    (gives-value (terminalAt (byteRange (node-of .result)) (a .text .now .now) (a .at)) refl (c .byte-between .ensures)
+    let then2 : eval-node-place eval-node-lts.Then2 t = search in
+    let after-node-of : eval-node-place eval-node-lts.After-node-of t = search in
+    let else1 : eval-node-place eval-node-lts.Else1 t = search in
+    let start : eval-node-place eval-node-lts.Start t = search in
+    let a = start .args in
+    let s = shape (byteRange (after-node-of .node-of .result)) (a .text .now .now) (a .at) (start .pre .1 .0 .here) in
+    node-goes (a .words .now) (a .text .now .now) (a .left) (a .node) (a .at) (a .table .now) (a .count .now) (else1 .if1 .left) (word-goes (a .words .now) (a .text .now .now) (a .left) (getD (a .words .now) (a .node) 0) (a .at) (a .table .now) (a .count .now) (else1 .if1 .left) (word-is (getD (a .words .now) (a .node) 0) (after-node-of .node-of .ensures) (is-range _ (then2 .if2 .taken)))
+    (gives-value (terminalAt (byteRange (after-node-of .node-of .result)) (a .text .now .now) (a .at)) refl (c .byte-between .ensures)
     (record { in-text = s .in-text; up-to-end = s .up-to-end; in-examined = s .in-examined; failure = s .failure; nested = omega (arith, s .flat) })
     (omega (arith, s .flat))))
 
 eval-node-eval-word-requires : (t : ℕ) → eval-node-lts.Need-eval-word-requires (eval-node-claims t) (eval-node-at t) eval-node.Post
 eval-node-eval-word-requires t c κs =
-    let pre = c .before .before .before .before .before .before .before .before .pre in
-    let if1 = c .before .before .before .before .before .before .if1 in
-    (omega (arith, pre .0), (pre .1 .0, let ne = if1 .left in omega (arith, ne)))
+    let else1 : eval-node-place eval-node-lts.Else1 t = search in
+    let start : eval-node-place eval-node-lts.Start t = search in
+    let pre = start .pre in
+    (omega (arith, pre .0), (pre .1 .0, let ne = else1 .if1 .left in omega (arith, ne)))
 
 eval-node-same-length : (t : ℕ) → eval-node-lts.Need-same-length (eval-node-claims t) (eval-node-at t) eval-node.Post
 eval-node-same-length t c = search needs
 
 eval-node-returns-3 : (t : ℕ) → eval-node-lts.Need-returns-3 (eval-node-claims t) (eval-node-at t) eval-node.Post
 eval-node-returns-3 t c =
-    let a = c .before .before .before .before .before .before .before .before .before .before .before .args in
-    let if1 = c .before .before .before .before .before .before .before .before .before .if1 in
-    node-goes (a .words .now) (a .text .now .now) (a .left) (a .node) (a .at) (a .table .now) (a .count .now) (if1 .left) (c .before .before .eval-word .ensures)
+    let after-eval-word : eval-node-place eval-node-lts.After-eval-word t = search in
+    let else2 : eval-node-place eval-node-lts.Else2 t = search in
+    let else1 : eval-node-place eval-node-lts.Else1 t = search in
+    let start : eval-node-place eval-node-lts.Start t = search in
+    let a = start .args in
+    node-goes (a .words .now) (a .text .now .now) (a .left) (a .node) (a .at) (a .table .now) (a .count .now) (else1 .if1 .left) (after-eval-word .eval-word .ensures)
 
 eval-not-eval-node-requires : (t : ℕ) → eval-not-lts.Need-eval-node-requires (eval-not-claims t) (eval-not-at t) eval-not.Post
 eval-not-eval-node-requires t c κs =
-    let pre = c .before .before .before .pre in
+    let start : eval-not-place eval-not-lts.Start t = search in
+    let pre = start .pre in
     (omega (arith, pre .0), (record { short = pre .1 .0 .short; here = pre .1 .0 .here; most = omega (arith, pre .1 .0 .most) }, pre .1 .1))
 
 eval-not-same-length : (t : ℕ) → eval-not-lts.Need-same-length (eval-not-claims t) (eval-not-at t) eval-not.Post
@@ -356,24 +409,30 @@ eval-not-same-length t c = search needs
 
 eval-not-returns : (t : ℕ) → eval-not-lts.Need-returns (eval-not-claims t) (eval-not-at t) eval-not.Post
 eval-not-returns t c =
-    let a = c .before .before .before .before .before .before .before .args in
-    let pre = c .before .before .before .before .before .before .before .pre in
-    not-refused (a .text .now .now) (nodeW (a .words .now) (a .text .now .now) (a .left)) (pairM (rulesIn (a .words .now)) 0 (a .text .now .now) (nodeW (a .words .now) (a .text .now .now) (a .left)) (a .left)) (a .table .now) (a .count .now) (pre .1 .0 .short) (pre .1 .0 .most) (a .a) (c .before .before .before .eval-node .ensures) (c .if1 .taken)
+    let after-eval-node : eval-not-place eval-not-lts.After-eval-node t = search in
+    let start : eval-not-place eval-not-lts.Start t = search in
+    let a = start .args in
+    let pre = start .pre in
+    not-refused (a .text .now .now) (nodeW (a .words .now) (a .text .now .now) (a .left)) (pairM (rulesIn (a .words .now)) 0 (a .text .now .now) (nodeW (a .words .now) (a .text .now .now) (a .left)) (a .left)) (a .table .now) (a .count .now) (pre .1 .0 .short) (pre .1 .0 .most) (a .a) (after-eval-node .eval-node .ensures) (c .if1 .taken)
 
 eval-not-negated-answer-requires : (t : ℕ) → eval-not-lts.Need-negated-answer-requires (eval-not-claims t) (eval-not-at t) eval-not.Post
 eval-not-negated-answer-requires t c κs =
-    let pre = c .before .before .before .before .before .before .before .pre in
-    omega (arith, nesting-allowed (pre .1 .0 .short) (omega (arith, pre .1 .0 .most)) (c .before .before .before .eval-node .ensures) (c .if1 .left), pre .1 .0 .most)
+    let after-eval-node : eval-not-place eval-not-lts.After-eval-node t = search in
+    let start : eval-not-place eval-not-lts.Start t = search in
+    let pre = start .pre in
+    omega (arith, nesting-allowed (pre .1 .0 .short) (omega (arith, pre .1 .0 .most)) (after-eval-node .eval-node .ensures) (c .if1 .left), pre .1 .0 .most)
 
 eval-not-same-length-2 : (t : ℕ) → eval-not-lts.Need-same-length-2 (eval-not-claims t) (eval-not-at t) eval-not.Post
 eval-not-same-length-2 t c = search needs
 
 eval-not-returns-2 : (t : ℕ) → eval-not-lts.Need-returns-2 (eval-not-claims t) (eval-not-at t) eval-not.Post
 eval-not-returns-2 t c =
-    let a = c .before .before .before .before .before .before .before .before .args in
-    let pre = c .before .before .before .before .before .before .before .before .pre in
-    let x = c .before .before .before .before .eval-node in
-    not-answered (a .text .now .now) (nodeW (a .words .now) (a .text .now .now) (a .left)) (pairM (rulesIn (a .words .now)) 0 (a .text .now .now) (nodeW (a .words .now) (a .text .now .now) (a .left)) (a .left)) (a .table .now) (a .count .now) (pre .1 .0 .short) (pre .1 .0 .most) (a .a) (x .ensures) (c .before .if1 .left) (c .negated-answer .ensures)
+    let else1 : eval-not-place eval-not-lts.Else1 t = search in
+    let after-eval-node : eval-not-place eval-not-lts.After-eval-node t = search in
+    let start : eval-not-place eval-not-lts.Start t = search in
+    let a = start .args in
+    let pre = start .pre in
+    not-answered (a .text .now .now) (nodeW (a .words .now) (a .text .now .now) (a .left)) (pairM (rulesIn (a .words .now)) 0 (a .text .now .now) (nodeW (a .words .now) (a .text .now .now) (a .left)) (a .left)) (a .table .now) (a .count .now) (pre .1 .0 .short) (pre .1 .0 .most) (a .a) (after-eval-node .eval-node .ensures) (else1 .if1 .left) (c .negated-answer .ensures)
 
 eval-rule-rules-in-requires : (t : ℕ) → eval-rule-lts.Need-rules-in-requires (eval-rule-claims t) (eval-rule-at t) eval-rule.Post
 eval-rule-rules-in-requires t c κs = search needs
@@ -398,27 +457,31 @@ eval-rule-same-length t c = search needs
 
 eval-rule-returns : (t : ℕ) → eval-rule-lts.Need-returns (eval-rule-claims t) (eval-rule-at t) eval-rule.Post
 eval-rule-returns t c =
-    let a = c .before .before .before .before .before .before .before .before .before .args in
-    let rules-in = c .before .before .before .before .before .before .before .rules-in in
-    let look = c .before .before .before .before .before .look in
-    let is-held = c .before .before .before .before .is-held in
-    rule-impossible (rulesIn (a .words .now)) (a .root) (a .text .now .now) (nodeW (a .words .now) (a .text .now .now) (a .left)) (a .left) (a .rule) (a .at) (a .table .now) (a .count .now) (rw (rules-in .ensures .0) at (look .ensures)) (sym (is-held .ensures) ∙ c .before .before .before .if1 .taken) (was-impossible (recordOf (look .result)) (possible (look .result) (a .at) (length (a .text .now .now))) (sym (c .enum-told .given .1) ∙ c .before .before .from-word .ensures))
+    let after-from-word : eval-rule-place eval-rule-lts.After-from-word t = search in
+    let then1 : eval-rule-place eval-rule-lts.Then1 t = search in
+    let after-is-held : eval-rule-place eval-rule-lts.After-is-held t = search in
+    let after-look : eval-rule-place eval-rule-lts.After-look t = search in
+    let after-rules-in : eval-rule-place eval-rule-lts.After-rules-in t = search in
+    let start : eval-rule-place eval-rule-lts.Start t = search in
+    let a = start .args in
+    rule-impossible (rulesIn (a .words .now)) (a .root) (a .text .now .now) (nodeW (a .words .now) (a .text .now .now) (a .left)) (a .left) (a .rule) (a .at) (a .table .now) (a .count .now) (rw (after-rules-in .rules-in .ensures .0) at (after-look .look .ensures)) (sym (after-is-held .is-held .ensures) ∙ then1 .if1 .taken) (was-impossible (recordOf (after-look .look .result)) (possible (after-look .look .result) (a .at) (length (a .text .now .now))) (sym (c .enum-told .given .1) ∙ after-from-word .from-word .ensures))
 
 eval-rule-same-length-2 : (t : ℕ) → eval-rule-lts.Need-same-length-2 (eval-rule-claims t) (eval-rule-at t) eval-rule.Post
 eval-rule-same-length-2 t c = search needs
 
 eval-rule-returns-2 : (t : ℕ) → eval-rule-lts.Need-returns-2 (eval-rule-claims t) (eval-rule-at t) eval-rule.Post
 eval-rule-returns-2 t c =
-    let a = c .before .before .before .before .before .before .before .before .before .before .before .before .args in
-    let rules-in = c .before .before .before .before .before .before .before .before .before .before .rules-in in
-    let look = c .before .before .before .before .before .before .before .before .look in
-    let is-held = c .before .before .before .before .before .before .before .is-held in
-    let if1 = c .before .before .before .before .before .before .if1 in
-    let from-word = c .before .before .before .before .before .from-word in
-    let held = c .before .before .before .held in
-    let w = was-possible (held .given .0 .0) (recordOf (look .result)) (possible (look .result) (a .at) (length (a .text .now .now))) (sym (held .given .1) ∙ from-word .ensures) in
+    let after-held : eval-rule-place eval-rule-lts.After-held t = search in
+    let after-from-word : eval-rule-place eval-rule-lts.After-from-word t = search in
+    let then1 : eval-rule-place eval-rule-lts.Then1 t = search in
+    let after-is-held : eval-rule-place eval-rule-lts.After-is-held t = search in
+    let after-look : eval-rule-place eval-rule-lts.After-look t = search in
+    let after-rules-in : eval-rule-place eval-rule-lts.After-rules-in t = search in
+    let start : eval-rule-place eval-rule-lts.Start t = search in
+    let a = start .args in
+    let w = was-possible (after-held .held .given .0 .0) (recordOf (after-look .look .result)) (possible (after-look .look .result) (a .at) (length (a .text .now .now))) (sym (after-held .held .given .1) ∙ after-from-word .from-word .ensures) in
     let e = ap (λ (r : Record). r .nesting) (w .1) in
-    rule-too-deep (rulesIn (a .words .now)) (a .root) (a .text .now .now) (nodeW (a .words .now) (a .text .now .now) (a .left)) (a .left) (a .rule) (a .at) (a .table .now) (a .count .now) (rw (rules-in .ensures .0) at (look .ensures)) (sym (is-held .ensures) ∙ if1 .taken) (w .0) (omega (arith, e, c .if2 .taken))
+    rule-too-deep (rulesIn (a .words .now)) (a .root) (a .text .now .now) (nodeW (a .words .now) (a .text .now .now) (a .left)) (a .left) (a .rule) (a .at) (a .table .now) (a .count .now) (rw (after-rules-in .rules-in .ensures .0) at (after-look .look .ensures)) (sym (after-is-held .is-held .ensures) ∙ then1 .if1 .taken) (w .0) (omega (arith, e, c .if2 .taken))
 
 eval-rule-word-requires : (t : ℕ) → eval-rule-lts.Need-word-requires (eval-rule-claims t) (eval-rule-at t) eval-rule.Post
 eval-rule-word-requires t c κs = search needs
@@ -428,20 +491,24 @@ eval-rule-same-length-3 t c = search needs
 
 eval-rule-returns-3 : (t : ℕ) → eval-rule-lts.Need-returns-3 (eval-rule-claims t) (eval-rule-at t) eval-rule.Post
 eval-rule-returns-3 t c =
-    let a = c .before .before .before .before .before .before .before .before .before .before .before .before .before .args in
-    let rules-in = c .before .before .before .before .before .before .before .before .before .before .before .rules-in in
-    let look = c .before .before .before .before .before .before .before .before .before .look in
-    let is-held = c .before .before .before .before .before .before .before .before .is-held in
-    let if1 = c .before .before .before .before .before .before .before .if1 in
-    let from-word = c .before .before .before .before .before .before .from-word in
-    let held = c .before .before .before .before .held in
-    let w = was-possible (held .given .0 .0) (recordOf (look .result)) (possible (look .result) (a .at) (length (a .text .now .now))) (sym (held .given .1) ∙ from-word .ensures) in
+    let else2 : eval-rule-place eval-rule-lts.Else2 t = search in
+    let after-held : eval-rule-place eval-rule-lts.After-held t = search in
+    let after-from-word : eval-rule-place eval-rule-lts.After-from-word t = search in
+    let then1 : eval-rule-place eval-rule-lts.Then1 t = search in
+    let after-is-held : eval-rule-place eval-rule-lts.After-is-held t = search in
+    let after-look : eval-rule-place eval-rule-lts.After-look t = search in
+    let after-rules-in : eval-rule-place eval-rule-lts.After-rules-in t = search in
+    let start : eval-rule-place eval-rule-lts.Start t = search in
+    let a = start .args in
+    let w = was-possible (after-held .held .given .0 .0) (recordOf (after-look .look .result)) (possible (after-look .look .result) (a .at) (length (a .text .now .now))) (sym (after-held .held .given .1) ∙ after-from-word .from-word .ensures) in
     let e = ap (λ (r : Record). r .nesting) (w .1) in
-    rule-met (rulesIn (a .words .now)) (a .root) (a .text .now .now) (nodeW (a .words .now) (a .text .now .now) (a .left)) (a .left) (a .rule) (a .at) (a .table .now) (a .count .now) (rw (rules-in .ensures .0) at (look .ensures)) (sym (is-held .ensures) ∙ if1 .taken) (w .0) (omega (arith, e, c .before .if2 .left)) (c .word .ensures ∙ ap recordWord (w .1))
+    rule-met (rulesIn (a .words .now)) (a .root) (a .text .now .now) (nodeW (a .words .now) (a .text .now .now) (a .left)) (a .left) (a .rule) (a .at) (a .table .now) (a .count .now) (rw (after-rules-in .rules-in .ensures .0) at (after-look .look .ensures)) (sym (after-is-held .is-held .ensures) ∙ then1 .if1 .taken) (w .0) (omega (arith, e, else2 .if2 .left)) (c .word .ensures ∙ ap recordWord (w .1))
 
 eval-rule-eval-node-requires : (t : ℕ) → eval-rule-lts.Need-eval-node-requires (eval-rule-claims t) (eval-rule-at t) eval-rule.Post
 eval-rule-eval-node-requires t c κs =
-    let pre = c .before .before .before .before .before .before .before .before .pre in
+    let after-look : eval-rule-place eval-rule-lts.After-look t = search in
+    let start : eval-rule-place eval-rule-lts.Start t = search in
+    let pre = start .pre in
     (omega (arith, pre .0), (pre .1 .0, pre .1 .2))
 
 eval-rule-same-length-4 : (t : ℕ) → eval-rule-lts.Need-same-length-4 (eval-rule-claims t) (eval-rule-at t) eval-rule.Post
@@ -449,13 +516,15 @@ eval-rule-same-length-4 t c = search needs
 
 eval-rule-returns-4 : (t : ℕ) → eval-rule-lts.Need-returns-4 (eval-rule-claims t) (eval-rule-at t) eval-rule.Post
 eval-rule-returns-4 t c =
-    let a = c .before .before .before .before .before .before .before .before .before .before .before .before .args in
-    let pre = c .before .before .before .before .before .before .before .before .before .before .before .before .pre in
-    let rules-in = c .before .before .before .before .before .before .before .before .before .before .rules-in in
-    let look = c .before .before .before .before .before .before .before .before .look in
-    let is-held = c .before .before .before .before .before .before .before .is-held in
-    let if1 = c .before .before .before .before .before .before .if1 in
-    rule-refused (rulesIn (a .words .now)) (a .root) (a .text .now .now) (nodeW (a .words .now) (a .text .now .now) (a .left)) (a .left) (a .rule) (a .at) (a .table .now) (a .count .now) (rw (rules-in .ensures .0) at (look .ensures)) (pre .1 .0 .short) (pre .1 .0 .most) (sym (is-held .ensures) ∙ if1 .left) (c .before .before .before .eval-node .ensures) (c .if3 .taken)
+    let after-eval-node : eval-rule-place eval-rule-lts.After-eval-node t = search in
+    let else1 : eval-rule-place eval-rule-lts.Else1 t = search in
+    let after-is-held : eval-rule-place eval-rule-lts.After-is-held t = search in
+    let after-look : eval-rule-place eval-rule-lts.After-look t = search in
+    let after-rules-in : eval-rule-place eval-rule-lts.After-rules-in t = search in
+    let start : eval-rule-place eval-rule-lts.Start t = search in
+    let a = start .args in
+    let pre = start .pre in
+    rule-refused (rulesIn (a .words .now)) (a .root) (a .text .now .now) (nodeW (a .words .now) (a .text .now .now) (a .left)) (a .left) (a .rule) (a .at) (a .table .now) (a .count .now) (rw (after-rules-in .rules-in .ensures .0) at (after-look .look .ensures)) (pre .1 .0 .short) (pre .1 .0 .most) (sym (after-is-held .is-held .ensures) ∙ else1 .if1 .left) (after-eval-node .eval-node .ensures) (c .if3 .taken)
 
 eval-rule-put-requires : (t : ℕ) → eval-rule-lts.Need-put-requires (eval-rule-claims t) (eval-rule-at t) eval-rule.Post
 eval-rule-put-requires t c κs = search needs
@@ -468,21 +537,23 @@ eval-rule-same-length-5 t c = search needs
 
 eval-rule-returns-5 : (t : ℕ) → eval-rule-lts.Need-returns-5 (eval-rule-claims t) (eval-rule-at t) eval-rule.Post
 eval-rule-returns-5 t c =
-    let a = c .before .before .before .before .before .before .before .before .before .before .before .before .before .before .before .before .before .before .args in
-    let pre = c .before .before .before .before .before .before .before .before .before .before .before .before .before .before .before .before .before .before .pre in
-    let rules-in = c .before .before .before .before .before .before .before .before .before .before .before .before .before .before .before .before .rules-in in
-    let look = c .before .before .before .before .before .before .before .before .before .before .before .before .before .before .look in
-    let is-held = c .before .before .before .before .before .before .before .before .before .before .before .before .before .is-held in
-    let if1 = c .before .before .before .before .before .before .before .before .before .before .before .before .if1 in
-    let x = c .before .before .before .before .before .before .before .before .before .eval-node in
-    let if3 = c .before .before .before .before .before .before .if3 in
-    let put = c .before .before .before .before .put in
-    rw (put .ensures, rules-in .ensures .0, c .wrapping-add-u64 .ensures)
-    (rule-stored (rulesIn (a .words .now)) (a .root) (a .text .now .now) (nodeW (a .words .now) (a .text .now .now) (a .left)) (a .left) (a .rule) (a .at) (a .table .now) (a .count .now) (rw (rules-in .ensures .0) at (look .ensures)) (pre .1 .0 .short) (pre .1 .0 .most) (sym (is-held .ensures) ∙ if1 .left) (x .ensures) (if3 .left))
+    let after-put : eval-rule-place eval-rule-lts.After-put t = search in
+    let else3 : eval-rule-place eval-rule-lts.Else3 t = search in
+    let after-eval-node : eval-rule-place eval-rule-lts.After-eval-node t = search in
+    let else1 : eval-rule-place eval-rule-lts.Else1 t = search in
+    let after-is-held : eval-rule-place eval-rule-lts.After-is-held t = search in
+    let after-look : eval-rule-place eval-rule-lts.After-look t = search in
+    let after-rules-in : eval-rule-place eval-rule-lts.After-rules-in t = search in
+    let start : eval-rule-place eval-rule-lts.Start t = search in
+    let a = start .args in
+    let pre = start .pre in
+    rw (after-put .put .ensures, after-rules-in .rules-in .ensures .0, c .wrapping-add-u64 .ensures)
+    (rule-stored (rulesIn (a .words .now)) (a .root) (a .text .now .now) (nodeW (a .words .now) (a .text .now .now) (a .left)) (a .left) (a .rule) (a .at) (a .table .now) (a .count .now) (rw (after-rules-in .rules-in .ensures .0) at (after-look .look .ensures)) (pre .1 .0 .short) (pre .1 .0 .most) (sym (after-is-held .is-held .ensures) ∙ else1 .if1 .left) (after-eval-node .eval-node .ensures) (else3 .if3 .left))
 
 eval-sequence-eval-node-requires : (t : ℕ) → eval-sequence-lts.Need-eval-node-requires (eval-sequence-claims t) (eval-sequence-at t) eval-sequence.Post
 eval-sequence-eval-node-requires t c κs =
-    let pre = c .before .before .before .pre in
+    let start : eval-sequence-place eval-sequence-lts.Start t = search in
+    let pre = start .pre in
     (omega (arith, pre .0), (record { short = pre .1 .0 .short; here = pre .1 .0 .here; most = omega (arith, pre .1 .0 .most) }, pre .1 .1))
 
 eval-sequence-same-length : (t : ℕ) → eval-sequence-lts.Need-same-length (eval-sequence-claims t) (eval-sequence-at t) eval-sequence.Post
@@ -490,86 +561,101 @@ eval-sequence-same-length t c = search needs
 
 eval-sequence-returns : (t : ℕ) → eval-sequence-lts.Need-returns (eval-sequence-claims t) (eval-sequence-at t) eval-sequence.Post
 eval-sequence-returns t c =
-    let a = c .before .before .before .before .before .before .before .args in
-    let pre = c .before .before .before .before .before .before .before .pre in
-    sequence-refused (a .text .now .now) (nodeW (a .words .now) (a .text .now .now) (a .left)) (pairM (rulesIn (a .words .now)) (a .b) (a .text .now .now) (nodeW (a .words .now) (a .text .now .now) (a .left)) (a .left)) (a .table .now) (a .count .now) (pre .1 .0 .short) (pre .1 .0 .most) (a .a) (a .b) (c .before .before .before .eval-node .ensures) (c .if1 .taken)
+    let after-eval-node : eval-sequence-place eval-sequence-lts.After-eval-node t = search in
+    let start : eval-sequence-place eval-sequence-lts.Start t = search in
+    let a = start .args in
+    let pre = start .pre in
+    sequence-refused (a .text .now .now) (nodeW (a .words .now) (a .text .now .now) (a .left)) (pairM (rulesIn (a .words .now)) (a .b) (a .text .now .now) (nodeW (a .words .now) (a .text .now .now) (a .left)) (a .left)) (a .table .now) (a .count .now) (pre .1 .0 .short) (pre .1 .0 .most) (a .a) (a .b) (after-eval-node .eval-node .ensures) (c .if1 .taken)
 
 eval-sequence-matched-of-requires : (t : ℕ) → eval-sequence-lts.Need-matched-of-requires (eval-sequence-claims t) (eval-sequence-at t) eval-sequence.Post
 eval-sequence-matched-of-requires t c κs = search needs
 
 eval-sequence-first-failed-requires : (t : ℕ) → eval-sequence-lts.Need-first-failed-requires (eval-sequence-claims t) (eval-sequence-at t) eval-sequence.Post
 eval-sequence-first-failed-requires t c κs =
-    let pre = c .before .before .before .before .before .before .before .before .before .pre in
-    let x = c .before .before .before .before .before .eval-node in
-    omega (arith, nesting-allowed (pre .1 .0 .short) (omega (arith, pre .1 .0 .most)) (x .ensures) (c .before .before .if1 .left), pre .1 .0 .most)
+    let else1 : eval-sequence-place eval-sequence-lts.Else1 t = search in
+    let after-eval-node : eval-sequence-place eval-sequence-lts.After-eval-node t = search in
+    let start : eval-sequence-place eval-sequence-lts.Start t = search in
+    let pre = start .pre in
+    omega (arith, nesting-allowed (pre .1 .0 .short) (omega (arith, pre .1 .0 .most)) (after-eval-node .eval-node .ensures) (else1 .if1 .left), pre .1 .0 .most)
 
 eval-sequence-same-length-2 : (t : ℕ) → eval-sequence-lts.Need-same-length-2 (eval-sequence-claims t) (eval-sequence-at t) eval-sequence.Post
 eval-sequence-same-length-2 t c = search needs
 
 eval-sequence-returns-2 : (t : ℕ) → eval-sequence-lts.Need-returns-2 (eval-sequence-claims t) (eval-sequence-at t) eval-sequence.Post
 eval-sequence-returns-2 t c =
-    let a = c .before .before .before .before .before .before .before .before .before .before .args in
-    let pre = c .before .before .before .before .before .before .before .before .before .before .pre in
-    let x = c .before .before .before .before .before .before .eval-node in
-    let matched-of = c .before .before .matched-of in
-    sequence-failed (a .text .now .now) (nodeW (a .words .now) (a .text .now .now) (a .left)) (pairM (rulesIn (a .words .now)) (a .b) (a .text .now .now) (nodeW (a .words .now) (a .text .now .now) (a .left)) (a .left)) (a .table .now) (a .count .now) (pre .1 .0 .short) (pre .1 .0 .most) (a .a) (a .b) (x .ensures) (c .before .before .before .if1 .left) (sym (matched-of .ensures) ∙ not-true (matched-of .result) (c .before .if2 .taken)) (c .first-failed .ensures)
+    let then2 : eval-sequence-place eval-sequence-lts.Then2 t = search in
+    let after-matched-of : eval-sequence-place eval-sequence-lts.After-matched-of t = search in
+    let else1 : eval-sequence-place eval-sequence-lts.Else1 t = search in
+    let after-eval-node : eval-sequence-place eval-sequence-lts.After-eval-node t = search in
+    let start : eval-sequence-place eval-sequence-lts.Start t = search in
+    let a = start .args in
+    let pre = start .pre in
+    sequence-failed (a .text .now .now) (nodeW (a .words .now) (a .text .now .now) (a .left)) (pairM (rulesIn (a .words .now)) (a .b) (a .text .now .now) (nodeW (a .words .now) (a .text .now .now) (a .left)) (a .left)) (a .table .now) (a .count .now) (pre .1 .0 .short) (pre .1 .0 .most) (a .a) (a .b) (after-eval-node .eval-node .ensures) (else1 .if1 .left) (sym (after-matched-of .matched-of .ensures) ∙ not-true (after-matched-of .matched-of .result) (then2 .if2 .taken)) (c .first-failed .ensures)
 
 eval-sequence-length-of-requires : (t : ℕ) → eval-sequence-lts.Need-length-of-requires (eval-sequence-claims t) (eval-sequence-at t) eval-sequence.Post
 eval-sequence-length-of-requires t c κs = search needs
 
 eval-sequence-add-eval-node : (t : ℕ) → eval-sequence-lts.Need-add-eval-node (eval-sequence-claims t) (eval-sequence-at t) eval-sequence.Post
 eval-sequence-add-eval-node t c =
-    let pre = c .before .before .before .before .before .before .before .before .before .before .before .before .pre in
-    let x = c .before .before .before .before .before .before .before .before .eval-node in
-    let if1 = c .before .before .before .before .before .if1 in
-    omega (arith, length-within (pre .1 .0 .short) (omega (arith, pre .1 .0 .most)) (x .ensures) (if1 .left), c .length-of .ensures .0, pre .1 .0 .short)
+    let else1 : eval-sequence-place eval-sequence-lts.Else1 t = search in
+    let after-eval-node : eval-sequence-place eval-sequence-lts.After-eval-node t = search in
+    let start : eval-sequence-place eval-sequence-lts.Start t = search in
+    let pre = start .pre in
+    omega (arith, length-within (pre .1 .0 .short) (omega (arith, pre .1 .0 .most)) (after-eval-node .eval-node .ensures) (else1 .if1 .left), c .length-of .ensures .0, pre .1 .0 .short)
 
 eval-sequence-eval-node-requires-2 : (t : ℕ) → eval-sequence-lts.Need-eval-node-requires-2 (eval-sequence-claims t) (eval-sequence-at t) eval-sequence.Post
 eval-sequence-eval-node-requires-2 t c κs =
-    let pre = c .before .before .before .before .before .before .before .before .before .before .before .before .pre in
-    let x = c .before .before .before .before .before .before .before .before .eval-node in
-    let if1 = c .before .before .before .before .before .if1 in
-    (omega (arith, pre .0), (record { short = pre .1 .0 .short; here = omega (arith, length-within (pre .1 .0 .short) (omega (arith, pre .1 .0 .most)) (x .ensures) (if1 .left), c .length-of .ensures .0); most = omega (arith, pre .1 .0 .most) }, pre .1 .2))
+    let else1 : eval-sequence-place eval-sequence-lts.Else1 t = search in
+    let after-eval-node : eval-sequence-place eval-sequence-lts.After-eval-node t = search in
+    let start : eval-sequence-place eval-sequence-lts.Start t = search in
+    let pre = start .pre in
+    (omega (arith, pre .0), (record { short = pre .1 .0 .short; here = omega (arith, length-within (pre .1 .0 .short) (omega (arith, pre .1 .0 .most)) (after-eval-node .eval-node .ensures) (else1 .if1 .left), c .length-of .ensures .0); most = omega (arith, pre .1 .0 .most) }, pre .1 .2))
 
 eval-sequence-same-length-3 : (t : ℕ) → eval-sequence-lts.Need-same-length-3 (eval-sequence-claims t) (eval-sequence-at t) eval-sequence.Post
 eval-sequence-same-length-3 t c = search needs
 
 eval-sequence-returns-3 : (t : ℕ) → eval-sequence-lts.Need-returns-3 (eval-sequence-claims t) (eval-sequence-at t) eval-sequence.Post
 eval-sequence-returns-3 t c =
-    let a = c .before .before .before .before .before .before .before .before .before .before .before .before .before .before .before .before .args in
-    let pre = c .before .before .before .before .before .before .before .before .before .before .before .before .before .before .before .before .pre in
-    let x = c .before .before .before .before .before .before .before .before .before .before .before .before .eval-node in
-    let if1 = c .before .before .before .before .before .before .before .before .before .if1 in
-    let matched-of = c .before .before .before .before .before .before .before .before .matched-of in
-    let if2 = c .before .before .before .before .before .before .before .if2 in
-    let length-of = c .before .before .before .before .length-of in
-    sequence-second-refused (a .text .now .now) (nodeW (a .words .now) (a .text .now .now) (a .left)) (pairM (rulesIn (a .words .now)) (a .b) (a .text .now .now) (nodeW (a .words .now) (a .text .now .now) (a .left)) (a .left)) (a .table .now) (a .count .now) (pre .1 .0 .short) (pre .1 .0 .most) (a .a) (a .b) (x .ensures) (if1 .left) (sym (matched-of .ensures) ∙ not-false (matched-of .result) (if2 .left)) (rw (length-of .ensures .0) at (c .before .before .before .eval-node2 .ensures)) (c .if3 .taken)
+    let after-eval-node2 : eval-sequence-place eval-sequence-lts.After-eval-node2 t = search in
+    let after-length-of : eval-sequence-place eval-sequence-lts.After-length-of t = search in
+    let else2 : eval-sequence-place eval-sequence-lts.Else2 t = search in
+    let after-matched-of : eval-sequence-place eval-sequence-lts.After-matched-of t = search in
+    let else1 : eval-sequence-place eval-sequence-lts.Else1 t = search in
+    let after-eval-node : eval-sequence-place eval-sequence-lts.After-eval-node t = search in
+    let start : eval-sequence-place eval-sequence-lts.Start t = search in
+    let a = start .args in
+    let pre = start .pre in
+    sequence-second-refused (a .text .now .now) (nodeW (a .words .now) (a .text .now .now) (a .left)) (pairM (rulesIn (a .words .now)) (a .b) (a .text .now .now) (nodeW (a .words .now) (a .text .now .now) (a .left)) (a .left)) (a .table .now) (a .count .now) (pre .1 .0 .short) (pre .1 .0 .most) (a .a) (a .b) (after-eval-node .eval-node .ensures) (else1 .if1 .left) (sym (after-matched-of .matched-of .ensures) ∙ not-false (after-matched-of .matched-of .result) (else2 .if2 .left)) (rw (after-length-of .length-of .ensures .0) at (after-eval-node2 .eval-node2 .ensures)) (c .if3 .taken)
 
 eval-sequence-in-sequence-requires : (t : ℕ) → eval-sequence-lts.Need-in-sequence-requires (eval-sequence-claims t) (eval-sequence-at t) eval-sequence.Post
 eval-sequence-in-sequence-requires t c κs =
-    let a = c .before .before .before .before .before .before .before .before .before .before .before .before .before .before .before .before .args in
-    let pre = c .before .before .before .before .before .before .before .before .before .before .before .before .before .before .before .before .pre in
-    let x = c .before .before .before .before .before .before .before .before .before .before .before .before .eval-node in
-    let if1 = c .before .before .before .before .before .before .before .before .before .if1 in
-    let matched-of = c .before .before .before .before .before .before .before .before .matched-of in
-    let if2 = c .before .before .before .before .before .before .before .if2 in
-    let length-of = c .before .before .before .before .length-of in
-    joinable (a .text .now .now) (nodeW (a .words .now) (a .text .now .now) (a .left)) (pairM (rulesIn (a .words .now)) (a .b) (a .text .now .now) (nodeW (a .words .now) (a .text .now .now) (a .left)) (a .left)) (a .table .now) (a .count .now) (pre .1 .0 .short) (pre .1 .0 .most) (a .a) (a .b) (x .ensures) (if1 .left) (sym (matched-of .ensures) ∙ not-false (matched-of .result) (if2 .left)) (rw (length-of .ensures .0) at (c .before .before .before .eval-node2 .ensures)) (c .if3 .left)
+    let after-eval-node2 : eval-sequence-place eval-sequence-lts.After-eval-node2 t = search in
+    let after-length-of : eval-sequence-place eval-sequence-lts.After-length-of t = search in
+    let else2 : eval-sequence-place eval-sequence-lts.Else2 t = search in
+    let after-matched-of : eval-sequence-place eval-sequence-lts.After-matched-of t = search in
+    let else1 : eval-sequence-place eval-sequence-lts.Else1 t = search in
+    let after-eval-node : eval-sequence-place eval-sequence-lts.After-eval-node t = search in
+    let start : eval-sequence-place eval-sequence-lts.Start t = search in
+    let a = start .args in
+    let pre = start .pre in
+    joinable (a .text .now .now) (nodeW (a .words .now) (a .text .now .now) (a .left)) (pairM (rulesIn (a .words .now)) (a .b) (a .text .now .now) (nodeW (a .words .now) (a .text .now .now) (a .left)) (a .left)) (a .table .now) (a .count .now) (pre .1 .0 .short) (pre .1 .0 .most) (a .a) (a .b) (after-eval-node .eval-node .ensures) (else1 .if1 .left) (sym (after-matched-of .matched-of .ensures) ∙ not-false (after-matched-of .matched-of .result) (else2 .if2 .left)) (rw (after-length-of .length-of .ensures .0) at (after-eval-node2 .eval-node2 .ensures)) (c .if3 .left)
 
 eval-sequence-same-length-4 : (t : ℕ) → eval-sequence-lts.Need-same-length-4 (eval-sequence-claims t) (eval-sequence-at t) eval-sequence.Post
 eval-sequence-same-length-4 t c = search needs
 
 eval-sequence-returns-4 : (t : ℕ) → eval-sequence-lts.Need-returns-4 (eval-sequence-claims t) (eval-sequence-at t) eval-sequence.Post
 eval-sequence-returns-4 t c =
-    let a = c .before .before .before .before .before .before .before .before .before .before .before .before .before .before .before .before .before .args in
-    let pre = c .before .before .before .before .before .before .before .before .before .before .before .before .before .before .before .before .before .pre in
-    let x = c .before .before .before .before .before .before .before .before .before .before .before .before .before .eval-node in
-    let if1 = c .before .before .before .before .before .before .before .before .before .before .if1 in
-    let matched-of = c .before .before .before .before .before .before .before .before .before .matched-of in
-    let if2 = c .before .before .before .before .before .before .before .before .if2 in
-    let length-of = c .before .before .before .before .before .length-of in
-    let y = c .before .before .before .before .eval-node2 in
-    sequence-both (a .text .now .now) (nodeW (a .words .now) (a .text .now .now) (a .left)) (pairM (rulesIn (a .words .now)) (a .b) (a .text .now .now) (nodeW (a .words .now) (a .text .now .now) (a .left)) (a .left)) (a .table .now) (a .count .now) (pre .1 .0 .short) (pre .1 .0 .most) (a .a) (a .b) (x .ensures) (if1 .left) (sym (matched-of .ensures) ∙ not-false (matched-of .result) (if2 .left)) (rw (length-of .ensures .0) at (y .ensures)) (c .before .if3 .left) (c .in-sequence .ensures)
+    let else3 : eval-sequence-place eval-sequence-lts.Else3 t = search in
+    let after-eval-node2 : eval-sequence-place eval-sequence-lts.After-eval-node2 t = search in
+    let after-length-of : eval-sequence-place eval-sequence-lts.After-length-of t = search in
+    let else2 : eval-sequence-place eval-sequence-lts.Else2 t = search in
+    let after-matched-of : eval-sequence-place eval-sequence-lts.After-matched-of t = search in
+    let else1 : eval-sequence-place eval-sequence-lts.Else1 t = search in
+    let after-eval-node : eval-sequence-place eval-sequence-lts.After-eval-node t = search in
+    let start : eval-sequence-place eval-sequence-lts.Start t = search in
+    let a = start .args in
+    let pre = start .pre in
+    sequence-both (a .text .now .now) (nodeW (a .words .now) (a .text .now .now) (a .left)) (pairM (rulesIn (a .words .now)) (a .b) (a .text .now .now) (nodeW (a .words .now) (a .text .now .now) (a .left)) (a .left)) (a .table .now) (a .count .now) (pre .1 .0 .short) (pre .1 .0 .most) (a .a) (a .b) (after-eval-node .eval-node .ensures) (else1 .if1 .left) (sym (after-matched-of .matched-of .ensures) ∙ not-false (after-matched-of .matched-of .result) (else2 .if2 .left)) (rw (after-length-of .length-of .ensures .0) at (after-eval-node2 .eval-node2 .ensures)) (else3 .if3 .left) (c .in-sequence .ensures)
 
 abbrev eval-star-Inv-loop : eval-star-lts.InvT-loop
 eval-star-Inv-loop words text table₀ count₀ a at left consumed₀ examined₀ deepest₀ table count consumed examined deepest =
@@ -579,19 +665,26 @@ abbrev eval-star-μ-loop : eval-star-lts.MeasureT-loop
 eval-star-μ-loop words text table₀ count₀ a at left consumed₀ examined₀ deepest₀ table count consumed examined deepest =
     length (text .now) - (at + consumed)
 
+abbrev eval-star-place : (eval-star-lts.Claims → In 5 eval-star-kinds.ps → Out 5 eval-star-kinds.ps eval-star-kinds.r → eval-star-lts.InvT-loop → eval-star-lts.MeasureT-loop → Type 0) → ℕ → Type 0
+eval-star-place place t = place (eval-star-claims t) (eval-star-at t) eval-star.Post eval-star-Inv-loop eval-star-μ-loop
+
 eval-star-loop-holds : (t : ℕ) → eval-star-lts.Need-loop-holds (eval-star-claims t) (eval-star-at t) eval-star.Post eval-star-Inv-loop eval-star-μ-loop
 eval-star-loop-holds t c =
-    (refl, rounds-start (length (c .before .args .text .now .now)) (c .before .args .at) (c .before .args .left) (nodeW (c .before .args .words .now) (c .before .args .text .now .now) (c .before .args .left)) (c .before .args .a) (c .before .args .table .now) (c .before .args .count .now) (c .before .pre .1 .0 .here))
+    let start : eval-star-place eval-star-lts.Start t = search in
+    (refl, rounds-start (length (start .args .text .now .now)) (start .args .at) (start .args .left) (nodeW (start .args .words .now) (start .args .text .now .now) (start .args .left)) (start .args .a) (start .args .table .now) (start .args .count .now) (start .pre .1 .0 .here))
 
 eval-star-add-eval-node : (t : ℕ) → eval-star-lts.Need-add-eval-node (eval-star-claims t) (eval-star-at t) eval-star.Post eval-star-Inv-loop eval-star-μ-loop
 eval-star-add-eval-node t c =
-    let pre = c .before .before .before .before .pre in
-    omega (arith, c .before .before .loop .inv .1 .in-text, pre .1 .0 .short)
+    let at-loop : eval-star-place eval-star-lts.At-loop t = search in
+    let start : eval-star-place eval-star-lts.Start t = search in
+    omega (arith, at-loop .loop .inv .1 .in-text, start .pre .1 .0 .short)
 
 eval-star-eval-node-requires : (t : ℕ) → eval-star-lts.Need-eval-node-requires (eval-star-claims t) (eval-star-at t) eval-star.Post eval-star-Inv-loop eval-star-μ-loop
 eval-star-eval-node-requires t c κs =
-    let pre = c .before .before .before .before .pre in
-    (omega (arith, pre .0), (record { short = pre .1 .0 .short; here = c .before .before .loop .inv .1 .in-text; most = omega (arith, pre .1 .0 .most) }, pre .1 .1))
+    let at-loop : eval-star-place eval-star-lts.At-loop t = search in
+    let start : eval-star-place eval-star-lts.Start t = search in
+    let pre = start .pre in
+    (omega (arith, pre .0), (record { short = pre .1 .0 .short; here = at-loop .loop .inv .1 .in-text; most = omega (arith, pre .1 .0 .most) }, pre .1 .1))
 
 eval-star-same-length : (t : ℕ) → eval-star-lts.Need-same-length (eval-star-claims t) (eval-star-at t) eval-star.Post eval-star-Inv-loop eval-star-μ-loop
 eval-star-same-length t c = search needs
@@ -599,20 +692,22 @@ eval-star-same-length t c = search needs
 eval-star-returns : (t : ℕ) → eval-star-lts.Need-returns (eval-star-claims t) (eval-star-at t) eval-star.Post eval-star-Inv-loop eval-star-μ-loop
 unfolding kindM
 eval-star-returns t c =
-    let a = c .before .before .before .before .before .before .before .before .args in
-    let pre = c .before .before .before .before .before .before .before .before .pre in
-    let loop = c .before .before .before .before .before .before .loop in
-    let x = c .before .before .before .eval-node in
-    gives-refusal (round-refused (nodeW (a .words .now) (a .text .now .now) (a .left)) (a .a) (pre .1 .0 .short) (pre .1 .0 .most) (loop .inv .1) (x .ensures) (c .if1 .taken)) (was-refused (pre .1 .0 .short) (omega (arith, pre .1 .0 .most)) (x .ensures) (c .if1 .taken) .small)
+    let after-eval-node : eval-star-place eval-star-lts.After-eval-node t = search in
+    let at-loop : eval-star-place eval-star-lts.At-loop t = search in
+    let start : eval-star-place eval-star-lts.Start t = search in
+    let a = start .args in
+    let pre = start .pre in
+    gives-refusal (round-refused (nodeW (a .words .now) (a .text .now .now) (a .left)) (a .a) (pre .1 .0 .short) (pre .1 .0 .most) (at-loop .loop .inv .1) (after-eval-node .eval-node .ensures) (c .if1 .taken)) (was-refused (pre .1 .0 .short) (omega (arith, pre .1 .0 .most)) (after-eval-node .eval-node .ensures) (c .if1 .taken) .small)
 
 eval-star-examined-of-requires : (t : ℕ) → eval-star-lts.Need-examined-of-requires (eval-star-claims t) (eval-star-at t) eval-star.Post eval-star-Inv-loop eval-star-μ-loop
 eval-star-examined-of-requires t c κs = search needs
 
 eval-star-add-larger : (t : ℕ) → eval-star-lts.Need-add-larger (eval-star-claims t) (eval-star-at t) eval-star.Post eval-star-Inv-loop eval-star-μ-loop
 eval-star-add-larger t c =
-    let pre = c .before .before .before .before .before .before .before .before .before .pre in
-    let loop = c .before .before .before .before .before .before .before .loop in
-    omega (arith, c .examined-of .ensures .1, loop .inv .1 .in-text, pre .1 .0 .short)
+    let after-eval-node : eval-star-place eval-star-lts.After-eval-node t = search in
+    let at-loop : eval-star-place eval-star-lts.At-loop t = search in
+    let start : eval-star-place eval-star-lts.Start t = search in
+    omega (arith, c .examined-of .ensures .1, at-loop .loop .inv .1 .in-text, start .pre .1 .0 .short)
 
 eval-star-larger-requires : (t : ℕ) → eval-star-lts.Need-larger-requires (eval-star-claims t) (eval-star-at t) eval-star.Post eval-star-Inv-loop eval-star-μ-loop
 eval-star-larger-requires t c κs = search needs
@@ -628,44 +723,53 @@ eval-star-matched-of-requires t c κs = search needs
 
 eval-star-add-answer : (t : ℕ) → eval-star-lts.Need-add-answer (eval-star-claims t) (eval-star-at t) eval-star.Post eval-star-Inv-loop eval-star-μ-loop
 eval-star-add-answer t c =
-    let a = c .before .before .before .before .before .before .before .before .before .before .before .before .before .before .args in
-    let pre = c .before .before .before .before .before .before .before .before .before .before .before .before .before .before .pre in
-    let loop = c .before .before .before .before .before .before .before .before .before .before .before .before .loop in
-    let x = c .before .before .before .before .before .before .before .before .before .eval-node in
-    let if1 = c .before .before .before .before .before .before .if1 in
-    let b = round-bounds (nodeW (a .words .now) (a .text .now .now) (a .left)) (a .a) (pre .1 .0 .short) (pre .1 .0 .most) (loop .inv .1) (x .ensures) (if1 .left) in
-    let e = (rw (c .before .before .before .nesting-of .ensures .0) at (c .before .before .larger2 .ensures)) in
+    let after-larger2 : eval-star-place eval-star-lts.After-larger2 t = search in
+    let after-nesting-of : eval-star-place eval-star-lts.After-nesting-of t = search in
+    let else1 : eval-star-place eval-star-lts.Else1 t = search in
+    let after-eval-node : eval-star-place eval-star-lts.After-eval-node t = search in
+    let at-loop : eval-star-place eval-star-lts.At-loop t = search in
+    let start : eval-star-place eval-star-lts.Start t = search in
+    let a = start .args in
+    let pre = start .pre in
+    let b = round-bounds (nodeW (a .words .now) (a .text .now .now) (a .left)) (a .a) (pre .1 .0 .short) (pre .1 .0 .most) (at-loop .loop .inv .1) (after-eval-node .eval-node .ensures) (else1 .if1 .left) in
+    let e = (rw (after-nesting-of .nesting-of .ensures .0) at (after-larger2 .larger2 .ensures)) in
     omega (arith, b .1, pre .1 .0 .most)
 
 eval-star-answer-requires : (t : ℕ) → eval-star-lts.Need-answer-requires (eval-star-claims t) (eval-star-at t) eval-star.Post eval-star-Inv-loop eval-star-μ-loop
 eval-star-answer-requires t c κs =
-    let a = c .before .before .before .before .before .before .before .before .before .before .before .before .before .before .args in
-    let pre = c .before .before .before .before .before .before .before .before .before .before .before .before .before .before .pre in
-    let loop = c .before .before .before .before .before .before .before .before .before .before .before .before .loop in
-    let x = c .before .before .before .before .before .before .before .before .before .eval-node in
-    let if1 = c .before .before .before .before .before .before .if1 in
-    let examined-of = c .before .before .before .before .before .examined-of in
-    let larger = c .before .before .before .before .larger in
-    let b = round-bounds (nodeW (a .words .now) (a .text .now .now) (a .left)) (a .a) (pre .1 .0 .short) (pre .1 .0 .most) (loop .inv .1) (x .ensures) (if1 .left) in
-    let d = (rw (examined-of .ensures .0) at (larger .ensures)) in
-    let e = (rw (c .before .before .before .nesting-of .ensures .0) at (c .before .before .larger2 .ensures)) in
-    (omega (arith, b .1, pre .1 .0 .most), omega (arith, b .0, pre .1 .0 .short), omega (arith, loop .inv .1 .in-text, pre .1 .0 .short))
+    let after-larger2 : eval-star-place eval-star-lts.After-larger2 t = search in
+    let after-nesting-of : eval-star-place eval-star-lts.After-nesting-of t = search in
+    let after-larger : eval-star-place eval-star-lts.After-larger t = search in
+    let after-examined-of : eval-star-place eval-star-lts.After-examined-of t = search in
+    let else1 : eval-star-place eval-star-lts.Else1 t = search in
+    let after-eval-node : eval-star-place eval-star-lts.After-eval-node t = search in
+    let at-loop : eval-star-place eval-star-lts.At-loop t = search in
+    let start : eval-star-place eval-star-lts.Start t = search in
+    let a = start .args in
+    let pre = start .pre in
+    let b = round-bounds (nodeW (a .words .now) (a .text .now .now) (a .left)) (a .a) (pre .1 .0 .short) (pre .1 .0 .most) (at-loop .loop .inv .1) (after-eval-node .eval-node .ensures) (else1 .if1 .left) in
+    let d = (rw (after-examined-of .examined-of .ensures .0) at (after-larger .larger .ensures)) in
+    let e = (rw (after-nesting-of .nesting-of .ensures .0) at (after-larger2 .larger2 .ensures)) in
+    (omega (arith, b .1, pre .1 .0 .most), omega (arith, b .0, pre .1 .0 .short), omega (arith, at-loop .loop .inv .1 .in-text, pre .1 .0 .short))
 
 eval-star-same-length-2 : (t : ℕ) → eval-star-lts.Need-same-length-2 (eval-star-claims t) (eval-star-at t) eval-star.Post eval-star-Inv-loop eval-star-μ-loop
 eval-star-same-length-2 t c = search needs
 
 eval-star-returns-2 : (t : ℕ) → eval-star-lts.Need-returns-2 (eval-star-claims t) (eval-star-at t) eval-star.Post eval-star-Inv-loop eval-star-μ-loop
 eval-star-returns-2 t c =
-    let a = c .before .before .before .before .before .before .before .before .before .before .before .before .before .before .before .args in
-    let pre = c .before .before .before .before .before .before .before .before .before .before .before .before .before .before .before .pre in
-    let loop = c .before .before .before .before .before .before .before .before .before .before .before .before .before .loop in
-    let x = c .before .before .before .before .before .before .before .before .before .before .eval-node in
-    let if1 = c .before .before .before .before .before .before .before .if1 in
-    let examined-of = c .before .before .before .before .before .before .examined-of in
-    let larger = c .before .before .before .before .before .larger in
-    let nesting-of = c .before .before .before .before .nesting-of in
-    let matched-of = c .before .before .matched-of in
-    round-fails (nodeW (a .words .now) (a .text .now .now) (a .left)) (a .a) (pre .1 .0 .short) (pre .1 .0 .most) (loop .inv .1) (x .ensures) (if1 .left) (a .text .now .now) (pairM (rulesIn (a .words .now)) 0 (a .text .now .now) (nodeW (a .words .now) (a .text .now .now) (a .left)) (a .left)) (a .table .now) (a .count .now) refl (sym (matched-of .ensures) ∙ not-true (matched-of .result) (c .before .if2 .taken)) (rw (examined-of .ensures .0) at (larger .ensures)) (rw (nesting-of .ensures .0) at (c .before .before .before .larger2 .ensures)) (c .answer .ensures)
+    let then2 : eval-star-place eval-star-lts.Then2 t = search in
+    let after-matched-of : eval-star-place eval-star-lts.After-matched-of t = search in
+    let after-larger2 : eval-star-place eval-star-lts.After-larger2 t = search in
+    let after-nesting-of : eval-star-place eval-star-lts.After-nesting-of t = search in
+    let after-larger : eval-star-place eval-star-lts.After-larger t = search in
+    let after-examined-of : eval-star-place eval-star-lts.After-examined-of t = search in
+    let else1 : eval-star-place eval-star-lts.Else1 t = search in
+    let after-eval-node : eval-star-place eval-star-lts.After-eval-node t = search in
+    let at-loop : eval-star-place eval-star-lts.At-loop t = search in
+    let start : eval-star-place eval-star-lts.Start t = search in
+    let a = start .args in
+    let pre = start .pre in
+    round-fails (nodeW (a .words .now) (a .text .now .now) (a .left)) (a .a) (pre .1 .0 .short) (pre .1 .0 .most) (at-loop .loop .inv .1) (after-eval-node .eval-node .ensures) (else1 .if1 .left) (a .text .now .now) (pairM (rulesIn (a .words .now)) 0 (a .text .now .now) (nodeW (a .words .now) (a .text .now .now) (a .left)) (a .left)) (a .table .now) (a .count .now) refl (sym (after-matched-of .matched-of .ensures) ∙ not-true (after-matched-of .matched-of .result) (then2 .if2 .taken)) (rw (after-examined-of .examined-of .ensures .0) at (after-larger .larger .ensures)) (rw (after-nesting-of .nesting-of .ensures .0) at (after-larger2 .larger2 .ensures)) (c .answer .ensures)
 
 eval-star-length-of-requires : (t : ℕ) → eval-star-lts.Need-length-of-requires (eval-star-claims t) (eval-star-at t) eval-star.Post eval-star-Inv-loop eval-star-μ-loop
 eval-star-length-of-requires t c κs = search needs
@@ -676,41 +780,53 @@ eval-star-same-length-3 t c = search needs
 eval-star-returns-3 : (t : ℕ) → eval-star-lts.Need-returns-3 (eval-star-claims t) (eval-star-at t) eval-star.Post eval-star-Inv-loop eval-star-μ-loop
 unfolding kindM
 eval-star-returns-3 t c =
-    let a = c .before .before .before .before .before .before .before .before .before .before .before .before .before .before .before .before .args in
-    let pre = c .before .before .before .before .before .before .before .before .before .before .before .before .before .before .before .before .pre in
-    let loop = c .before .before .before .before .before .before .before .before .before .before .before .before .before .before .loop in
-    let x = c .before .before .before .before .before .before .before .before .before .before .before .eval-node in
-    let if1 = c .before .before .before .before .before .before .before .before .if1 in
-    let matched-of = c .before .before .before .matched-of in
-    gives-refusal (round-still (nodeW (a .words .now) (a .text .now .now) (a .left)) (a .a) (pre .1 .0 .short) (pre .1 .0 .most) (loop .inv .1) (x .ensures) (if1 .left) (sym (matched-of .ensures) ∙ not-false (matched-of .result) (c .before .before .if2 .left)) (sym (c .before .length-of .ensures .0) ∙ c .if3 .taken)) (omega arith)
+    let after-length-of : eval-star-place eval-star-lts.After-length-of t = search in
+    let else2 : eval-star-place eval-star-lts.Else2 t = search in
+    let after-matched-of : eval-star-place eval-star-lts.After-matched-of t = search in
+    let else1 : eval-star-place eval-star-lts.Else1 t = search in
+    let after-eval-node : eval-star-place eval-star-lts.After-eval-node t = search in
+    let at-loop : eval-star-place eval-star-lts.At-loop t = search in
+    let start : eval-star-place eval-star-lts.Start t = search in
+    let a = start .args in
+    let pre = start .pre in
+    gives-refusal (round-still (nodeW (a .words .now) (a .text .now .now) (a .left)) (a .a) (pre .1 .0 .short) (pre .1 .0 .most) (at-loop .loop .inv .1) (after-eval-node .eval-node .ensures) (else1 .if1 .left) (sym (after-matched-of .matched-of .ensures) ∙ not-false (after-matched-of .matched-of .result) (else2 .if2 .left)) (sym (after-length-of .length-of .ensures .0) ∙ c .if3 .taken)) (omega arith)
 
 eval-star-add-consumed : (t : ℕ) → eval-star-lts.Need-add-consumed (eval-star-claims t) (eval-star-at t) eval-star.Post eval-star-Inv-loop eval-star-μ-loop
 eval-star-add-consumed t c =
-    let pre = c .before .before .before .before .before .before .before .before .before .before .before .before .before .before .before .before .pre in
-    let loop = c .before .before .before .before .before .before .before .before .before .before .before .before .before .before .loop in
-    omega (arith, c .before .length-of .ensures .1, loop .inv .1 .in-text, pre .1 .0 .short)
+    let after-length-of : eval-star-place eval-star-lts.After-length-of t = search in
+    let after-nesting-of : eval-star-place eval-star-lts.After-nesting-of t = search in
+    let else1 : eval-star-place eval-star-lts.Else1 t = search in
+    let at-loop : eval-star-place eval-star-lts.At-loop t = search in
+    let start : eval-star-place eval-star-lts.Start t = search in
+    omega (arith, after-length-of .length-of .ensures .1, at-loop .loop .inv .1 .in-text, start .pre .1 .0 .short)
 
 eval-star-loop-less : (t : ℕ) → eval-star-lts.Need-loop-less (eval-star-claims t) (eval-star-at t) eval-star.Post eval-star-Inv-loop eval-star-μ-loop
 eval-star-loop-less t c =
-    let pre = c .before .before .before .before .before .before .before .before .before .before .before .before .before .before .before .before .pre in
-    let x = c .before .before .before .before .before .before .before .before .before .before .before .eval-node in
-    let if1 = c .before .before .before .before .before .before .before .before .if1 in
+    let after-length-of : eval-star-place eval-star-lts.After-length-of t = search in
+    let after-larger2 : eval-star-place eval-star-lts.After-larger2 t = search in
+    let else1 : eval-star-place eval-star-lts.Else1 t = search in
+    let after-eval-node : eval-star-place eval-star-lts.After-eval-node t = search in
+    let start : eval-star-place eval-star-lts.Start t = search in
+    let pre = start .pre in
     let ne = c .if3 .left in
-    omega (arith, length-within (pre .1 .0 .short) (omega (arith, pre .1 .0 .most)) (x .ensures) (if1 .left), c .before .length-of .ensures .0, ne)
+    omega (arith, length-within (pre .1 .0 .short) (omega (arith, pre .1 .0 .most)) (after-eval-node .eval-node .ensures) (else1 .if1 .left), after-length-of .length-of .ensures .0, ne)
 
 eval-star-loop-again : (t : ℕ) → eval-star-lts.Need-loop-again (eval-star-claims t) (eval-star-at t) eval-star.Post eval-star-Inv-loop eval-star-μ-loop
 eval-star-loop-again t c =
-    let a = c .before .before .before .before .before .before .before .before .before .before .before .before .before .before .before .before .args in
-    let pre = c .before .before .before .before .before .before .before .before .before .before .before .before .before .before .before .before .pre in
-    let loop = c .before .before .before .before .before .before .before .before .before .before .before .before .before .before .loop in
-    let x = c .before .before .before .before .before .before .before .before .before .before .before .eval-node in
-    let if1 = c .before .before .before .before .before .before .before .before .if1 in
-    let examined-of = c .before .before .before .before .before .before .before .examined-of in
-    let larger = c .before .before .before .before .before .before .larger in
-    let nesting-of = c .before .before .before .before .before .nesting-of in
-    let larger2 = c .before .before .before .before .larger2 in
-    let matched-of = c .before .before .before .matched-of in
-    (x .kept .1 .1 .0 ∙ loop .inv .0, round-goes (nodeW (a .words .now) (a .text .now .now) (a .left)) (a .a) (pre .1 .0 .short) (pre .1 .0 .most) (loop .inv .1) (x .ensures) (if1 .left) (sym (matched-of .ensures) ∙ not-false (matched-of .result) (c .before .before .if2 .left)) (rw (examined-of .ensures .0) at (larger .ensures)) (rw (nesting-of .ensures .0) at (larger2 .ensures)) (c .before .length-of .ensures .0) (c .if3 .left))
+    let after-length-of : eval-star-place eval-star-lts.After-length-of t = search in
+    let else2 : eval-star-place eval-star-lts.Else2 t = search in
+    let after-matched-of : eval-star-place eval-star-lts.After-matched-of t = search in
+    let after-larger2 : eval-star-place eval-star-lts.After-larger2 t = search in
+    let after-nesting-of : eval-star-place eval-star-lts.After-nesting-of t = search in
+    let after-larger : eval-star-place eval-star-lts.After-larger t = search in
+    let after-examined-of : eval-star-place eval-star-lts.After-examined-of t = search in
+    let else1 : eval-star-place eval-star-lts.Else1 t = search in
+    let after-eval-node : eval-star-place eval-star-lts.After-eval-node t = search in
+    let at-loop : eval-star-place eval-star-lts.At-loop t = search in
+    let start : eval-star-place eval-star-lts.Start t = search in
+    let a = start .args in
+    let pre = start .pre in
+    (after-eval-node .eval-node .kept .1 .1 .0 ∙ at-loop .loop .inv .0, round-goes (nodeW (a .words .now) (a .text .now .now) (a .left)) (a .a) (pre .1 .0 .short) (pre .1 .0 .most) (at-loop .loop .inv .1) (after-eval-node .eval-node .ensures) (else1 .if1 .left) (sym (after-matched-of .matched-of .ensures) ∙ not-false (after-matched-of .matched-of .result) (else2 .if2 .left)) (rw (after-examined-of .examined-of .ensures .0) at (after-larger .larger .ensures)) (rw (after-nesting-of .nesting-of .ensures .0) at (after-larger2 .larger2 .ensures)) (after-length-of .length-of .ensures .0) (c .if3 .left))
 
 eval-word-node-of-requires : (t : ℕ) → eval-word-lts.Need-node-of-requires (eval-word-claims t) (eval-word-at t) eval-word.Post
 eval-word-node-of-requires t c κs = search needs
@@ -723,82 +839,94 @@ eval-word-byte-between-requires t c κs = search needs
 
 eval-word-sub-eval-sequence : (t : ℕ) → eval-word-lts.Need-sub-eval-sequence (eval-word-claims t) (eval-word-at t) eval-word.Post
 eval-word-sub-eval-sequence t c =
-    let pre = c .before .before .before .before .before .pre in
-    omega (arith, pre .1 .1)
+    let start : eval-word-place eval-word-lts.Start t = search in
+    omega (arith, start .pre .1 .1)
 
 eval-word-eval-sequence-requires : (t : ℕ) → eval-word-lts.Need-eval-sequence-requires (eval-word-claims t) (eval-word-at t) eval-word.Post
 eval-word-eval-sequence-requires t c κs =
-    let pre = c .before .before .before .before .before .pre in
-    let node-of = c .before .before .before .node-of in
-    (omega (arith, pre .0, pre .1 .1), (record { short = pre .1 .0 .short; here = pre .1 .0 .here; most = omega (arith, pre .1 .0 .most, pre .1 .1) }, omega (arith, node-of .ensures .its-a), omega (arith, node-of .ensures .its-b)))
+    let after-node-of : eval-word-place eval-word-lts.After-node-of t = search in
+    let start : eval-word-place eval-word-lts.Start t = search in
+    let pre = start .pre in
+    (omega (arith, pre .0, pre .1 .1), (record { short = pre .1 .0 .short; here = pre .1 .0 .here; most = omega (arith, pre .1 .0 .most, pre .1 .1) }, omega (arith, after-node-of .node-of .ensures .its-a), omega (arith, after-node-of .node-of .ensures .its-b)))
 
 eval-word-sub-eval-choice : (t : ℕ) → eval-word-lts.Need-sub-eval-choice (eval-word-claims t) (eval-word-at t) eval-word.Post
 eval-word-sub-eval-choice t c =
-    let pre = c .before .before .before .before .before .pre in
-    omega (arith, pre .1 .1)
+    let start : eval-word-place eval-word-lts.Start t = search in
+    omega (arith, start .pre .1 .1)
 
 eval-word-eval-choice-requires : (t : ℕ) → eval-word-lts.Need-eval-choice-requires (eval-word-claims t) (eval-word-at t) eval-word.Post
 eval-word-eval-choice-requires t c κs =
-    let pre = c .before .before .before .before .before .pre in
-    let node-of = c .before .before .before .node-of in
-    (omega (arith, pre .0, pre .1 .1), (record { short = pre .1 .0 .short; here = pre .1 .0 .here; most = omega (arith, pre .1 .0 .most, pre .1 .1) }, omega (arith, node-of .ensures .its-a), omega (arith, node-of .ensures .its-b)))
+    let after-node-of : eval-word-place eval-word-lts.After-node-of t = search in
+    let start : eval-word-place eval-word-lts.Start t = search in
+    let pre = start .pre in
+    (omega (arith, pre .0, pre .1 .1), (record { short = pre .1 .0 .short; here = pre .1 .0 .here; most = omega (arith, pre .1 .0 .most, pre .1 .1) }, omega (arith, after-node-of .node-of .ensures .its-a), omega (arith, after-node-of .node-of .ensures .its-b)))
 
 eval-word-sub-eval-star : (t : ℕ) → eval-word-lts.Need-sub-eval-star (eval-word-claims t) (eval-word-at t) eval-word.Post
 eval-word-sub-eval-star t c =
-    let pre = c .before .before .before .before .before .pre in
-    omega (arith, pre .1 .1)
+    let start : eval-word-place eval-word-lts.Start t = search in
+    omega (arith, start .pre .1 .1)
 
 eval-word-eval-star-requires : (t : ℕ) → eval-word-lts.Need-eval-star-requires (eval-word-claims t) (eval-word-at t) eval-word.Post
 eval-word-eval-star-requires t c κs =
-    let pre = c .before .before .before .before .before .pre in
-    (omega (arith, pre .0, pre .1 .1), (record { short = pre .1 .0 .short; here = pre .1 .0 .here; most = omega (arith, pre .1 .0 .most, pre .1 .1) }, omega (arith, c .before .before .before .node-of .ensures .its-a)))
+    let after-node-of : eval-word-place eval-word-lts.After-node-of t = search in
+    let start : eval-word-place eval-word-lts.Start t = search in
+    let pre = start .pre in
+    (omega (arith, pre .0, pre .1 .1), (record { short = pre .1 .0 .short; here = pre .1 .0 .here; most = omega (arith, pre .1 .0 .most, pre .1 .1) }, omega (arith, after-node-of .node-of .ensures .its-a)))
 
 eval-word-sub-eval-not : (t : ℕ) → eval-word-lts.Need-sub-eval-not (eval-word-claims t) (eval-word-at t) eval-word.Post
 eval-word-sub-eval-not t c =
-    let pre = c .before .before .before .before .before .pre in
-    omega (arith, pre .1 .1)
+    let start : eval-word-place eval-word-lts.Start t = search in
+    omega (arith, start .pre .1 .1)
 
 eval-word-eval-not-requires : (t : ℕ) → eval-word-lts.Need-eval-not-requires (eval-word-claims t) (eval-word-at t) eval-word.Post
 eval-word-eval-not-requires t c κs =
-    let pre = c .before .before .before .before .before .pre in
-    (omega (arith, pre .0, pre .1 .1), (record { short = pre .1 .0 .short; here = pre .1 .0 .here; most = omega (arith, pre .1 .0 .most, pre .1 .1) }, omega (arith, c .before .before .before .node-of .ensures .its-a)))
+    let after-node-of : eval-word-place eval-word-lts.After-node-of t = search in
+    let start : eval-word-place eval-word-lts.Start t = search in
+    let pre = start .pre in
+    (omega (arith, pre .0, pre .1 .1), (record { short = pre .1 .0 .short; here = pre .1 .0 .here; most = omega (arith, pre .1 .0 .most, pre .1 .1) }, omega (arith, after-node-of .node-of .ensures .its-a)))
 
 eval-word-sub-eval-call : (t : ℕ) → eval-word-lts.Need-sub-eval-call (eval-word-claims t) (eval-word-at t) eval-word.Post
 eval-word-sub-eval-call t c =
-    let pre = c .before .before .before .before .before .pre in
-    omega (arith, pre .1 .1)
+    let start : eval-word-place eval-word-lts.Start t = search in
+    omega (arith, start .pre .1 .1)
 
 eval-word-eval-call-requires : (t : ℕ) → eval-word-lts.Need-eval-call-requires (eval-word-claims t) (eval-word-at t) eval-word.Post
 eval-word-eval-call-requires t c κs =
-    let pre = c .before .before .before .before .before .pre in
-    let node-of = c .before .before .before .node-of in
-    (omega (arith, pre .0, pre .1 .1), (record { short = pre .1 .0 .short; here = pre .1 .0 .here; most = omega (arith, pre .1 .0 .most, pre .1 .1) }, omega (arith, node-of .ensures .its-a), omega (arith, node-of .ensures .its-b)))
+    let after-node-of : eval-word-place eval-word-lts.After-node-of t = search in
+    let start : eval-word-place eval-word-lts.Start t = search in
+    let pre = start .pre in
+    (omega (arith, pre .0, pre .1 .1), (record { short = pre .1 .0 .short; here = pre .1 .0 .here; most = omega (arith, pre .1 .0 .most, pre .1 .1) }, omega (arith, after-node-of .node-of .ensures .its-a), omega (arith, after-node-of .node-of .ensures .its-b)))
 
 eval-word-returns : (t : ℕ) → eval-word-lts.Need-returns (eval-word-claims t) (eval-word-at t) eval-word.Post
 unfolding kindM wordOf
 eval-word-returns t c =
-    let a = c .before .before .before .args in
-    let pre = c .before .before .before .pre in
-    word-goes (a .words .now) (a .text .now .now) (a .left) (a .word) (a .at) (a .table .now) (a .count .now) (λ z. let l = pre .1 .1 in omega arith) (word-is (a .word) (c .before .node-of .ensures) (is-empty _ (omega arith))) (gives-value emptyHere refl refl (empty-within (pre .1 .0 .here)) (omega arith))
+    let after-node-of : eval-word-place eval-word-lts.After-node-of t = search in
+    let start : eval-word-place eval-word-lts.Start t = search in
+    let a = start .args in
+    let pre = start .pre in
+    word-goes (a .words .now) (a .text .now .now) (a .left) (a .word) (a .at) (a .table .now) (a .count .now) (λ z. let l = pre .1 .1 in omega arith) (word-is (a .word) (after-node-of .node-of .ensures) (is-empty _ (omega arith))) (gives-value emptyHere refl refl (empty-within (pre .1 .0 .here)) (omega arith))
 
 eval-word-returns-2 : (t : ℕ) → eval-word-lts.Need-returns-2 (eval-word-claims t) (eval-word-at t) eval-word.Post
 unfolding kindM
 eval-word-returns-2 t c =
-    let a = c .before .before .before .before .before .args in
-    let pre = c .before .before .before .before .before .pre in
+    let after-node-of : eval-word-place eval-word-lts.After-node-of t = search in
+    let start : eval-word-place eval-word-lts.Start t = search in
+    let a = start .args in
+    let pre = start .pre in
     let s = shape any (a .text .now .now) (a .at) (pre .1 .0 .here) in
-    word-goes (a .words .now) (a .text .now .now) (a .left) (a .word) (a .at) (a .table .now) (a .count .now) (λ z. let l = pre .1 .1 in omega arith) (word-is (a .word) (c .before .before .before .node-of .ensures) (is-any _ (omega arith))) (gives-value (terminalAt any (a .text .now .now) (a .at)) refl (c .any-byte .ensures)
+    word-goes (a .words .now) (a .text .now .now) (a .left) (a .word) (a .at) (a .table .now) (a .count .now) (λ z. let l = pre .1 .1 in omega arith) (word-is (a .word) (after-node-of .node-of .ensures) (is-any _ (omega arith))) (gives-value (terminalAt any (a .text .now .now) (a .at)) refl (c .any-byte .ensures)
     (record { in-text = s .in-text; up-to-end = s .up-to-end; in-examined = s .in-examined; failure = s .failure; nested = omega (arith, s .flat) })
     (omega (arith, s .flat)))
 
 eval-word-returns-3 : (t : ℕ) → eval-word-lts.Need-returns-3 (eval-word-claims t) (eval-word-at t) eval-word.Post
 unfolding kindM
 eval-word-returns-3 t c =
-    let a = c .before .before .before .before .before .args in
-    let pre = c .before .before .before .before .before .pre in
-    let node-of = c .before .before .before .node-of in
-    let s = shape (byteRange (node-of .result)) (a .text .now .now) (a .at) (pre .1 .0 .here) in
-    word-goes (a .words .now) (a .text .now .now) (a .left) (a .word) (a .at) (a .table .now) (a .count .now) (λ z. let l = pre .1 .1 in omega arith) (word-is (a .word) (node-of .ensures) (is-range _ (omega arith))) (gives-value (terminalAt (byteRange (node-of .result)) (a .text .now .now) (a .at)) refl (c .byte-between .ensures)
+    let after-node-of : eval-word-place eval-word-lts.After-node-of t = search in
+    let start : eval-word-place eval-word-lts.Start t = search in
+    let a = start .args in
+    let pre = start .pre in
+    let s = shape (byteRange (after-node-of .node-of .result)) (a .text .now .now) (a .at) (pre .1 .0 .here) in
+    word-goes (a .words .now) (a .text .now .now) (a .left) (a .word) (a .at) (a .table .now) (a .count .now) (λ z. let l = pre .1 .1 in omega arith) (word-is (a .word) (after-node-of .node-of .ensures) (is-range _ (omega arith))) (gives-value (terminalAt (byteRange (after-node-of .node-of .result)) (a .text .now .now) (a .at)) refl (c .byte-between .ensures)
     (record { in-text = s .in-text; up-to-end = s .up-to-end; in-examined = s .in-examined; failure = s .failure; nested = omega (arith, s .flat) })
     (omega (arith, s .flat)))
 
@@ -808,10 +936,11 @@ eval-word-same-length t c = search needs
 eval-word-returns-4 : (t : ℕ) → eval-word-lts.Need-returns-4 (eval-word-claims t) (eval-word-at t) eval-word.Post
 unfolding kindM
 eval-word-returns-4 t c =
-    let a = c .before .before .before .before .before .before .before .before .args in
-    let pre = c .before .before .before .before .before .before .before .before .pre in
-    let node-of = c .before .before .before .before .before .before .node-of in
-    word-goes (a .words .now) (a .text .now .now) (a .left) (a .word) (a .at) (a .table .now) (a .count .now) (λ z. let l = pre .1 .1 in omega arith) (word-is (a .word) (node-of .ensures) (is-sequence _ (omega arith))) (c .before .before .eval-sequence .ensures)
+    let after-eval-sequence : eval-word-place eval-word-lts.After-eval-sequence t = search in
+    let after-node-of : eval-word-place eval-word-lts.After-node-of t = search in
+    let start : eval-word-place eval-word-lts.Start t = search in
+    let a = start .args in
+    word-goes (a .words .now) (a .text .now .now) (a .left) (a .word) (a .at) (a .table .now) (a .count .now) (λ z. let l = start .pre .1 .1 in omega arith) (word-is (a .word) (after-node-of .node-of .ensures) (is-sequence _ (omega arith))) (after-eval-sequence .eval-sequence .ensures)
 
 eval-word-same-length-2 : (t : ℕ) → eval-word-lts.Need-same-length-2 (eval-word-claims t) (eval-word-at t) eval-word.Post
 eval-word-same-length-2 t c = search needs
@@ -819,10 +948,11 @@ eval-word-same-length-2 t c = search needs
 eval-word-returns-5 : (t : ℕ) → eval-word-lts.Need-returns-5 (eval-word-claims t) (eval-word-at t) eval-word.Post
 unfolding kindM
 eval-word-returns-5 t c =
-    let a = c .before .before .before .before .before .before .before .before .args in
-    let pre = c .before .before .before .before .before .before .before .before .pre in
-    let node-of = c .before .before .before .before .before .before .node-of in
-    word-goes (a .words .now) (a .text .now .now) (a .left) (a .word) (a .at) (a .table .now) (a .count .now) (λ z. let l = pre .1 .1 in omega arith) (word-is (a .word) (node-of .ensures) (is-choice _ (omega arith))) (c .before .before .eval-choice .ensures)
+    let after-eval-choice : eval-word-place eval-word-lts.After-eval-choice t = search in
+    let after-node-of : eval-word-place eval-word-lts.After-node-of t = search in
+    let start : eval-word-place eval-word-lts.Start t = search in
+    let a = start .args in
+    word-goes (a .words .now) (a .text .now .now) (a .left) (a .word) (a .at) (a .table .now) (a .count .now) (λ z. let l = start .pre .1 .1 in omega arith) (word-is (a .word) (after-node-of .node-of .ensures) (is-choice _ (omega arith))) (after-eval-choice .eval-choice .ensures)
 
 eval-word-same-length-3 : (t : ℕ) → eval-word-lts.Need-same-length-3 (eval-word-claims t) (eval-word-at t) eval-word.Post
 eval-word-same-length-3 t c = search needs
@@ -830,10 +960,11 @@ eval-word-same-length-3 t c = search needs
 eval-word-returns-6 : (t : ℕ) → eval-word-lts.Need-returns-6 (eval-word-claims t) (eval-word-at t) eval-word.Post
 unfolding kindM
 eval-word-returns-6 t c =
-    let a = c .before .before .before .before .before .before .before .before .args in
-    let pre = c .before .before .before .before .before .before .before .before .pre in
-    let node-of = c .before .before .before .before .before .before .node-of in
-    word-goes (a .words .now) (a .text .now .now) (a .left) (a .word) (a .at) (a .table .now) (a .count .now) (λ z. let l = pre .1 .1 in omega arith) (word-is (a .word) (node-of .ensures) (is-star _ (omega arith))) (c .before .before .eval-star .ensures)
+    let after-eval-star : eval-word-place eval-word-lts.After-eval-star t = search in
+    let after-node-of : eval-word-place eval-word-lts.After-node-of t = search in
+    let start : eval-word-place eval-word-lts.Start t = search in
+    let a = start .args in
+    word-goes (a .words .now) (a .text .now .now) (a .left) (a .word) (a .at) (a .table .now) (a .count .now) (λ z. let l = start .pre .1 .1 in omega arith) (word-is (a .word) (after-node-of .node-of .ensures) (is-star _ (omega arith))) (after-eval-star .eval-star .ensures)
 
 eval-word-same-length-4 : (t : ℕ) → eval-word-lts.Need-same-length-4 (eval-word-claims t) (eval-word-at t) eval-word.Post
 eval-word-same-length-4 t c = search needs
@@ -841,10 +972,11 @@ eval-word-same-length-4 t c = search needs
 eval-word-returns-7 : (t : ℕ) → eval-word-lts.Need-returns-7 (eval-word-claims t) (eval-word-at t) eval-word.Post
 unfolding kindM
 eval-word-returns-7 t c =
-    let a = c .before .before .before .before .before .before .before .before .args in
-    let pre = c .before .before .before .before .before .before .before .before .pre in
-    let node-of = c .before .before .before .before .before .before .node-of in
-    word-goes (a .words .now) (a .text .now .now) (a .left) (a .word) (a .at) (a .table .now) (a .count .now) (λ z. let l = pre .1 .1 in omega arith) (word-is (a .word) (node-of .ensures) (is-not _ (omega arith))) (c .before .before .eval-not .ensures)
+    let after-eval-not : eval-word-place eval-word-lts.After-eval-not t = search in
+    let after-node-of : eval-word-place eval-word-lts.After-node-of t = search in
+    let start : eval-word-place eval-word-lts.Start t = search in
+    let a = start .args in
+    word-goes (a .words .now) (a .text .now .now) (a .left) (a .word) (a .at) (a .table .now) (a .count .now) (λ z. let l = start .pre .1 .1 in omega arith) (word-is (a .word) (after-node-of .node-of .ensures) (is-not _ (omega arith))) (after-eval-not .eval-not .ensures)
 
 eval-word-same-length-5 : (t : ℕ) → eval-word-lts.Need-same-length-5 (eval-word-claims t) (eval-word-at t) eval-word.Post
 eval-word-same-length-5 t c = search needs
@@ -852,28 +984,31 @@ eval-word-same-length-5 t c = search needs
 eval-word-returns-8 : (t : ℕ) → eval-word-lts.Need-returns-8 (eval-word-claims t) (eval-word-at t) eval-word.Post
 unfolding kindM
 eval-word-returns-8 t c =
-    let a = c .before .before .before .before .before .before .before .before .args in
-    let pre = c .before .before .before .before .before .before .before .before .pre in
-    let node-of = c .before .before .before .before .before .before .node-of in
-    call-goes (a .words .now) (a .text .now .now) (a .left) (a .word) (a .at) (a .table .now) (a .count .now) (λ z. let l = pre .1 .1 in omega arith) (node-of .ensures .its-b) (word-is (a .word) (node-of .ensures) (is-call _ (omega arith))) (c .before .before .eval-call .ensures)
+    let after-eval-call : eval-word-place eval-word-lts.After-eval-call t = search in
+    let after-node-of : eval-word-place eval-word-lts.After-node-of t = search in
+    let start : eval-word-place eval-word-lts.Start t = search in
+    let a = start .args in
+    call-goes (a .words .now) (a .text .now .now) (a .left) (a .word) (a .at) (a .table .now) (a .count .now) (λ z. let l = start .pre .1 .1 in omega arith) (after-node-of .node-of .ensures .its-b) (word-is (a .word) (after-node-of .node-of .ensures) (is-call _ (omega arith))) (after-eval-call .eval-call .ensures)
 
 eval-word-returns-9 : (t : ℕ) → eval-word-lts.Need-returns-9 (eval-word-claims t) (eval-word-at t) eval-word.Post
 unfolding kindM
 eval-word-returns-9 t c =
-    let a = c .before .before .before .before .args in
-    let pre = c .before .before .before .before .pre in
-    let node-of = c .before .before .node-of in
-    let k = past-7 (node-of .result .kind) (c .before .match .rest .0 .0 .0 .0 .0 .0 .0 .1) (c .before .match .rest .0 .0 .0 .0 .0 .0 .1) (c .before .match .rest .0 .0 .0 .0 .0 .1) (c .before .match .rest .0 .0 .0 .0 .1) (c .before .match .rest .0 .0 .0 .1) (c .before .match .rest .0 .0 .1) (c .before .match .rest .0 .1) (c .before .match .rest .1) in
-    word-goes (a .words .now) (a .text .now .now) (a .left) (a .word) (a .at) (a .table .now) (a .count .now) (λ z. let l = pre .1 .1 in omega arith) (word-is (a .word) (node-of .ensures) (is-unlawful _ k)) (gives-refusal refl (omega arith))
+    let at-match-rest : eval-word-place eval-word-lts.At-match-rest t = search in
+    let after-node-of : eval-word-place eval-word-lts.After-node-of t = search in
+    let start : eval-word-place eval-word-lts.Start t = search in
+    let a = start .args in
+    let k = past-7 (after-node-of .node-of .result .kind) (at-match-rest .match .rest .0 .0 .0 .0 .0 .0 .0 .1) (at-match-rest .match .rest .0 .0 .0 .0 .0 .0 .1) (at-match-rest .match .rest .0 .0 .0 .0 .0 .1) (at-match-rest .match .rest .0 .0 .0 .0 .1) (at-match-rest .match .rest .0 .0 .0 .1) (at-match-rest .match .rest .0 .0 .1) (at-match-rest .match .rest .0 .1) (at-match-rest .match .rest .1) in
+    word-goes (a .words .now) (a .text .now .now) (a .left) (a .word) (a .at) (a .table .now) (a .count .now) (λ z. let l = start .pre .1 .1 in omega arith) (word-is (a .word) (after-node-of .node-of .ensures) (is-unlawful _ k)) (gives-refusal refl (omega arith))
 
 eval-word-returns-10 : (t : ℕ) → eval-word-lts.Need-returns-10 (eval-word-claims t) (eval-word-at t) eval-word.Post
 unfolding kindM
 eval-word-returns-10 t c =
-    let a = c .before .before .before .before .args in
-    let pre = c .before .before .before .before .pre in
-    let node-of = c .before .before .node-of in
-    let k = past-7 (node-of .result .kind) (c .before .match .rest .0 .0 .0 .0 .0 .0 .0 .1) (c .before .match .rest .0 .0 .0 .0 .0 .0 .1) (c .before .match .rest .0 .0 .0 .0 .0 .1) (c .before .match .rest .0 .0 .0 .0 .1) (c .before .match .rest .0 .0 .0 .1) (c .before .match .rest .0 .0 .1) (c .before .match .rest .0 .1) (c .before .match .rest .1) in
-    word-goes (a .words .now) (a .text .now .now) (a .left) (a .word) (a .at) (a .table .now) (a .count .now) (λ z. let l = pre .1 .1 in omega arith) (word-is (a .word) (node-of .ensures) (is-unlawful _ k)) (gives-refusal refl (omega arith))
+    let at-match-rest : eval-word-place eval-word-lts.At-match-rest t = search in
+    let after-node-of : eval-word-place eval-word-lts.After-node-of t = search in
+    let start : eval-word-place eval-word-lts.Start t = search in
+    let a = start .args in
+    let k = past-7 (after-node-of .node-of .result .kind) (at-match-rest .match .rest .0 .0 .0 .0 .0 .0 .0 .1) (at-match-rest .match .rest .0 .0 .0 .0 .0 .0 .1) (at-match-rest .match .rest .0 .0 .0 .0 .0 .1) (at-match-rest .match .rest .0 .0 .0 .0 .1) (at-match-rest .match .rest .0 .0 .0 .1) (at-match-rest .match .rest .0 .0 .1) (at-match-rest .match .rest .0 .1) (at-match-rest .match .rest .1) in
+    word-goes (a .words .now) (a .text .now .now) (a .left) (a .word) (a .at) (a .table .now) (a .count .now) (λ z. let l = start .pre .1 .1 in omega arith) (word-is (a .word) (after-node-of .node-of .ensures) (is-unlawful _ k)) (gives-refusal refl (omega arith))
 
 pub +eval-call+eval-choice+eval-node+eval-not+eval-rule+eval-sequence+eval-star+eval-word-spec :
     {M : Type 1} → statement M

@@ -19,8 +19,10 @@ sub-t16 c = search needs
 
 returns : tie.Need-returns
 returns c =
-    let entry = c .before .before .before .before .before .before .before .before in
-    refused (entry .pre .0) (pair-bounded (rulesIn (entry .args .words .now)) (entry .args .root) (length (entry .args .rows .now)) (entry .args .text .now) (entry .args .table .now) (nodeV (length (entry .args .rows .now)) (entry .args .words .now) (entry .args .text .now) (entry .args .table .now) 4096) (node-bounded (length (entry .args .rows .now)) (entry .args .words .now) (entry .args .text .now) (entry .args .table .now) 4096) (entry .args .start) 0 0 (length (entry .args .text .now)) 0 0 (omega arith) (omega arith)) (c .before .before .walk-all .ensures) (c .if1 .taken)
+    let after-walk-all : tie.After-walk-all = search in
+    let start : tie.Start = search in
+    let entry = start in
+    refused (entry .pre .0) (pair-bounded (rulesIn (entry .args .words .now)) (entry .args .root) (length (entry .args .rows .now)) (entry .args .text .now) (entry .args .table .now) (nodeV (length (entry .args .rows .now)) (entry .args .words .now) (entry .args .text .now) (entry .args .table .now) 4096) (node-bounded (length (entry .args .rows .now)) (entry .args .words .now) (entry .args .text .now) (entry .args .table .now) 4096) (entry .args .start) 0 0 (length (entry .args .text .now)) 0 0 (omega arith) (omega arith)) (after-walk-all .walk-all .ensures) (c .if1 .taken)
 
 walk-all-requires-2 : tie.Need-walk-all-requires-2
 walk-all-requires-2 c κs = search needs
@@ -30,8 +32,12 @@ same-length c = search needs
 
 returns-2 : tie.Need-returns-2
 returns-2 c =
-    let entry = c .before .before .before .before .before .before .before .before .before .before .before .before .before in
-    written (entry .pre .0) (pair-bounded (rulesIn (entry .args .words .now)) (entry .args .root) (length (entry .args .rows .now)) (entry .args .text .now) (entry .args .table .now) (nodeV (length (entry .args .rows .now)) (entry .args .words .now) (entry .args .text .now) (entry .args .table .now) 4096) (node-bounded (length (entry .args .rows .now)) (entry .args .words .now) (entry .args .text .now) (entry .args .table .now) 4096) (entry .args .start) 0 0 (length (entry .args .text .now)) 0 0 (omega arith) (omega arith)) (c .before .before .before .before .before .before .before .walk-all .ensures) (c .before .before .before .before .before .if1 .left) (c .before .before .walk-all2 .ensures)
+    let after-walk-all2 : tie.After-walk-all2 = search in
+    let else1 : tie.Else1 = search in
+    let after-walk-all : tie.After-walk-all = search in
+    let start : tie.Start = search in
+    let entry = start in
+    written (entry .pre .0) (pair-bounded (rulesIn (entry .args .words .now)) (entry .args .root) (length (entry .args .rows .now)) (entry .args .text .now) (entry .args .table .now) (nodeV (length (entry .args .rows .now)) (entry .args .words .now) (entry .args .text .now) (entry .args .table .now) 4096) (node-bounded (length (entry .args .rows .now)) (entry .args .words .now) (entry .args .text .now) (entry .args .table .now) 4096) (entry .args .start) 0 0 (length (entry .args .text .now)) 0 0 (omega arith) (omega arith)) (after-walk-all .walk-all .ensures) (else1 .if1 .left) (after-walk-all2 .walk-all2 .ensures)
 
 pub list-in-spec : {M : Type 1} → statement M
 list-in-spec =

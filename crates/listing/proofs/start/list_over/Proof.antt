@@ -17,11 +17,14 @@ rule-at-requires c κs = search needs
 
 list-in-requires : tie.Need-list-in-requires
 list-in-requires c κs =
-    let entry = c .before .before .before .before .before .before .before .before .before in
-    let small = root-small (entry .args .image .now) (c .before .before .before .header-of .result .start) in (
+    let after-rule-at : tie.After-rule-at = search in
+    let after-header-of : tie.After-header-of = search in
+    let start-place : tie.Start = search in
+    let entry = start-place in
+    let small = root-small (entry .args .image .now) (after-header-of .header-of .result .start) in (
       entry .pre .1,
-      omega (arith, c .before .before .before .header-of .ensures .its-start, entry .pre .0 .lawful .counts .start-rule, entry .pre .0 .lawful .counts .few-rules),
-      omega (arith, c .before .before .rule-at .ensures .its-root),
+      omega (arith, after-header-of .header-of .ensures .its-start, entry .pre .0 .lawful .counts .start-rule, entry .pre .0 .lawful .counts .few-rules),
+      omega (arith, after-rule-at .rule-at .ensures .its-root),
     )
 
 same-length : tie.Need-same-length
@@ -29,10 +32,15 @@ same-length c = search needs
 
 returns : tie.Need-returns
 returns c =
-    let entry = c .before .before .before .before .before .before .before .before .before .before .before .before in
-    let e : c .before .before .before .before .before .rule-at .result .root ≡ root (entry .args .image .now) (start (entry .args .image .now)) =
-    c .before .before .before .before .before .rule-at .ensures .its-root ∙ ap (root (entry .args .image .now)) (c .before .before .before .before .before .before .header-of .ensures .its-start) in
-    record { grammar = c .before .before .before .before .before .before .before .load .result; loaded = c .before .before .before .before .before .before .before .load .ensures; listed = rw (e, c .before .before .before .before .before .before .header-of .ensures .its-start) at (c .before .before .list-in .ensures) }
+    let after-list-in : tie.After-list-in = search in
+    let after-rule-at : tie.After-rule-at = search in
+    let after-header-of : tie.After-header-of = search in
+    let after-load : tie.After-load = search in
+    let start-place : tie.Start = search in
+    let entry = start-place in
+    let e : after-rule-at .rule-at .result .root ≡ root (entry .args .image .now) (start (entry .args .image .now)) =
+    after-rule-at .rule-at .ensures .its-root ∙ ap (root (entry .args .image .now)) (after-header-of .header-of .ensures .its-start) in
+    record { grammar = after-load .load .result; loaded = after-load .load .ensures; listed = rw (e, after-header-of .header-of .ensures .its-start) at (after-list-in .list-in .ensures) }
 
 pub list-over-spec : {M : Type 1} → statement M
 list-over-spec =

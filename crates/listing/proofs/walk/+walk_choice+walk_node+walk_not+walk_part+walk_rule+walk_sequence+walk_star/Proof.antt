@@ -18,7 +18,7 @@ use borrow.Author.Tests.{not-true, not-false}
 use native.Mathlib.Omega.{arith}
 use Prim.Native.Nat.{ℕ, _+_, _*_, _-_, _≤_, _<_}
 use borrow.Author.Needs.{needs}
-use borrow.Fn.Kinds.{In}
+use borrow.Fn.Kinds.{In, Out}
 use borrow.Fn.PlainCycle.{Measures, is, falls, and}
 use Rattle.listing.proofs.walk.walk_choice.Reads as walk-choice
 use Rattle.listing.proofs.walk.walk_choice.Kinds as walk-choice-kinds
@@ -137,27 +137,46 @@ walk-star-below t =
 abbrev walk-choice-claims : ℕ → walk-choice-lts.Claims
 walk-choice-claims t = (walk-part-below t, walk-part.Post, walk-node-below t, walk-node.Post)
 
+abbrev walk-choice-place : (walk-choice-lts.Claims → In 7 walk-choice-kinds.ps → Out 7 walk-choice-kinds.ps walk-choice-kinds.r → Type 0) → ℕ → Type 0
+walk-choice-place place t = place (walk-choice-claims t) (walk-choice-at t) walk-choice.Post
+
 abbrev walk-node-claims : ℕ → walk-node-lts.Claims
 walk-node-claims t = (node-of-reads.Asked, node-of-reads.Learnt, any-byte-reads.Asked, any-byte-reads.Learnt, byte-between-reads.Asked, byte-between-reads.Learnt, walk-sequence-below t, walk-sequence.Post, walk-choice-below t, walk-choice.Post, walk-star-below t, walk-star.Post, walk-not-below t, walk-not.Post, walk-rule-below t, walk-rule.Post)
+
+abbrev walk-node-place : (walk-node-lts.Claims → In 7 walk-node-kinds.ps → Out 7 walk-node-kinds.ps walk-node-kinds.r → Type 0) → ℕ → Type 0
+walk-node-place place t = place (walk-node-claims t) (walk-node-at t) walk-node.Post
 
 abbrev walk-not-claims : ℕ → walk-not-lts.Claims
 walk-not-claims t = (walk-node-below t, walk-node.Post)
 
+abbrev walk-not-place : (walk-not-lts.Claims → In 7 walk-not-kinds.ps → Out 7 walk-not-kinds.ps walk-not-kinds.r → Type 0) → ℕ → Type 0
+walk-not-place place t = place (walk-not-claims t) (walk-not-at t) walk-not.Post
+
 abbrev walk-part-claims : ℕ → walk-part-lts.Claims
 walk-part-claims t = (walk-node-below t, walk-node.Post, touched-reads.Asked, touched-reads.Learnt)
+
+abbrev walk-part-place : (walk-part-lts.Claims → In 7 walk-part-kinds.ps → Out 7 walk-part-kinds.ps walk-part-kinds.r → Type 0) → ℕ → Type 0
+walk-part-place place t = place (walk-part-claims t) (walk-part-at t) walk-part.Post
 
 abbrev walk-rule-claims : ℕ → walk-rule-lts.Claims
 walk-rule-claims t = (rules-in-reads.Asked, rules-in-reads.Learnt, look-reads.Asked, look-reads.Learnt, is-held-reads.Asked, is-held-reads.Learnt, from-word-reads.Asked, from-word-reads.Learnt, touched-reads.Asked, touched-reads.Learnt, row-word-reads.Asked, row-word-reads.Learnt, put-reads.Asked, put-reads.Learnt, walk-node-below t, walk-node.Post)
 
+abbrev walk-rule-place : (walk-rule-lts.Claims → In 7 walk-rule-kinds.ps → Out 7 walk-rule-kinds.ps walk-rule-kinds.r → Type 0) → ℕ → Type 0
+walk-rule-place place t = place (walk-rule-claims t) (walk-rule-at t) walk-rule.Post
+
 abbrev walk-sequence-claims : ℕ → walk-sequence-lts.Claims
 walk-sequence-claims t = (walk-node-below t, walk-node.Post)
+
+abbrev walk-sequence-place : (walk-sequence-lts.Claims → In 7 walk-sequence-kinds.ps → Out 7 walk-sequence-kinds.ps walk-sequence-kinds.r → Type 0) → ℕ → Type 0
+walk-sequence-place place t = place (walk-sequence-claims t) (walk-sequence-at t) walk-sequence.Post
 
 abbrev walk-star-claims : ℕ → walk-star-lts.Claims
 walk-star-claims t = (walk-part-below t, walk-part.Post)
 
 walk-choice-walk-part-requires : (t : ℕ) → walk-choice-lts.Need-walk-part-requires (walk-choice-claims t) (walk-choice-at t) walk-choice.Post
 walk-choice-walk-part-requires t c κs =
-    let pre = c .before .before .before .pre in
+    let start : walk-choice-place walk-choice-lts.Start t = search in
+    let pre = start .pre in
     (omega (arith, pre .0), (record { short = (pre .1 .0 .short); here = (pre .1 .0 .here); few = (pre .1 .0 .few); shallow = omega (arith, pre .1 .0 .shallow) }, pre .1 .1))
 
 walk-choice-same-length : (t : ℕ) → walk-choice-lts.Need-same-length (walk-choice-claims t) (walk-choice-at t) walk-choice.Post
@@ -165,46 +184,55 @@ walk-choice-same-length t c = search needs
 
 walk-choice-returns : (t : ℕ) → walk-choice-lts.Need-returns (walk-choice-claims t) (walk-choice-at t) walk-choice.Post
 walk-choice-returns t c =
-    let given = c .before .before .before .before .before .before .before .args in
-    let pre = c .before .before .before .before .before .before .before .pre in
+    let after-walk-part : walk-choice-place walk-choice-lts.After-walk-part t = search in
+    let start : walk-choice-place walk-choice-lts.Start t = search in
+    let given = start .args in
+    let pre = start .pre in
     let inner = nodeV (given .room) (given .words .now) (given .text .now .now) (given .table .now .now) (given .left) in
-    choice-first (given .text .now .now) (given .room) inner (pre .1 .0 .short) (node-bounded (given .room) (given .words .now) (given .text .now .now) (given .table .now .now) (given .left)) (pairV (rulesIn (given .words .now)) (given .b) (given .room) (given .text .now .now) (given .table .now .now) inner) (given .a) (given .b) (given .at) (given .lo) (given .hi) (given .depth) (pre .1 .0 .here) (pre .1 .0 .few) (c .before .before .before .walk-part .ensures) (c .if1 .taken)
+    choice-first (given .text .now .now) (given .room) inner (pre .1 .0 .short) (node-bounded (given .room) (given .words .now) (given .text .now .now) (given .table .now .now) (given .left)) (pairV (rulesIn (given .words .now)) (given .b) (given .room) (given .text .now .now) (given .table .now .now) inner) (given .a) (given .b) (given .at) (given .lo) (given .hi) (given .depth) (pre .1 .0 .here) (pre .1 .0 .few) (after-walk-part .walk-part .ensures) (c .if1 .taken)
 
 walk-choice-walk-node-requires : (t : ℕ) → walk-choice-lts.Need-walk-node-requires (walk-choice-claims t) (walk-choice-at t) walk-choice.Post
 walk-choice-walk-node-requires t c κs =
-    let given = c .before .before .before .before .before .before .before .before .before .args in
-    let pre = c .before .before .before .before .before .before .before .before .before .pre in
-    let x = c .before .before .before .before .before .walk-part in
+    let else1 : walk-choice-place walk-choice-lts.Else1 t = search in
+    let after-walk-part : walk-choice-place walk-choice-lts.After-walk-part t = search in
+    let start : walk-choice-place walk-choice-lts.Start t = search in
+    let given = start .args in
+    let pre = start .pre in
     let inner = nodeV (given .room) (given .words .now) (given .text .now .now) (given .table .now .now) (given .left) in
-    (omega (arith, pre .0), (record { short = (pre .1 .0 .short); here = (pre .1 .0 .here); few = choice-failed (given .text .now .now) (given .room) inner (pre .1 .0 .short) (node-bounded (given .room) (given .words .now) (given .text .now .now) (given .table .now .now) (given .left)) (pairV (rulesIn (given .words .now)) (given .b) (given .room) (given .text .now .now) (given .table .now .now) inner) (given .a) (given .b) (given .at) (given .lo) (given .hi) (given .depth) (pre .1 .0 .here) (pre .1 .0 .few) (x .ensures) (c .before .before .if1 .left); shallow = omega (arith, pre .1 .0 .shallow) }, pre .1 .2))
+    (omega (arith, pre .0), (record { short = (pre .1 .0 .short); here = (pre .1 .0 .here); few = choice-failed (given .text .now .now) (given .room) inner (pre .1 .0 .short) (node-bounded (given .room) (given .words .now) (given .text .now .now) (given .table .now .now) (given .left)) (pairV (rulesIn (given .words .now)) (given .b) (given .room) (given .text .now .now) (given .table .now .now) inner) (given .a) (given .b) (given .at) (given .lo) (given .hi) (given .depth) (pre .1 .0 .here) (pre .1 .0 .few) (after-walk-part .walk-part .ensures) (else1 .if1 .left); shallow = omega (arith, pre .1 .0 .shallow) }, pre .1 .2))
 
 walk-choice-same-length-2 : (t : ℕ) → walk-choice-lts.Need-same-length-2 (walk-choice-claims t) (walk-choice-at t) walk-choice.Post
 walk-choice-same-length-2 t c = search needs
 
 walk-choice-returns-2 : (t : ℕ) → walk-choice-lts.Need-returns-2 (walk-choice-claims t) (walk-choice-at t) walk-choice.Post
 walk-choice-returns-2 t c =
-    let given = c .before .before .before .before .before .before .before .before .before .before .before .before .args in
-    let pre = c .before .before .before .before .before .before .before .before .before .before .before .before .pre in
-    let x = c .before .before .before .before .before .before .before .before .walk-part in
-    let if1 = c .before .before .before .before .before .if1 in
+    let after-walk-node : walk-choice-place walk-choice-lts.After-walk-node t = search in
+    let else1 : walk-choice-place walk-choice-lts.Else1 t = search in
+    let after-walk-part : walk-choice-place walk-choice-lts.After-walk-part t = search in
+    let start : walk-choice-place walk-choice-lts.Start t = search in
+    let given = start .args in
+    let pre = start .pre in
     let inner = nodeV (given .room) (given .words .now) (given .text .now .now) (given .table .now .now) (given .left) in
-    choice-second (given .text .now .now) (given .room) inner (pre .1 .0 .short) (node-bounded (given .room) (given .words .now) (given .text .now .now) (given .table .now .now) (given .left)) (pairV (rulesIn (given .words .now)) (given .b) (given .room) (given .text .now .now) (given .table .now .now) inner) (given .a) (given .b) (given .at) (given .lo) (given .hi) (given .depth) (pre .1 .0 .here) (pre .1 .0 .few) (x .ensures) (if1 .left) (c .before .before .walk-node .ensures)
+    choice-second (given .text .now .now) (given .room) inner (pre .1 .0 .short) (node-bounded (given .room) (given .words .now) (given .text .now .now) (given .table .now .now) (given .left)) (pairV (rulesIn (given .words .now)) (given .b) (given .room) (given .text .now .now) (given .table .now .now) inner) (given .a) (given .b) (given .at) (given .lo) (given .hi) (given .depth) (pre .1 .0 .here) (pre .1 .0 .few) (after-walk-part .walk-part .ensures) (else1 .if1 .left) (after-walk-node .walk-node .ensures)
 
 walk-node-add-result : (t : ℕ) → walk-node-lts.Need-add-result (walk-node-claims t) (walk-node-at t) walk-node.Post
 walk-node-add-result t c = search needs
 
 walk-node-returns : (t : ℕ) → walk-node-lts.Need-returns (walk-node-claims t) (walk-node-at t) walk-node.Post
 walk-node-returns t c =
-    let given = c .before .before .args in
+    let start : walk-node-place walk-node-lts.Start t = search in
+    let given = start .args in
     node-too-deep (given .room) (given .words .now) (given .text .now .now) (given .table .now .now) (given .node) (given .at) (given .lo) (given .hi) (given .depth) (given .count .now) (given .rows .now) (given .left) (c .if1 .taken)
 
 walk-node-mul-node-of : (t : ℕ) → walk-node-lts.Need-mul-node-of (walk-node-claims t) (walk-node-at t) walk-node.Post
 walk-node-mul-node-of t c =
-    omega (arith, c .before .before .pre .1 .1)
+    let start : walk-node-place walk-node-lts.Start t = search in
+    omega (arith, start .pre .1 .1)
 
 walk-node-element-copy-out-node-of : (t : ℕ) → walk-node-lts.Need-element-copy-out-node-of (walk-node-claims t) (walk-node-at t) walk-node.Post
 walk-node-element-copy-out-node-of t c =
-    omega (arith, c .before .before .pre .1 .1)
+    let start : walk-node-place walk-node-lts.Start t = search in
+    omega (arith, start .pre .1 .1)
 
 walk-node-node-of-requires : (t : ℕ) → walk-node-lts.Need-node-of-requires (walk-node-claims t) (walk-node-at t) walk-node.Post
 walk-node-node-of-requires t c κs = search needs
@@ -217,61 +245,68 @@ walk-node-byte-between-requires t c κs = search needs
 
 walk-node-sub-walk-sequence : (t : ℕ) → walk-node-lts.Need-sub-walk-sequence (walk-node-claims t) (walk-node-at t) walk-node.Post
 walk-node-sub-walk-sequence t c =
-    let if1 = c .before .before .before .before .before .if1 in
-    let ne = if1 .left in omega (arith, ne)
+    let else1 : walk-node-place walk-node-lts.Else1 t = search in
+    let ne = else1 .if1 .left in omega (arith, ne)
 
 walk-node-walk-sequence-requires : (t : ℕ) → walk-node-lts.Need-walk-sequence-requires (walk-node-claims t) (walk-node-at t) walk-node.Post
 walk-node-walk-sequence-requires t c κs =
-    let pre = c .before .before .before .before .before .before .before .pre in
-    let if1 = c .before .before .before .before .before .if1 in
-    let node-of = c .before .before .before .node-of in
-    let ne = if1 .left in (omega (arith, ne, pre .0), (record { short = (pre .1 .0 .short); here = (pre .1 .0 .here); few = (pre .1 .0 .few); shallow = omega (arith, ne, pre .1 .0 .shallow) }, omega (arith, node-of .ensures .its-a), omega (arith, node-of .ensures .its-b)))
+    let after-node-of : walk-node-place walk-node-lts.After-node-of t = search in
+    let else1 : walk-node-place walk-node-lts.Else1 t = search in
+    let start : walk-node-place walk-node-lts.Start t = search in
+    let pre = start .pre in
+    let ne = else1 .if1 .left in (omega (arith, ne, pre .0), (record { short = (pre .1 .0 .short); here = (pre .1 .0 .here); few = (pre .1 .0 .few); shallow = omega (arith, ne, pre .1 .0 .shallow) }, omega (arith, after-node-of .node-of .ensures .its-a), omega (arith, after-node-of .node-of .ensures .its-b)))
 
 walk-node-sub-walk-choice : (t : ℕ) → walk-node-lts.Need-sub-walk-choice (walk-node-claims t) (walk-node-at t) walk-node.Post
 walk-node-sub-walk-choice t c =
-    let if1 = c .before .before .before .before .before .if1 in
-    let ne = if1 .left in omega (arith, ne)
+    let else1 : walk-node-place walk-node-lts.Else1 t = search in
+    let ne = else1 .if1 .left in omega (arith, ne)
 
 walk-node-walk-choice-requires : (t : ℕ) → walk-node-lts.Need-walk-choice-requires (walk-node-claims t) (walk-node-at t) walk-node.Post
 walk-node-walk-choice-requires t c κs =
-    let pre = c .before .before .before .before .before .before .before .pre in
-    let if1 = c .before .before .before .before .before .if1 in
-    let node-of = c .before .before .before .node-of in
-    let ne = if1 .left in (omega (arith, ne, pre .0), (record { short = (pre .1 .0 .short); here = (pre .1 .0 .here); few = (pre .1 .0 .few); shallow = omega (arith, ne, pre .1 .0 .shallow) }, omega (arith, node-of .ensures .its-a), omega (arith, node-of .ensures .its-b)))
+    let after-node-of : walk-node-place walk-node-lts.After-node-of t = search in
+    let else1 : walk-node-place walk-node-lts.Else1 t = search in
+    let start : walk-node-place walk-node-lts.Start t = search in
+    let pre = start .pre in
+    let ne = else1 .if1 .left in (omega (arith, ne, pre .0), (record { short = (pre .1 .0 .short); here = (pre .1 .0 .here); few = (pre .1 .0 .few); shallow = omega (arith, ne, pre .1 .0 .shallow) }, omega (arith, after-node-of .node-of .ensures .its-a), omega (arith, after-node-of .node-of .ensures .its-b)))
 
 walk-node-sub-walk-star : (t : ℕ) → walk-node-lts.Need-sub-walk-star (walk-node-claims t) (walk-node-at t) walk-node.Post
 walk-node-sub-walk-star t c =
-    let if1 = c .before .before .before .before .before .if1 in
-    let ne = if1 .left in omega (arith, ne)
+    let else1 : walk-node-place walk-node-lts.Else1 t = search in
+    let ne = else1 .if1 .left in omega (arith, ne)
 
 walk-node-walk-star-requires : (t : ℕ) → walk-node-lts.Need-walk-star-requires (walk-node-claims t) (walk-node-at t) walk-node.Post
 walk-node-walk-star-requires t c κs =
-    let pre = c .before .before .before .before .before .before .before .pre in
-    let if1 = c .before .before .before .before .before .if1 in
-    let ne = if1 .left in (omega (arith, ne, pre .0), (record { short = (pre .1 .0 .short); here = (pre .1 .0 .here); few = (pre .1 .0 .few); shallow = omega (arith, ne, pre .1 .0 .shallow) }, omega (arith, c .before .before .before .node-of .ensures .its-a)))
+    let after-node-of : walk-node-place walk-node-lts.After-node-of t = search in
+    let else1 : walk-node-place walk-node-lts.Else1 t = search in
+    let start : walk-node-place walk-node-lts.Start t = search in
+    let pre = start .pre in
+    let ne = else1 .if1 .left in (omega (arith, ne, pre .0), (record { short = (pre .1 .0 .short); here = (pre .1 .0 .here); few = (pre .1 .0 .few); shallow = omega (arith, ne, pre .1 .0 .shallow) }, omega (arith, after-node-of .node-of .ensures .its-a)))
 
 walk-node-sub-walk-not : (t : ℕ) → walk-node-lts.Need-sub-walk-not (walk-node-claims t) (walk-node-at t) walk-node.Post
 walk-node-sub-walk-not t c =
-    let if1 = c .before .before .before .before .before .if1 in
-    let ne = if1 .left in omega (arith, ne)
+    let else1 : walk-node-place walk-node-lts.Else1 t = search in
+    let ne = else1 .if1 .left in omega (arith, ne)
 
 walk-node-walk-not-requires : (t : ℕ) → walk-node-lts.Need-walk-not-requires (walk-node-claims t) (walk-node-at t) walk-node.Post
 walk-node-walk-not-requires t c κs =
-    let pre = c .before .before .before .before .before .before .before .pre in
-    let if1 = c .before .before .before .before .before .if1 in
-    let ne = if1 .left in (omega (arith, ne, pre .0), (record { short = (pre .1 .0 .short); here = (pre .1 .0 .here); few = (pre .1 .0 .few); shallow = omega (arith, ne, pre .1 .0 .shallow) }, omega (arith, c .before .before .before .node-of .ensures .its-a)))
+    let after-node-of : walk-node-place walk-node-lts.After-node-of t = search in
+    let else1 : walk-node-place walk-node-lts.Else1 t = search in
+    let start : walk-node-place walk-node-lts.Start t = search in
+    let pre = start .pre in
+    let ne = else1 .if1 .left in (omega (arith, ne, pre .0), (record { short = (pre .1 .0 .short); here = (pre .1 .0 .here); few = (pre .1 .0 .few); shallow = omega (arith, ne, pre .1 .0 .shallow) }, omega (arith, after-node-of .node-of .ensures .its-a)))
 
 walk-node-sub-walk-rule : (t : ℕ) → walk-node-lts.Need-sub-walk-rule (walk-node-claims t) (walk-node-at t) walk-node.Post
 walk-node-sub-walk-rule t c =
-    let if1 = c .before .before .before .before .before .if1 in
-    let ne = if1 .left in omega (arith, ne)
+    let else1 : walk-node-place walk-node-lts.Else1 t = search in
+    let ne = else1 .if1 .left in omega (arith, ne)
 
 walk-node-walk-rule-requires : (t : ℕ) → walk-node-lts.Need-walk-rule-requires (walk-node-claims t) (walk-node-at t) walk-node.Post
 walk-node-walk-rule-requires t c κs =
-    let pre = c .before .before .before .before .before .before .before .pre in
-    let if1 = c .before .before .before .before .before .if1 in
-    let node-of = c .before .before .before .node-of in
-    let ne = if1 .left in (omega (arith, ne, pre .0), (record { short = (pre .1 .0 .short); here = (pre .1 .0 .here); few = (pre .1 .0 .few); shallow = omega (arith, ne, pre .1 .0 .shallow) }, omega (arith, node-of .ensures .its-a), omega (arith, node-of .ensures .its-b)))
+    let after-node-of : walk-node-place walk-node-lts.After-node-of t = search in
+    let else1 : walk-node-place walk-node-lts.Else1 t = search in
+    let start : walk-node-place walk-node-lts.Start t = search in
+    let pre = start .pre in
+    let ne = else1 .if1 .left in (omega (arith, ne, pre .0), (record { short = (pre .1 .0 .short); here = (pre .1 .0 .here); few = (pre .1 .0 .few); shallow = omega (arith, ne, pre .1 .0 .shallow) }, omega (arith, after-node-of .node-of .ensures .its-a), omega (arith, after-node-of .node-of .ensures .its-b)))
 
 walk-node-add-result-2 : (t : ℕ) → walk-node-lts.Need-add-result-2 (walk-node-claims t) (walk-node-at t) walk-node.Post
 walk-node-add-result-2 t c = search needs
@@ -281,21 +316,27 @@ walk-node-add-result-3 t c = search needs
 
 walk-node-returns-2 : (t : ℕ) → walk-node-lts.Need-returns-2 (walk-node-claims t) (walk-node-at t) walk-node.Post
 walk-node-returns-2 t c =
-    let given = c .before .before .before .before .before .args in
-    node-goes (given .room) (given .words .now) (given .text .now .now) (given .table .now .now) (given .node) (given .at) (given .lo) (given .hi) (given .depth) (given .count .now) (given .rows .now) (given .left) (c .before .before .before .if1 .left) (word-is (getD (given .words .now) (given .node) 0) (c .before .node-of .ensures) (is-empty _ (omega arith))) (empty-goes (given .room) (given .words .now) (given .text .now .now) (given .table .now .now) (given .node) (given .at) (given .lo) (given .hi) (given .depth) (given .count .now) (given .rows .now) (given .left - 1))
+    let after-node-of : walk-node-place walk-node-lts.After-node-of t = search in
+    let else1 : walk-node-place walk-node-lts.Else1 t = search in
+    let start : walk-node-place walk-node-lts.Start t = search in
+    let given = start .args in
+    node-goes (given .room) (given .words .now) (given .text .now .now) (given .table .now .now) (given .node) (given .at) (given .lo) (given .hi) (given .depth) (given .count .now) (given .rows .now) (given .left) (else1 .if1 .left) (word-is (getD (given .words .now) (given .node) 0) (after-node-of .node-of .ensures) (is-empty _ (omega arith))) (empty-goes (given .room) (given .words .now) (given .text .now .now) (given .table .now .now) (given .node) (given .at) (given .lo) (given .hi) (given .depth) (given .count .now) (given .rows .now) (given .left - 1))
 
 walk-node-returns-3 : (t : ℕ) → walk-node-lts.Need-returns-3 (walk-node-claims t) (walk-node-at t) walk-node.Post
 walk-node-returns-3 t c =
-    let given = c .before .before .before .before .before .before .before .args in
-    let if1 = c .before .before .before .before .before .if1 in
-    node-goes (given .room) (given .words .now) (given .text .now .now) (given .table .now .now) (given .node) (given .at) (given .lo) (given .hi) (given .depth) (given .count .now) (given .rows .now) (given .left) (if1 .left) (word-is (getD (given .words .now) (given .node) 0) (c .before .before .before .node-of .ensures) (is-any _ (omega arith))) (terminal-goes (given .room) (given .words .now) (given .text .now .now) (given .table .now .now) (given .node) (given .at) (given .lo) (given .hi) (given .depth) (given .count .now) (given .rows .now) (given .left - 1) any (c .any-byte .ensures))
+    let after-node-of : walk-node-place walk-node-lts.After-node-of t = search in
+    let else1 : walk-node-place walk-node-lts.Else1 t = search in
+    let start : walk-node-place walk-node-lts.Start t = search in
+    let given = start .args in
+    node-goes (given .room) (given .words .now) (given .text .now .now) (given .table .now .now) (given .node) (given .at) (given .lo) (given .hi) (given .depth) (given .count .now) (given .rows .now) (given .left) (else1 .if1 .left) (word-is (getD (given .words .now) (given .node) 0) (after-node-of .node-of .ensures) (is-any _ (omega arith))) (terminal-goes (given .room) (given .words .now) (given .text .now .now) (given .table .now .now) (given .node) (given .at) (given .lo) (given .hi) (given .depth) (given .count .now) (given .rows .now) (given .left - 1) any (c .any-byte .ensures))
 
 walk-node-returns-4 : (t : ℕ) → walk-node-lts.Need-returns-4 (walk-node-claims t) (walk-node-at t) walk-node.Post
 walk-node-returns-4 t c =
-    let given = c .before .before .before .before .before .before .before .args in
-    let if1 = c .before .before .before .before .before .if1 in
-    let node-of = c .before .before .before .node-of in
-    node-goes (given .room) (given .words .now) (given .text .now .now) (given .table .now .now) (given .node) (given .at) (given .lo) (given .hi) (given .depth) (given .count .now) (given .rows .now) (given .left) (if1 .left) (word-is (getD (given .words .now) (given .node) 0) (node-of .ensures) (is-range _ (omega arith))) (terminal-goes (given .room) (given .words .now) (given .text .now .now) (given .table .now .now) (given .node) (given .at) (given .lo) (given .hi) (given .depth) (given .count .now) (given .rows .now) (given .left - 1) (byteRange (node-of .result)) (c .byte-between .ensures))
+    let after-node-of : walk-node-place walk-node-lts.After-node-of t = search in
+    let else1 : walk-node-place walk-node-lts.Else1 t = search in
+    let start : walk-node-place walk-node-lts.Start t = search in
+    let given = start .args in
+    node-goes (given .room) (given .words .now) (given .text .now .now) (given .table .now .now) (given .node) (given .at) (given .lo) (given .hi) (given .depth) (given .count .now) (given .rows .now) (given .left) (else1 .if1 .left) (word-is (getD (given .words .now) (given .node) 0) (after-node-of .node-of .ensures) (is-range _ (omega arith))) (terminal-goes (given .room) (given .words .now) (given .text .now .now) (given .table .now .now) (given .node) (given .at) (given .lo) (given .hi) (given .depth) (given .count .now) (given .rows .now) (given .left - 1) (byteRange (after-node-of .node-of .result)) (c .byte-between .ensures))
 
 walk-node-same-length : (t : ℕ) → walk-node-lts.Need-same-length (walk-node-claims t) (walk-node-at t) walk-node.Post
 walk-node-same-length t c = search needs
@@ -303,10 +344,12 @@ walk-node-same-length t c = search needs
 walk-node-returns-5 : (t : ℕ) → walk-node-lts.Need-returns-5 (walk-node-claims t) (walk-node-at t) walk-node.Post
 unfolding kindV
 walk-node-returns-5 t c =
-    let given = c .before .before .before .before .before .before .before .before .before .before .args in
-    let if1 = c .before .before .before .before .before .before .before .before .if1 in
-    let node-of = c .before .before .before .before .before .before .node-of in
-    node-goes (given .room) (given .words .now) (given .text .now .now) (given .table .now .now) (given .node) (given .at) (given .lo) (given .hi) (given .depth) (given .count .now) (given .rows .now) (given .left) (if1 .left) (word-is (getD (given .words .now) (given .node) 0) (node-of .ensures) (is-sequence _ (omega arith))) (c .before .before .walk-sequence .ensures)
+    let after-walk-sequence : walk-node-place walk-node-lts.After-walk-sequence t = search in
+    let after-node-of : walk-node-place walk-node-lts.After-node-of t = search in
+    let else1 : walk-node-place walk-node-lts.Else1 t = search in
+    let start : walk-node-place walk-node-lts.Start t = search in
+    let given = start .args in
+    node-goes (given .room) (given .words .now) (given .text .now .now) (given .table .now .now) (given .node) (given .at) (given .lo) (given .hi) (given .depth) (given .count .now) (given .rows .now) (given .left) (else1 .if1 .left) (word-is (getD (given .words .now) (given .node) 0) (after-node-of .node-of .ensures) (is-sequence _ (omega arith))) (after-walk-sequence .walk-sequence .ensures)
 
 walk-node-same-length-2 : (t : ℕ) → walk-node-lts.Need-same-length-2 (walk-node-claims t) (walk-node-at t) walk-node.Post
 walk-node-same-length-2 t c = search needs
@@ -314,10 +357,12 @@ walk-node-same-length-2 t c = search needs
 walk-node-returns-6 : (t : ℕ) → walk-node-lts.Need-returns-6 (walk-node-claims t) (walk-node-at t) walk-node.Post
 unfolding kindV
 walk-node-returns-6 t c =
-    let given = c .before .before .before .before .before .before .before .before .before .before .args in
-    let if1 = c .before .before .before .before .before .before .before .before .if1 in
-    let node-of = c .before .before .before .before .before .before .node-of in
-    node-goes (given .room) (given .words .now) (given .text .now .now) (given .table .now .now) (given .node) (given .at) (given .lo) (given .hi) (given .depth) (given .count .now) (given .rows .now) (given .left) (if1 .left) (word-is (getD (given .words .now) (given .node) 0) (node-of .ensures) (is-choice _ (omega arith))) (c .before .before .walk-choice .ensures)
+    let after-walk-choice : walk-node-place walk-node-lts.After-walk-choice t = search in
+    let after-node-of : walk-node-place walk-node-lts.After-node-of t = search in
+    let else1 : walk-node-place walk-node-lts.Else1 t = search in
+    let start : walk-node-place walk-node-lts.Start t = search in
+    let given = start .args in
+    node-goes (given .room) (given .words .now) (given .text .now .now) (given .table .now .now) (given .node) (given .at) (given .lo) (given .hi) (given .depth) (given .count .now) (given .rows .now) (given .left) (else1 .if1 .left) (word-is (getD (given .words .now) (given .node) 0) (after-node-of .node-of .ensures) (is-choice _ (omega arith))) (after-walk-choice .walk-choice .ensures)
 
 walk-node-same-length-3 : (t : ℕ) → walk-node-lts.Need-same-length-3 (walk-node-claims t) (walk-node-at t) walk-node.Post
 walk-node-same-length-3 t c = search needs
@@ -325,10 +370,12 @@ walk-node-same-length-3 t c = search needs
 walk-node-returns-7 : (t : ℕ) → walk-node-lts.Need-returns-7 (walk-node-claims t) (walk-node-at t) walk-node.Post
 unfolding kindV
 walk-node-returns-7 t c =
-    let given = c .before .before .before .before .before .before .before .before .before .before .args in
-    let if1 = c .before .before .before .before .before .before .before .before .if1 in
-    let node-of = c .before .before .before .before .before .before .node-of in
-    node-goes (given .room) (given .words .now) (given .text .now .now) (given .table .now .now) (given .node) (given .at) (given .lo) (given .hi) (given .depth) (given .count .now) (given .rows .now) (given .left) (if1 .left) (word-is (getD (given .words .now) (given .node) 0) (node-of .ensures) (is-star _ (omega arith))) (c .before .before .walk-star .ensures)
+    let after-walk-star : walk-node-place walk-node-lts.After-walk-star t = search in
+    let after-node-of : walk-node-place walk-node-lts.After-node-of t = search in
+    let else1 : walk-node-place walk-node-lts.Else1 t = search in
+    let start : walk-node-place walk-node-lts.Start t = search in
+    let given = start .args in
+    node-goes (given .room) (given .words .now) (given .text .now .now) (given .table .now .now) (given .node) (given .at) (given .lo) (given .hi) (given .depth) (given .count .now) (given .rows .now) (given .left) (else1 .if1 .left) (word-is (getD (given .words .now) (given .node) 0) (after-node-of .node-of .ensures) (is-star _ (omega arith))) (after-walk-star .walk-star .ensures)
 
 walk-node-same-length-4 : (t : ℕ) → walk-node-lts.Need-same-length-4 (walk-node-claims t) (walk-node-at t) walk-node.Post
 walk-node-same-length-4 t c = search needs
@@ -336,10 +383,12 @@ walk-node-same-length-4 t c = search needs
 walk-node-returns-8 : (t : ℕ) → walk-node-lts.Need-returns-8 (walk-node-claims t) (walk-node-at t) walk-node.Post
 unfolding kindV
 walk-node-returns-8 t c =
-    let given = c .before .before .before .before .before .before .before .before .before .before .args in
-    let if1 = c .before .before .before .before .before .before .before .before .if1 in
-    let node-of = c .before .before .before .before .before .before .node-of in
-    node-goes (given .room) (given .words .now) (given .text .now .now) (given .table .now .now) (given .node) (given .at) (given .lo) (given .hi) (given .depth) (given .count .now) (given .rows .now) (given .left) (if1 .left) (word-is (getD (given .words .now) (given .node) 0) (node-of .ensures) (is-not _ (omega arith))) (c .before .before .walk-not .ensures)
+    let after-walk-not : walk-node-place walk-node-lts.After-walk-not t = search in
+    let after-node-of : walk-node-place walk-node-lts.After-node-of t = search in
+    let else1 : walk-node-place walk-node-lts.Else1 t = search in
+    let start : walk-node-place walk-node-lts.Start t = search in
+    let given = start .args in
+    node-goes (given .room) (given .words .now) (given .text .now .now) (given .table .now .now) (given .node) (given .at) (given .lo) (given .hi) (given .depth) (given .count .now) (given .rows .now) (given .left) (else1 .if1 .left) (word-is (getD (given .words .now) (given .node) 0) (after-node-of .node-of .ensures) (is-not _ (omega arith))) (after-walk-not .walk-not .ensures)
 
 walk-node-same-length-5 : (t : ℕ) → walk-node-lts.Need-same-length-5 (walk-node-claims t) (walk-node-at t) walk-node.Post
 walk-node-same-length-5 t c = search needs
@@ -347,34 +396,42 @@ walk-node-same-length-5 t c = search needs
 walk-node-returns-9 : (t : ℕ) → walk-node-lts.Need-returns-9 (walk-node-claims t) (walk-node-at t) walk-node.Post
 unfolding kindV
 walk-node-returns-9 t c =
-    let given = c .before .before .before .before .before .before .before .before .before .before .args in
-    let if1 = c .before .before .before .before .before .before .before .before .if1 in
-    let node-of = c .before .before .before .before .before .before .node-of in
-    node-goes (given .room) (given .words .now) (given .text .now .now) (given .table .now .now) (given .node) (given .at) (given .lo) (given .hi) (given .depth) (given .count .now) (given .rows .now) (given .left) (if1 .left) (word-is (getD (given .words .now) (given .node) 0) (node-of .ensures) (is-call _ (omega arith))) (rw (node-of .ensures .its-b) at (c .before .before .walk-rule .ensures))
+    let after-walk-rule : walk-node-place walk-node-lts.After-walk-rule t = search in
+    let after-node-of : walk-node-place walk-node-lts.After-node-of t = search in
+    let else1 : walk-node-place walk-node-lts.Else1 t = search in
+    let start : walk-node-place walk-node-lts.Start t = search in
+    let given = start .args in
+    node-goes (given .room) (given .words .now) (given .text .now .now) (given .table .now .now) (given .node) (given .at) (given .lo) (given .hi) (given .depth) (given .count .now) (given .rows .now) (given .left) (else1 .if1 .left) (word-is (getD (given .words .now) (given .node) 0) (after-node-of .node-of .ensures) (is-call _ (omega arith))) (rw (after-node-of .node-of .ensures .its-b) at (after-walk-rule .walk-rule .ensures))
 
 walk-node-returns-10 : (t : ℕ) → walk-node-lts.Need-returns-10 (walk-node-claims t) (walk-node-at t) walk-node.Post
 walk-node-returns-10 t c =
-    let given = c .before .before .before .before .before .before .args in
-    let if1 = c .before .before .before .before .if1 in
-    let node-of = c .before .before .node-of in
-    let k = past-7 (node-of .result .kind) (c .before .match .rest .0 .0 .0 .0 .0 .0 .0 .1) (c .before .match .rest .0 .0 .0 .0 .0 .0 .1) (c .before .match .rest .0 .0 .0 .0 .0 .1) (c .before .match .rest .0 .0 .0 .0 .1) (c .before .match .rest .0 .0 .0 .1) (c .before .match .rest .0 .0 .1) (c .before .match .rest .0 .1) (c .before .match .rest .1) in
-    node-goes (given .room) (given .words .now) (given .text .now .now) (given .table .now .now) (given .node) (given .at) (given .lo) (given .hi) (given .depth) (given .count .now) (given .rows .now) (given .left) (if1 .left) (word-is (getD (given .words .now) (given .node) 0) (node-of .ensures) (is-unlawful _ k)) (unlawful-goes (given .room) (given .words .now) (given .text .now .now) (given .table .now .now) (given .node) (given .at) (given .lo) (given .hi) (given .depth) (given .count .now) (given .rows .now) (given .left - 1))
+    let at-match-rest : walk-node-place walk-node-lts.At-match-rest t = search in
+    let after-node-of : walk-node-place walk-node-lts.After-node-of t = search in
+    let else1 : walk-node-place walk-node-lts.Else1 t = search in
+    let start : walk-node-place walk-node-lts.Start t = search in
+    let given = start .args in
+    let k = past-7 (after-node-of .node-of .result .kind) (at-match-rest .match .rest .0 .0 .0 .0 .0 .0 .0 .1) (at-match-rest .match .rest .0 .0 .0 .0 .0 .0 .1) (at-match-rest .match .rest .0 .0 .0 .0 .0 .1) (at-match-rest .match .rest .0 .0 .0 .0 .1) (at-match-rest .match .rest .0 .0 .0 .1) (at-match-rest .match .rest .0 .0 .1) (at-match-rest .match .rest .0 .1) (at-match-rest .match .rest .1) in
+    node-goes (given .room) (given .words .now) (given .text .now .now) (given .table .now .now) (given .node) (given .at) (given .lo) (given .hi) (given .depth) (given .count .now) (given .rows .now) (given .left) (else1 .if1 .left) (word-is (getD (given .words .now) (given .node) 0) (after-node-of .node-of .ensures) (is-unlawful _ k)) (unlawful-goes (given .room) (given .words .now) (given .text .now .now) (given .table .now .now) (given .node) (given .at) (given .lo) (given .hi) (given .depth) (given .count .now) (given .rows .now) (given .left - 1))
 
 walk-node-returns-11 : (t : ℕ) → walk-node-lts.Need-returns-11 (walk-node-claims t) (walk-node-at t) walk-node.Post
 walk-node-returns-11 t c =
-    let given = c .before .before .before .before .before .before .args in
-    let if1 = c .before .before .before .before .if1 in
-    let node-of = c .before .before .node-of in
-    let k = past-7 (node-of .result .kind) (c .before .match .rest .0 .0 .0 .0 .0 .0 .0 .1) (c .before .match .rest .0 .0 .0 .0 .0 .0 .1) (c .before .match .rest .0 .0 .0 .0 .0 .1) (c .before .match .rest .0 .0 .0 .0 .1) (c .before .match .rest .0 .0 .0 .1) (c .before .match .rest .0 .0 .1) (c .before .match .rest .0 .1) (c .before .match .rest .1) in
-    node-goes (given .room) (given .words .now) (given .text .now .now) (given .table .now .now) (given .node) (given .at) (given .lo) (given .hi) (given .depth) (given .count .now) (given .rows .now) (given .left) (if1 .left) (word-is (getD (given .words .now) (given .node) 0) (node-of .ensures) (is-unlawful _ k)) (unlawful-goes (given .room) (given .words .now) (given .text .now .now) (given .table .now .now) (given .node) (given .at) (given .lo) (given .hi) (given .depth) (given .count .now) (given .rows .now) (given .left - 1))
+    let at-match-rest : walk-node-place walk-node-lts.At-match-rest t = search in
+    let after-node-of : walk-node-place walk-node-lts.After-node-of t = search in
+    let else1 : walk-node-place walk-node-lts.Else1 t = search in
+    let start : walk-node-place walk-node-lts.Start t = search in
+    let given = start .args in
+    let k = past-7 (after-node-of .node-of .result .kind) (at-match-rest .match .rest .0 .0 .0 .0 .0 .0 .0 .1) (at-match-rest .match .rest .0 .0 .0 .0 .0 .0 .1) (at-match-rest .match .rest .0 .0 .0 .0 .0 .1) (at-match-rest .match .rest .0 .0 .0 .0 .1) (at-match-rest .match .rest .0 .0 .0 .1) (at-match-rest .match .rest .0 .0 .1) (at-match-rest .match .rest .0 .1) (at-match-rest .match .rest .1) in
+    node-goes (given .room) (given .words .now) (given .text .now .now) (given .table .now .now) (given .node) (given .at) (given .lo) (given .hi) (given .depth) (given .count .now) (given .rows .now) (given .left) (else1 .if1 .left) (word-is (getD (given .words .now) (given .node) 0) (after-node-of .node-of .ensures) (is-unlawful _ k)) (unlawful-goes (given .room) (given .words .now) (given .text .now .now) (given .table .now .now) (given .node) (given .at) (given .lo) (given .hi) (given .depth) (given .count .now) (given .rows .now) (given .left - 1))
 
 walk-not-add-walk-node : (t : ℕ) → walk-not-lts.Need-add-walk-node (walk-not-claims t) (walk-not-at t) walk-not.Post
 walk-not-add-walk-node t c =
-    omega (arith, (c .before .before .before .pre .1 .0 .short))
+    let start : walk-not-place walk-not-lts.Start t = search in
+    omega (arith, (start .pre .1 .0 .short))
 
 walk-not-walk-node-requires : (t : ℕ) → walk-not-lts.Need-walk-node-requires (walk-not-claims t) (walk-not-at t) walk-not.Post
 walk-not-walk-node-requires t c κs =
-    let pre = c .before .before .before .pre in
+    let start : walk-not-place walk-not-lts.Start t = search in
+    let pre = start .pre in
     (omega (arith, pre .0), (record { short = (pre .1 .0 .short); here = (pre .1 .0 .here); few = (pre .1 .0 .few); shallow = omega (arith, pre .1 .0 .shallow) }, pre .1 .1))
 
 walk-not-same-length : (t : ℕ) → walk-not-lts.Need-same-length (walk-not-claims t)
@@ -384,40 +441,47 @@ walk-not-same-length t c = search needs
 
 walk-not-returns : (t : ℕ) → walk-not-lts.Need-returns (walk-not-claims t) (walk-not-at t) walk-not.Post
 walk-not-returns t c =
-    let given = c .before .before .before .before .before .before .before .args in
-    let pre = c .before .before .before .before .before .before .before .pre in
+    let after-walk-node : walk-not-place walk-not-lts.After-walk-node t = search in
+    let start : walk-not-place walk-not-lts.Start t = search in
+    let given = start .args in
+    let pre = start .pre in
     let inner = nodeV (given .room) (given .words .now) (given .text .now .now) (given .table .now .now) (given .left) in
-    not-stops (given .text .now .now) (given .room) inner (pre .1 .0 .short) (node-bounded (given .room) (given .words .now) (given .text .now .now) (given .table .now .now) (given .left)) (pairV (rulesIn (given .words .now)) 0 (given .room) (given .text .now .now) (given .table .now .now) inner) (given .a) (given .at) 0 0 (given .depth) (pre .1 .0 .here) (pre .1 .0 .few) (c .before .before .before .walk-node .ensures) (c .if1 .taken)
+    not-stops (given .text .now .now) (given .room) inner (pre .1 .0 .short) (node-bounded (given .room) (given .words .now) (given .text .now .now) (given .table .now .now) (given .left)) (pairV (rulesIn (given .words .now)) 0 (given .room) (given .text .now .now) (given .table .now .now) inner) (given .a) (given .at) 0 0 (given .depth) (pre .1 .0 .here) (pre .1 .0 .few) (after-walk-node .walk-node .ensures) (c .if1 .taken)
 
 walk-not-same-length-2 : (t : ℕ) → walk-not-lts.Need-same-length-2 (walk-not-claims t) (walk-not-at t) walk-not.Post
 walk-not-same-length-2 t c = search needs
 
 walk-not-returns-2 : (t : ℕ) → walk-not-lts.Need-returns-2 (walk-not-claims t) (walk-not-at t) walk-not.Post
 walk-not-returns-2 t c =
-    let given = c .before .before .before .before .before .before .before .before .args in
-    let pre = c .before .before .before .before .before .before .before .before .pre in
-    let x = c .before .before .before .before .walk-node in
+    let after-walk-node : walk-not-place walk-not-lts.After-walk-node t = search in
+    let start : walk-not-place walk-not-lts.Start t = search in
+    let given = start .args in
+    let pre = start .pre in
     let inner = nodeV (given .room) (given .words .now) (given .text .now .now) (given .table .now .now) (given .left) in
-    not-fails (given .text .now .now) (given .room) inner (pre .1 .0 .short) (node-bounded (given .room) (given .words .now) (given .text .now .now) (given .table .now .now) (given .left)) (pairV (rulesIn (given .words .now)) 0 (given .room) (given .text .now .now) (given .table .now .now) inner) (given .a) (given .at) 0 0 (given .depth) (pre .1 .0 .here) (pre .1 .0 .few) (x .ensures) (c .if2 .taken)
+    not-fails (given .text .now .now) (given .room) inner (pre .1 .0 .short) (node-bounded (given .room) (given .words .now) (given .text .now .now) (given .table .now .now) (given .left)) (pairV (rulesIn (given .words .now)) 0 (given .room) (given .text .now .now) (given .table .now .now) inner) (given .a) (given .at) 0 0 (given .depth) (pre .1 .0 .here) (pre .1 .0 .few) (after-walk-node .walk-node .ensures) (c .if2 .taken)
 
 walk-not-same-length-3 : (t : ℕ) → walk-not-lts.Need-same-length-3 (walk-not-claims t) (walk-not-at t) walk-not.Post
 walk-not-same-length-3 t c = search needs
 
 walk-not-returns-3 : (t : ℕ) → walk-not-lts.Need-returns-3 (walk-not-claims t) (walk-not-at t) walk-not.Post
 walk-not-returns-3 t c =
-    let given = c .before .before .before .before .before .before .before .before .args in
-    let pre = c .before .before .before .before .before .before .before .before .pre in
-    let x = c .before .before .before .before .walk-node in
+    let else1 : walk-not-place walk-not-lts.Else1 t = search in
+    let after-walk-node : walk-not-place walk-not-lts.After-walk-node t = search in
+    let start : walk-not-place walk-not-lts.Start t = search in
+    let given = start .args in
+    let pre = start .pre in
     let inner = nodeV (given .room) (given .words .now) (given .text .now .now) (given .table .now .now) (given .left) in
-    not-matches (given .text .now .now) (given .room) inner (pre .1 .0 .short) (node-bounded (given .room) (given .words .now) (given .text .now .now) (given .table .now .now) (given .left)) (pairV (rulesIn (given .words .now)) 0 (given .room) (given .text .now .now) (given .table .now .now) inner) (given .a) (given .at) 0 0 (given .depth) (pre .1 .0 .here) (pre .1 .0 .few) (x .ensures) (let a = c .before .if1 .left in let b = c .if2 .left in omega arith)
+    not-matches (given .text .now .now) (given .room) inner (pre .1 .0 .short) (node-bounded (given .room) (given .words .now) (given .text .now .now) (given .table .now .now) (given .left)) (pairV (rulesIn (given .words .now)) 0 (given .room) (given .text .now .now) (given .table .now .now) inner) (given .a) (given .at) 0 0 (given .depth) (pre .1 .0 .here) (pre .1 .0 .few) (after-walk-node .walk-node .ensures) (let a = else1 .if1 .left in let b = c .if2 .left in omega arith)
 
 walk-part-add-walk-node : (t : ℕ) → walk-part-lts.Need-add-walk-node (walk-part-claims t) (walk-part-at t) walk-part.Post
 walk-part-add-walk-node t c =
-    omega (arith, (c .before .before .before .pre .1 .0 .short))
+    let start : walk-part-place walk-part-lts.Start t = search in
+    omega (arith, (start .pre .1 .0 .short))
 
 walk-part-walk-node-requires : (t : ℕ) → walk-part-lts.Need-walk-node-requires (walk-part-claims t) (walk-part-at t) walk-part.Post
 walk-part-walk-node-requires t c κs =
-    let pre = c .before .before .before .pre in
+    let start : walk-part-place walk-part-lts.Start t = search in
+    let pre = start .pre in
     (omega (arith, pre .0), (record { short = (pre .1 .0 .short); here = (pre .1 .0 .here); few = (pre .1 .0 .few); shallow = omega (arith, pre .1 .0 .shallow) }, pre .1 .1))
 
 walk-part-same-length : (t : ℕ) → walk-part-lts.Need-same-length (walk-part-claims t) (walk-part-at t) walk-part.Post
@@ -425,51 +489,61 @@ walk-part-same-length t c = search needs
 
 walk-part-returns : (t : ℕ) → walk-part-lts.Need-returns (walk-part-claims t) (walk-part-at t) walk-part.Post
 walk-part-returns t c =
-    let given = c .before .before .before .before .before .before .before .args in
-    let pre = c .before .before .before .before .before .before .before .pre in
+    let after-walk-node : walk-part-place walk-part-lts.After-walk-node t = search in
+    let start : walk-part-place walk-part-lts.Start t = search in
+    let given = start .args in
+    let pre = start .pre in
     let inner = nodeV (given .room) (given .words .now) (given .text .now .now) (given .table .now .now) (given .left) in
-    part-ends (given .text .now .now) (given .room) inner (pre .1 .0 .short) (node-bounded (given .room) (given .words .now) (given .text .now .now) (given .table .now .now) (given .left)) (pairV (rulesIn (given .words .now)) 0 (given .room) (given .text .now .now) (given .table .now .now) inner) (given .a) (given .at) (given .lo) (given .hi) (given .depth) (pre .1 .0 .here) (pre .1 .0 .few) (c .before .before .before .walk-node .ensures) (c .if1 .taken)
+    part-ends (given .text .now .now) (given .room) inner (pre .1 .0 .short) (node-bounded (given .room) (given .words .now) (given .text .now .now) (given .table .now .now) (given .left)) (pairV (rulesIn (given .words .now)) 0 (given .room) (given .text .now .now) (given .table .now .now) inner) (given .a) (given .at) (given .lo) (given .hi) (given .depth) (pre .1 .0 .here) (pre .1 .0 .few) (after-walk-node .walk-node .ensures) (c .if1 .taken)
 
 walk-part-touched-requires : (t : ℕ) → walk-part-lts.Need-touched-requires (walk-part-claims t) (walk-part-at t) walk-part.Post
 walk-part-touched-requires t c κs =
-    let given = c .before .before .before .before .before .before .before .args in
-    let pre = c .before .before .before .before .before .before .before .pre in
+    let after-walk-node : walk-part-place walk-part-lts.After-walk-node t = search in
+    let start : walk-part-place walk-part-lts.Start t = search in
+    let given = start .args in
+    let pre = start .pre in
     let inner = nodeV (given .room) (given .words .now) (given .text .now .now) (given .table .now .now) (given .left) in
-    omega (arith, (part-found (given .text .now .now) (given .room) inner (pre .1 .0 .short) (node-bounded (given .room) (given .words .now) (given .text .now .now) (given .table .now .now) (given .left)) (pairV (rulesIn (given .words .now)) 0 (given .room) (given .text .now .now) (given .table .now .now) inner) (given .a) (given .at) (given .lo) (given .hi) (given .depth) (pre .1 .0 .here) (pre .1 .0 .few) (c .before .before .before .walk-node .ensures) (c .if1 .left)) .in-text, (pre .1 .0 .short))
+    omega (arith, (part-found (given .text .now .now) (given .room) inner (pre .1 .0 .short) (node-bounded (given .room) (given .words .now) (given .text .now .now) (given .table .now .now) (given .left)) (pairV (rulesIn (given .words .now)) 0 (given .room) (given .text .now .now) (given .table .now .now) inner) (given .a) (given .at) (given .lo) (given .hi) (given .depth) (pre .1 .0 .here) (pre .1 .0 .few) (after-walk-node .walk-node .ensures) (c .if1 .left)) .in-text, (pre .1 .0 .short))
 
 walk-part-same-length-2 : (t : ℕ) → walk-part-lts.Need-same-length-2 (walk-part-claims t) (walk-part-at t) walk-part.Post
 walk-part-same-length-2 t c = search needs
 
 walk-part-returns-2 : (t : ℕ) → walk-part-lts.Need-returns-2 (walk-part-claims t) (walk-part-at t) walk-part.Post
 walk-part-returns-2 t c =
-    let given = c .before .before .before .before .before .before .before .before .before .args in
-    let pre = c .before .before .before .before .before .before .before .before .before .pre in
-    let x = c .before .before .before .before .before .walk-node in
+    let after-touched : walk-part-place walk-part-lts.After-touched t = search in
+    let else1 : walk-part-place walk-part-lts.Else1 t = search in
+    let after-walk-node : walk-part-place walk-part-lts.After-walk-node t = search in
+    let start : walk-part-place walk-part-lts.Start t = search in
+    let given = start .args in
+    let pre = start .pre in
     let inner = nodeV (given .room) (given .words .now) (given .text .now .now) (given .table .now .now) (given .left) in
-    part-missed (given .text .now .now) (given .room) inner (pre .1 .0 .short) (node-bounded (given .room) (given .words .now) (given .text .now .now) (given .table .now .now) (given .left)) (pairV (rulesIn (given .words .now)) 0 (given .room) (given .text .now .now) (given .table .now .now) inner) (given .a) (given .at) (given .lo) (given .hi) (given .depth) (pre .1 .0 .here) (pre .1 .0 .few) (x .ensures) (c .before .before .if1 .left) (sym (c .before .touched .ensures) ∙ not-true (c .before .touched .result) (c .if2 .taken))
+    part-missed (given .text .now .now) (given .room) inner (pre .1 .0 .short) (node-bounded (given .room) (given .words .now) (given .text .now .now) (given .table .now .now) (given .left)) (pairV (rulesIn (given .words .now)) 0 (given .room) (given .text .now .now) (given .table .now .now) inner) (given .a) (given .at) (given .lo) (given .hi) (given .depth) (pre .1 .0 .here) (pre .1 .0 .few) (after-walk-node .walk-node .ensures) (else1 .if1 .left) (sym (after-touched .touched .ensures) ∙ not-true (after-touched .touched .result) (c .if2 .taken))
 
 walk-part-walk-node-requires-2 : (t : ℕ) → walk-part-lts.Need-walk-node-requires-2 (walk-part-claims t) (walk-part-at t) walk-part.Post
 walk-part-walk-node-requires-2 t c κs =
-    let given = c .before .before .before .before .before .before .before .before .before .before .before .args in
-    let pre = c .before .before .before .before .before .before .before .before .before .before .before .pre in
-    let x = c .before .before .before .before .before .before .before .walk-node in
-    let if1 = c .before .before .before .before .if1 in
+    let else1 : walk-part-place walk-part-lts.Else1 t = search in
+    let after-walk-node : walk-part-place walk-part-lts.After-walk-node t = search in
+    let start : walk-part-place walk-part-lts.Start t = search in
+    let given = start .args in
+    let pre = start .pre in
     let inner = nodeV (given .room) (given .words .now) (given .text .now .now) (given .table .now .now) (given .left) in
-    (omega (arith, pre .0), (record { short = (pre .1 .0 .short); here = (pre .1 .0 .here); few = (part-found (given .text .now .now) (given .room) inner (pre .1 .0 .short) (node-bounded (given .room) (given .words .now) (given .text .now .now) (given .table .now .now) (given .left)) (pairV (rulesIn (given .words .now)) 0 (given .room) (given .text .now .now) (given .table .now .now) inner) (given .a) (given .at) (given .lo) (given .hi) (given .depth) (pre .1 .0 .here) (pre .1 .0 .few) (x .ensures) (if1 .left)) .few; shallow = omega (arith, pre .1 .0 .shallow) }, pre .1 .1))
+    (omega (arith, pre .0), (record { short = (pre .1 .0 .short); here = (pre .1 .0 .here); few = (part-found (given .text .now .now) (given .room) inner (pre .1 .0 .short) (node-bounded (given .room) (given .words .now) (given .text .now .now) (given .table .now .now) (given .left)) (pairV (rulesIn (given .words .now)) 0 (given .room) (given .text .now .now) (given .table .now .now) inner) (given .a) (given .at) (given .lo) (given .hi) (given .depth) (pre .1 .0 .here) (pre .1 .0 .few) (after-walk-node .walk-node .ensures) (else1 .if1 .left)) .few; shallow = omega (arith, pre .1 .0 .shallow) }, pre .1 .1))
 
 walk-part-same-length-3 : (t : ℕ) → walk-part-lts.Need-same-length-3 (walk-part-claims t) (walk-part-at t) walk-part.Post
 walk-part-same-length-3 t c = search needs
 
 walk-part-returns-3 : (t : ℕ) → walk-part-lts.Need-returns-3 (walk-part-claims t) (walk-part-at t) walk-part.Post
 walk-part-returns-3 t c =
-    let given = c .before .before .before .before .before .before .before .before .before .before .before .before .before .before .args in
-    let pre = c .before .before .before .before .before .before .before .before .before .before .before .before .before .before .pre in
-    let x = c .before .before .before .before .before .before .before .before .before .before .walk-node in
-    let if1 = c .before .before .before .before .before .before .before .if1 in
-    let touched = c .before .before .before .before .before .before .touched in
-    let if2 = c .before .before .before .before .before .if2 in
+    let after-walk-node2 : walk-part-place walk-part-lts.After-walk-node2 t = search in
+    let else2 : walk-part-place walk-part-lts.Else2 t = search in
+    let after-touched : walk-part-place walk-part-lts.After-touched t = search in
+    let else1 : walk-part-place walk-part-lts.Else1 t = search in
+    let after-walk-node : walk-part-place walk-part-lts.After-walk-node t = search in
+    let start : walk-part-place walk-part-lts.Start t = search in
+    let given = start .args in
+    let pre = start .pre in
     let inner = nodeV (given .room) (given .words .now) (given .text .now .now) (given .table .now .now) (given .left) in
-    part-goes (given .text .now .now) (given .room) inner (pre .1 .0 .short) (node-bounded (given .room) (given .words .now) (given .text .now .now) (given .table .now .now) (given .left)) (pairV (rulesIn (given .words .now)) 0 (given .room) (given .text .now .now) (given .table .now .now) inner) (given .a) (given .at) (given .lo) (given .hi) (given .depth) (pre .1 .0 .here) (pre .1 .0 .few) (x .ensures) (if1 .left) (sym (touched .ensures) ∙ not-false (touched .result) (if2 .left)) (c .before .before .walk-node2 .ensures)
+    part-goes (given .text .now .now) (given .room) inner (pre .1 .0 .short) (node-bounded (given .room) (given .words .now) (given .text .now .now) (given .table .now .now) (given .left)) (pairV (rulesIn (given .words .now)) 0 (given .room) (given .text .now .now) (given .table .now .now) inner) (given .a) (given .at) (given .lo) (given .hi) (given .depth) (pre .1 .0 .here) (pre .1 .0 .few) (after-walk-node .walk-node .ensures) (else1 .if1 .left) (sym (after-touched .touched .ensures) ∙ not-false (after-touched .touched .result) (else2 .if2 .left)) (after-walk-node2 .walk-node2 .ensures)
 
 walk-rule-rules-in-requires : (t : ℕ) → walk-rule-lts.Need-rules-in-requires (walk-rule-claims t) (walk-rule-at t) walk-rule.Post
 walk-rule-rules-in-requires t c κs = search needs
@@ -485,9 +559,12 @@ walk-rule-add-result t c = search needs
 
 walk-rule-returns : (t : ℕ) → walk-rule-lts.Need-returns (walk-rule-claims t) (walk-rule-at t) walk-rule.Post
 walk-rule-returns t c =
-    let given = c .before .before .before .before .before .before .args in
-    let rules-in = c .before .before .before .before .rules-in in
-    rule-empty (rulesIn (given .words .now)) (given .root) (given .room) (given .text .now .now) (given .table .now .now) (nodeV (given .room) (given .words .now) (given .text .now .now) (given .table .now .now) (given .left)) (given .rule) (given .at) (given .lo) (given .hi) (given .depth) (c .before .before .look .ensures ∙ ap (λ (n : ℕ). getD (given .table .now .now) (slotOf n (given .rule) (given .at)) 0) (rules-in .ensures .0)) (given .count .now) (given .rows .now) (sym (c .before .is-held .ensures) ∙ not-true (c .before .is-held .result) (c .if1 .taken))
+    let after-is-held : walk-rule-place walk-rule-lts.After-is-held t = search in
+    let after-look : walk-rule-place walk-rule-lts.After-look t = search in
+    let after-rules-in : walk-rule-place walk-rule-lts.After-rules-in t = search in
+    let start : walk-rule-place walk-rule-lts.Start t = search in
+    let given = start .args in
+    rule-empty (rulesIn (given .words .now)) (given .root) (given .room) (given .text .now .now) (given .table .now .now) (nodeV (given .room) (given .words .now) (given .text .now .now) (given .table .now .now) (given .left)) (given .rule) (given .at) (given .lo) (given .hi) (given .depth) (after-look .look .ensures ∙ ap (λ (n : ℕ). getD (given .table .now .now) (slotOf n (given .rule) (given .at)) 0) (after-rules-in .rules-in .ensures .0)) (given .count .now) (given .rows .now) (sym (after-is-held .is-held .ensures) ∙ not-true (after-is-held .is-held .result) (c .if1 .taken))
 
 walk-rule-from-word-requires : (t : ℕ) → walk-rule-lts.Need-from-word-requires (walk-rule-claims t) (walk-rule-at t) walk-rule.Post
 walk-rule-from-word-requires t c κs = search needs
@@ -503,159 +580,184 @@ walk-rule-add-result-2 t c = search needs
 
 walk-rule-returns-2 : (t : ℕ) → walk-rule-lts.Need-returns-2 (walk-rule-claims t) (walk-rule-at t) walk-rule.Post
 walk-rule-returns-2 t c =
-    let given = c .before .before .before .before .before .before .before .before .before .args in
-    let rules-in = c .before .before .before .before .before .before .before .rules-in in
-    let look = c .before .before .before .before .before .look in
-    rule-impossible (rulesIn (given .words .now)) (given .root) (given .room) (given .text .now .now) (given .table .now .now) (nodeV (given .room) (given .words .now) (given .text .now .now) (given .table .now .now) (given .left)) (given .rule) (given .at) (given .lo) (given .hi) (given .depth) (look .ensures ∙ ap (λ (n : ℕ). getD (given .table .now .now) (slotOf n (given .rule) (given .at)) 0) (rules-in .ensures .0)) (given .count .now) (given .rows .now) (was-impossible (recordOf (look .result)) (possible (look .result) (given .at) (length (given .text .now .now))) (sym (c .enum-told .given .1) ∙ c .before .before .from-word .ensures))
+    let after-from-word : walk-rule-place walk-rule-lts.After-from-word t = search in
+    let after-look : walk-rule-place walk-rule-lts.After-look t = search in
+    let after-rules-in : walk-rule-place walk-rule-lts.After-rules-in t = search in
+    let start : walk-rule-place walk-rule-lts.Start t = search in
+    let given = start .args in
+    rule-impossible (rulesIn (given .words .now)) (given .root) (given .room) (given .text .now .now) (given .table .now .now) (nodeV (given .room) (given .words .now) (given .text .now .now) (given .table .now .now) (given .left)) (given .rule) (given .at) (given .lo) (given .hi) (given .depth) (after-look .look .ensures ∙ ap (λ (n : ℕ). getD (given .table .now .now) (slotOf n (given .rule) (given .at)) 0) (after-rules-in .rules-in .ensures .0)) (given .count .now) (given .rows .now) (was-impossible (recordOf (after-look .look .result)) (possible (after-look .look .result) (given .at) (length (given .text .now .now))) (sym (c .enum-told .given .1) ∙ after-from-word .from-word .ensures))
 
 walk-rule-returns-3 : (t : ℕ) → walk-rule-lts.Need-returns-3 (walk-rule-claims t) (walk-rule-at t) walk-rule.Post
 walk-rule-returns-3 t c =
-    let given = c .before .before .before .before .before .before .before .before .before .before .before .before .args in
-    let rules-in = c .before .before .before .before .before .before .before .before .before .before .rules-in in
-    let look = c .before .before .before .before .before .before .before .before .look in
-    let is-held = c .before .before .before .before .before .before .before .is-held in
-    let if1 = c .before .before .before .before .before .before .if1 in
-    let from-word = c .before .before .before .before .before .from-word in
-    let held = c .before .before .before .held in
-    let w = was-possible (held .given .0 .0) (recordOf (look .result)) (possible (look .result) (given .at) (length (given .text .now .now))) (sym (held .given .1) ∙ from-word .ensures) in
+    let after-held : walk-rule-place walk-rule-lts.After-held t = search in
+    let after-from-word : walk-rule-place walk-rule-lts.After-from-word t = search in
+    let else1 : walk-rule-place walk-rule-lts.Else1 t = search in
+    let after-is-held : walk-rule-place walk-rule-lts.After-is-held t = search in
+    let after-look : walk-rule-place walk-rule-lts.After-look t = search in
+    let after-rules-in : walk-rule-place walk-rule-lts.After-rules-in t = search in
+    let start : walk-rule-place walk-rule-lts.Start t = search in
+    let given = start .args in
+    let w = was-possible (after-held .held .given .0 .0) (recordOf (after-look .look .result)) (possible (after-look .look .result) (given .at) (length (given .text .now .now))) (sym (after-held .held .given .1) ∙ after-from-word .from-word .ensures) in
     let m = ap (λ (r : Record). r .matched) (w .1) in
     let n = ap (λ (r : Record). r .length) (w .1) in
-    rule-failed (rulesIn (given .words .now)) (given .root) (given .room) (given .text .now .now) (given .table .now .now) (nodeV (given .room) (given .words .now) (given .text .now .now) (given .table .now .now) (given .left)) (given .rule) (given .at) (given .lo) (given .hi) (given .depth) (look .ensures ∙ ap (λ (n : ℕ). getD (given .table .now .now) (slotOf n (given .rule) (given .at)) 0) (rules-in .ensures .0)) (given .count .now) (given .rows .now) (sym (is-held .ensures) ∙ not-false (is-held .result) (if1 .left)) (w .0) (sym m ∙ not-true (held .given .0 .0 .matched) (c .if2 .taken))
+    rule-failed (rulesIn (given .words .now)) (given .root) (given .room) (given .text .now .now) (given .table .now .now) (nodeV (given .room) (given .words .now) (given .text .now .now) (given .table .now .now) (given .left)) (given .rule) (given .at) (given .lo) (given .hi) (given .depth) (after-look .look .ensures ∙ ap (λ (n : ℕ). getD (given .table .now .now) (slotOf n (given .rule) (given .at)) 0) (after-rules-in .rules-in .ensures .0)) (given .count .now) (given .rows .now) (sym (after-is-held .is-held .ensures) ∙ not-false (after-is-held .is-held .result) (else1 .if1 .left)) (w .0) (sym m ∙ not-true (after-held .held .given .0 .0 .matched) (c .if2 .taken))
 
 walk-rule-touched-requires : (t : ℕ) → walk-rule-lts.Need-touched-requires (walk-rule-claims t) (walk-rule-at t) walk-rule.Post
 walk-rule-touched-requires t c κs =
-    let given = c .before .before .before .before .before .before .before .before .before .before .before .before .args in
-    let pre = c .before .before .before .before .before .before .before .before .before .before .before .before .pre in
-    let rules-in = c .before .before .before .before .before .before .before .before .before .before .rules-in in
-    let look = c .before .before .before .before .before .before .before .before .look in
-    let is-held = c .before .before .before .before .before .before .before .is-held in
-    let if1 = c .before .before .before .before .before .before .if1 in
-    let from-word = c .before .before .before .before .before .from-word in
-    let held = c .before .before .before .held in
-    let w = was-possible (held .given .0 .0) (recordOf (look .result)) (possible (look .result) (given .at) (length (given .text .now .now))) (sym (held .given .1) ∙ from-word .ensures) in
+    let after-held : walk-rule-place walk-rule-lts.After-held t = search in
+    let after-from-word : walk-rule-place walk-rule-lts.After-from-word t = search in
+    let else1 : walk-rule-place walk-rule-lts.Else1 t = search in
+    let after-is-held : walk-rule-place walk-rule-lts.After-is-held t = search in
+    let after-look : walk-rule-place walk-rule-lts.After-look t = search in
+    let after-rules-in : walk-rule-place walk-rule-lts.After-rules-in t = search in
+    let start : walk-rule-place walk-rule-lts.Start t = search in
+    let given = start .args in
+    let w = was-possible (after-held .held .given .0 .0) (recordOf (after-look .look .result)) (possible (after-look .look .result) (given .at) (length (given .text .now .now))) (sym (after-held .held .given .1) ∙ after-from-word .from-word .ensures) in
     let m = ap (λ (r : Record). r .matched) (w .1) in
     let n = ap (λ (r : Record). r .length) (w .1) in
-    omega (arith, n, rule-in-text (rulesIn (given .words .now)) (given .root) (given .room) (given .text .now .now) (given .table .now .now) (nodeV (given .room) (given .words .now) (given .text .now .now) (given .table .now .now) (given .left)) (given .rule) (given .at) (given .lo) (given .hi) (given .depth) (look .ensures ∙ ap (λ (n : ℕ). getD (given .table .now .now) (slotOf n (given .rule) (given .at)) 0) (rules-in .ensures .0)) (given .count .now) (given .rows .now) (sym (is-held .ensures) ∙ not-false (is-held .result) (if1 .left)) (w .0), (pre .1 .0 .short))
+    omega (arith, n, rule-in-text (rulesIn (given .words .now)) (given .root) (given .room) (given .text .now .now) (given .table .now .now) (nodeV (given .room) (given .words .now) (given .text .now .now) (given .table .now .now) (given .left)) (given .rule) (given .at) (given .lo) (given .hi) (given .depth) (after-look .look .ensures ∙ ap (λ (n : ℕ). getD (given .table .now .now) (slotOf n (given .rule) (given .at)) 0) (after-rules-in .rules-in .ensures .0)) (given .count .now) (given .rows .now) (sym (after-is-held .is-held .ensures) ∙ not-false (after-is-held .is-held .result) (else1 .if1 .left)) (w .0), (start .pre .1 .0 .short))
 
 walk-rule-returns-4 : (t : ℕ) → walk-rule-lts.Need-returns-4 (walk-rule-claims t) (walk-rule-at t) walk-rule.Post
 walk-rule-returns-4 t c =
-    let given = c .before .before .before .before .before .before .before .before .before .before .before .before .before .before .args in
-    let rules-in = c .before .before .before .before .before .before .before .before .before .before .before .before .rules-in in
-    let look = c .before .before .before .before .before .before .before .before .before .before .look in
-    let is-held = c .before .before .before .before .before .before .before .before .before .is-held in
-    let if1 = c .before .before .before .before .before .before .before .before .if1 in
-    let from-word = c .before .before .before .before .before .before .before .from-word in
-    let held = c .before .before .before .before .before .held in
-    let w = was-possible (held .given .0 .0) (recordOf (look .result)) (possible (look .result) (given .at) (length (given .text .now .now))) (sym (held .given .1) ∙ from-word .ensures) in
+    let after-touched : walk-rule-place walk-rule-lts.After-touched t = search in
+    let else2 : walk-rule-place walk-rule-lts.Else2 t = search in
+    let after-held : walk-rule-place walk-rule-lts.After-held t = search in
+    let after-from-word : walk-rule-place walk-rule-lts.After-from-word t = search in
+    let else1 : walk-rule-place walk-rule-lts.Else1 t = search in
+    let after-is-held : walk-rule-place walk-rule-lts.After-is-held t = search in
+    let after-look : walk-rule-place walk-rule-lts.After-look t = search in
+    let after-rules-in : walk-rule-place walk-rule-lts.After-rules-in t = search in
+    let start : walk-rule-place walk-rule-lts.Start t = search in
+    let given = start .args in
+    let w = was-possible (after-held .held .given .0 .0) (recordOf (after-look .look .result)) (possible (after-look .look .result) (given .at) (length (given .text .now .now))) (sym (after-held .held .given .1) ∙ after-from-word .from-word .ensures) in
     let m = ap (λ (r : Record). r .matched) (w .1) in
     let n = ap (λ (r : Record). r .length) (w .1) in
-    rule-missed (rulesIn (given .words .now)) (given .root) (given .room) (given .text .now .now) (given .table .now .now) (nodeV (given .room) (given .words .now) (given .text .now .now) (given .table .now .now) (given .left)) (given .rule) (given .at) (given .lo) (given .hi) (given .depth) (look .ensures ∙ ap (λ (n : ℕ). getD (given .table .now .now) (slotOf n (given .rule) (given .at)) 0) (rules-in .ensures .0)) (given .count .now) (given .rows .now) (sym (is-held .ensures) ∙ not-false (is-held .result) (if1 .left)) (w .0) (sym m ∙ not-false (held .given .0 .0 .matched) (c .before .before .if2 .left)) n (sym (c .before .touched .ensures) ∙ not-true (c .before .touched .result) (c .if3 .taken))
+    rule-missed (rulesIn (given .words .now)) (given .root) (given .room) (given .text .now .now) (given .table .now .now) (nodeV (given .room) (given .words .now) (given .text .now .now) (given .table .now .now) (given .left)) (given .rule) (given .at) (given .lo) (given .hi) (given .depth) (after-look .look .ensures ∙ ap (λ (n : ℕ). getD (given .table .now .now) (slotOf n (given .rule) (given .at)) 0) (after-rules-in .rules-in .ensures .0)) (given .count .now) (given .rows .now) (sym (after-is-held .is-held .ensures) ∙ not-false (after-is-held .is-held .result) (else1 .if1 .left)) (w .0) (sym m ∙ not-false (after-held .held .given .0 .0 .matched) (else2 .if2 .left)) n (sym (after-touched .touched .ensures) ∙ not-true (after-touched .touched .result) (c .if3 .taken))
 
 walk-rule-add-result-3 : (t : ℕ) → walk-rule-lts.Need-add-result-3 (walk-rule-claims t) (walk-rule-at t) walk-rule.Post
 walk-rule-add-result-3 t c = search needs
 
 walk-rule-returns-5 : (t : ℕ) → walk-rule-lts.Need-returns-5 (walk-rule-claims t) (walk-rule-at t) walk-rule.Post
 walk-rule-returns-5 t c =
-    let given = c .before .before .before .before .before .before .before .before .before .before .before .before .before .before .before .before .args in
-    let rules-in = c .before .before .before .before .before .before .before .before .before .before .before .before .before .before .rules-in in
-    let look = c .before .before .before .before .before .before .before .before .before .before .before .before .look in
-    let is-held = c .before .before .before .before .before .before .before .before .before .before .before .is-held in
-    let if1 = c .before .before .before .before .before .before .before .before .before .before .if1 in
-    let from-word = c .before .before .before .before .before .before .before .before .before .from-word in
-    let held = c .before .before .before .before .before .before .before .held in
-    let if2 = c .before .before .before .before .if2 in
-    let touched = c .before .before .before .touched in
-    let w = was-possible (held .given .0 .0) (recordOf (look .result)) (possible (look .result) (given .at) (length (given .text .now .now))) (sym (held .given .1) ∙ from-word .ensures) in
+    let else3 : walk-rule-place walk-rule-lts.Else3 t = search in
+    let after-touched : walk-rule-place walk-rule-lts.After-touched t = search in
+    let else2 : walk-rule-place walk-rule-lts.Else2 t = search in
+    let after-held : walk-rule-place walk-rule-lts.After-held t = search in
+    let after-from-word : walk-rule-place walk-rule-lts.After-from-word t = search in
+    let else1 : walk-rule-place walk-rule-lts.Else1 t = search in
+    let after-is-held : walk-rule-place walk-rule-lts.After-is-held t = search in
+    let after-look : walk-rule-place walk-rule-lts.After-look t = search in
+    let after-rules-in : walk-rule-place walk-rule-lts.After-rules-in t = search in
+    let start : walk-rule-place walk-rule-lts.Start t = search in
+    let given = start .args in
+    let w = was-possible (after-held .held .given .0 .0) (recordOf (after-look .look .result)) (possible (after-look .look .result) (given .at) (length (given .text .now .now))) (sym (after-held .held .given .1) ∙ after-from-word .from-word .ensures) in
     let m = ap (λ (r : Record). r .matched) (w .1) in
     let n = ap (λ (r : Record). r .length) (w .1) in
-    rule-full (rulesIn (given .words .now)) (given .root) (given .room) (given .text .now .now) (given .table .now .now) (nodeV (given .room) (given .words .now) (given .text .now .now) (given .table .now .now) (given .left)) (given .rule) (given .at) (given .lo) (given .hi) (given .depth) (look .ensures ∙ ap (λ (n : ℕ). getD (given .table .now .now) (slotOf n (given .rule) (given .at)) 0) (rules-in .ensures .0)) (given .count .now) (given .rows .now) (sym (is-held .ensures) ∙ not-false (is-held .result) (if1 .left)) (w .0) (sym m ∙ not-false (held .given .0 .0 .matched) (if2 .left)) n (sym (touched .ensures) ∙ not-false (touched .result) (c .before .before .if3 .left)) (c .if4 .taken)
+    rule-full (rulesIn (given .words .now)) (given .root) (given .room) (given .text .now .now) (given .table .now .now) (nodeV (given .room) (given .words .now) (given .text .now .now) (given .table .now .now) (given .left)) (given .rule) (given .at) (given .lo) (given .hi) (given .depth) (after-look .look .ensures ∙ ap (λ (n : ℕ). getD (given .table .now .now) (slotOf n (given .rule) (given .at)) 0) (after-rules-in .rules-in .ensures .0)) (given .count .now) (given .rows .now) (sym (after-is-held .is-held .ensures) ∙ not-false (after-is-held .is-held .result) (else1 .if1 .left)) (w .0) (sym m ∙ not-false (after-held .held .given .0 .0 .matched) (else2 .if2 .left)) n (sym (after-touched .touched .ensures) ∙ not-false (after-touched .touched .result) (else3 .if3 .left)) (c .if4 .taken)
 
 walk-rule-row-word-requires : (t : ℕ) → walk-rule-lts.Need-row-word-requires (walk-rule-claims t) (walk-rule-at t) walk-rule.Post
 walk-rule-row-word-requires t c κs =
-    let given = c .before .before .before .before .before .before .before .before .before .before .before .before .before .before .before .before .before .args in
-    let pre = c .before .before .before .before .before .before .before .before .before .before .before .before .before .before .before .before .before .pre in
-    let rules-in = c .before .before .before .before .before .before .before .before .before .before .before .before .before .before .before .rules-in in
-    let look = c .before .before .before .before .before .before .before .before .before .before .before .before .before .look in
-    let is-held = c .before .before .before .before .before .before .before .before .before .before .before .before .is-held in
-    let if1 = c .before .before .before .before .before .before .before .before .before .before .before .if1 in
-    let from-word = c .before .before .before .before .before .before .before .before .before .before .from-word in
-    let held = c .before .before .before .before .before .before .before .before .held in
-    let w = was-possible (held .given .0 .0) (recordOf (look .result)) (possible (look .result) (given .at) (length (given .text .now .now))) (sym (held .given .1) ∙ from-word .ensures) in
+    let after-touched : walk-rule-place walk-rule-lts.After-touched t = search in
+    let after-held : walk-rule-place walk-rule-lts.After-held t = search in
+    let after-from-word : walk-rule-place walk-rule-lts.After-from-word t = search in
+    let else1 : walk-rule-place walk-rule-lts.Else1 t = search in
+    let after-is-held : walk-rule-place walk-rule-lts.After-is-held t = search in
+    let after-look : walk-rule-place walk-rule-lts.After-look t = search in
+    let after-rules-in : walk-rule-place walk-rule-lts.After-rules-in t = search in
+    let start : walk-rule-place walk-rule-lts.Start t = search in
+    let given = start .args in
+    let pre = start .pre in
+    let w = was-possible (after-held .held .given .0 .0) (recordOf (after-look .look .result)) (possible (after-look .look .result) (given .at) (length (given .text .now .now))) (sym (after-held .held .given .1) ∙ after-from-word .from-word .ensures) in
     let m = ap (λ (r : Record). r .matched) (w .1) in
     let n = ap (λ (r : Record). r .length) (w .1) in
-    (omega (arith, pre .1 .0 .shallow), omega (arith, (pre .1 .0 .here), (pre .1 .0 .short)), omega (arith, n, rule-in-text (rulesIn (given .words .now)) (given .root) (given .room) (given .text .now .now) (given .table .now .now) (nodeV (given .room) (given .words .now) (given .text .now .now) (given .table .now .now) (given .left)) (given .rule) (given .at) (given .lo) (given .hi) (given .depth) (look .ensures ∙ ap (λ (n : ℕ). getD (given .table .now .now) (slotOf n (given .rule) (given .at)) 0) (rules-in .ensures .0)) (given .count .now) (given .rows .now) (sym (is-held .ensures) ∙ not-false (is-held .result) (if1 .left)) (w .0), (pre .1 .0 .short)))
+    (omega (arith, pre .1 .0 .shallow), omega (arith, (pre .1 .0 .here), (pre .1 .0 .short)), omega (arith, n, rule-in-text (rulesIn (given .words .now)) (given .root) (given .room) (given .text .now .now) (given .table .now .now) (nodeV (given .room) (given .words .now) (given .text .now .now) (given .table .now .now) (given .left)) (given .rule) (given .at) (given .lo) (given .hi) (given .depth) (after-look .look .ensures ∙ ap (λ (n : ℕ). getD (given .table .now .now) (slotOf n (given .rule) (given .at)) 0) (after-rules-in .rules-in .ensures .0)) (given .count .now) (given .rows .now) (sym (after-is-held .is-held .ensures) ∙ not-false (after-is-held .is-held .result) (else1 .if1 .left)) (w .0), (pre .1 .0 .short)))
 
 walk-rule-put-requires : (t : ℕ) → walk-rule-lts.Need-put-requires (walk-rule-claims t) (walk-rule-at t) walk-rule.Post
 walk-rule-put-requires t c κs = search needs
 
 walk-rule-add-count : (t : ℕ) → walk-rule-lts.Need-add-count (walk-rule-claims t) (walk-rule-at t) walk-rule.Post
 walk-rule-add-count t c =
-    let fits = c .before .before .before .before .before .before .before .before .before .before .before .before .before .before .before .before .before .before .before .before .before .fits in
-    let if4 = c .before .before .before .before .before .if4 in
-    let f = fits in let a = if4 .left in omega (arith, a, f)
+    let else4 : walk-rule-place walk-rule-lts.Else4 t = search in
+    let else2 : walk-rule-place walk-rule-lts.Else2 t = search in
+    let else1 : walk-rule-place walk-rule-lts.Else1 t = search in
+    let start : walk-rule-place walk-rule-lts.Start t = search in
+    let fits = start .fits in
+    let f = fits in let a = else4 .if4 .left in omega (arith, a, f)
 
 walk-rule-add-walk-node : (t : ℕ) → walk-rule-lts.Need-add-walk-node (walk-rule-claims t) (walk-rule-at t) walk-rule.Post
 walk-rule-add-walk-node t c =
-    let pre = c .before .before .before .before .before .before .before .before .before .before .before .before .before .before .before .before .before .before .before .before .before .before .before .pre in
-    omega (arith, pre .1 .0 .shallow)
+    let after-row-word : walk-rule-place walk-rule-lts.After-row-word t = search in
+    let else2 : walk-rule-place walk-rule-lts.Else2 t = search in
+    let else1 : walk-rule-place walk-rule-lts.Else1 t = search in
+    let start : walk-rule-place walk-rule-lts.Start t = search in
+    omega (arith, start .pre .1 .0 .shallow)
 
 walk-rule-walk-node-requires : (t : ℕ) → walk-rule-lts.Need-walk-node-requires (walk-rule-claims t) (walk-rule-at t) walk-rule.Post
 walk-rule-walk-node-requires t c κs =
-    let pre = c .before .before .before .before .before .before .before .before .before .before .before .before .before .before .before .before .before .before .before .before .before .before .before .pre in
-    let if4 = c .before .before .before .before .before .before .before .if4 in
-    (omega (arith, pre .0), (record { short = (pre .1 .0 .short); here = (pre .1 .0 .here); few = (let a = if4 .left in omega (arith, a)); shallow = omega (arith, pre .1 .0 .shallow) }, pre .1 .2))
+    let after-put : walk-rule-place walk-rule-lts.After-put t = search in
+    let else4 : walk-rule-place walk-rule-lts.Else4 t = search in
+    let else2 : walk-rule-place walk-rule-lts.Else2 t = search in
+    let else1 : walk-rule-place walk-rule-lts.Else1 t = search in
+    let start : walk-rule-place walk-rule-lts.Start t = search in
+    let pre = start .pre in
+    (omega (arith, pre .0), (record { short = (pre .1 .0 .short); here = (pre .1 .0 .here); few = (let a = else4 .if4 .left in omega (arith, a)); shallow = omega (arith, pre .1 .0 .shallow) }, pre .1 .2))
 
 walk-rule-same-length : (t : ℕ) → walk-rule-lts.Need-same-length (walk-rule-claims t) (walk-rule-at t) walk-rule.Post
 walk-rule-same-length t c = search needs
 
 walk-rule-returns-6 : (t : ℕ) → walk-rule-lts.Need-returns-6 (walk-rule-claims t) (walk-rule-at t) walk-rule.Post
 walk-rule-returns-6 t c =
-    let given = c .before .before .before .before .before .before .before .before .before .before .before .before .before .before .before .before .before .before .before .before .before .before .before .before .before .before .before .args in
-    let pre = c .before .before .before .before .before .before .before .before .before .before .before .before .before .before .before .before .before .before .before .before .before .before .before .before .before .before .before .pre in
-    let rules-in = c .before .before .before .before .before .before .before .before .before .before .before .before .before .before .before .before .before .before .before .before .before .before .before .before .before .rules-in in
-    let look = c .before .before .before .before .before .before .before .before .before .before .before .before .before .before .before .before .before .before .before .before .before .before .before .look in
-    let is-held = c .before .before .before .before .before .before .before .before .before .before .before .before .before .before .before .before .before .before .before .before .before .before .is-held in
-    let if1 = c .before .before .before .before .before .before .before .before .before .before .before .before .before .before .before .before .before .before .before .before .before .if1 in
-    let from-word = c .before .before .before .before .before .before .before .before .before .before .before .before .before .before .before .before .before .before .before .before .from-word in
-    let held = c .before .before .before .before .before .before .before .before .before .before .before .before .before .before .before .before .before .before .held in
-    let if2 = c .before .before .before .before .before .before .before .before .before .before .before .before .before .before .before .if2 in
-    let touched = c .before .before .before .before .before .before .before .before .before .before .before .before .before .before .touched in
-    let if3 = c .before .before .before .before .before .before .before .before .before .before .before .before .before .if3 in
-    let if4 = c .before .before .before .before .before .before .before .before .before .before .before .if4 in
-    let row-word = c .before .before .before .before .before .before .before .before .before .row-word in
-    let put = c .before .before .before .before .before .before .before .before .put in
-    let w = was-possible (held .given .0 .0) (recordOf (look .result)) (possible (look .result) (given .at) (length (given .text .now .now))) (sym (held .given .1) ∙ from-word .ensures) in
+    let after-walk-node : walk-rule-place walk-rule-lts.After-walk-node t = search in
+    let after-put : walk-rule-place walk-rule-lts.After-put t = search in
+    let after-row-word : walk-rule-place walk-rule-lts.After-row-word t = search in
+    let else4 : walk-rule-place walk-rule-lts.Else4 t = search in
+    let else3 : walk-rule-place walk-rule-lts.Else3 t = search in
+    let after-touched : walk-rule-place walk-rule-lts.After-touched t = search in
+    let else2 : walk-rule-place walk-rule-lts.Else2 t = search in
+    let after-held : walk-rule-place walk-rule-lts.After-held t = search in
+    let after-from-word : walk-rule-place walk-rule-lts.After-from-word t = search in
+    let else1 : walk-rule-place walk-rule-lts.Else1 t = search in
+    let after-is-held : walk-rule-place walk-rule-lts.After-is-held t = search in
+    let after-look : walk-rule-place walk-rule-lts.After-look t = search in
+    let after-rules-in : walk-rule-place walk-rule-lts.After-rules-in t = search in
+    let start : walk-rule-place walk-rule-lts.Start t = search in
+    let given = start .args in
+    let pre = start .pre in
+    let w = was-possible (after-held .held .given .0 .0) (recordOf (after-look .look .result)) (possible (after-look .look .result) (given .at) (length (given .text .now .now))) (sym (after-held .held .given .1) ∙ after-from-word .from-word .ensures) in
     let m = ap (λ (r : Record). r .matched) (w .1) in
     let n = ap (λ (r : Record). r .length) (w .1) in
-    rule-stops (rulesIn (given .words .now)) (given .root) (given .room) (given .text .now .now) (given .table .now .now) (nodeV (given .room) (given .words .now) (given .text .now .now) (given .table .now .now) (given .left)) (given .rule) (given .at) (given .lo) (given .hi) (given .depth) (look .ensures ∙ ap (λ (n : ℕ). getD (given .table .now .now) (slotOf n (given .rule) (given .at)) 0) (rules-in .ensures .0)) (given .count .now) (given .rows .now) (sym (is-held .ensures) ∙ not-false (is-held .result) (if1 .left)) (w .0) (sym m ∙ not-false (held .given .0 .0 .matched) (if2 .left)) n (sym (touched .ensures) ∙ not-false (touched .result) (if3 .left)) (if4 .left) (row-word .ensures) (pre .1 .0 .short) (pre .1 .0 .here) (node-bounded (given .room) (given .words .now) (given .text .now .now) (given .table .now .now) (given .left)) _ _ _ (rw (put .ensures) at (c .before .before .before .walk-node .ensures)) (c .if5 .taken)
+    rule-stops (rulesIn (given .words .now)) (given .root) (given .room) (given .text .now .now) (given .table .now .now) (nodeV (given .room) (given .words .now) (given .text .now .now) (given .table .now .now) (given .left)) (given .rule) (given .at) (given .lo) (given .hi) (given .depth) (after-look .look .ensures ∙ ap (λ (n : ℕ). getD (given .table .now .now) (slotOf n (given .rule) (given .at)) 0) (after-rules-in .rules-in .ensures .0)) (given .count .now) (given .rows .now) (sym (after-is-held .is-held .ensures) ∙ not-false (after-is-held .is-held .result) (else1 .if1 .left)) (w .0) (sym m ∙ not-false (after-held .held .given .0 .0 .matched) (else2 .if2 .left)) n (sym (after-touched .touched .ensures) ∙ not-false (after-touched .touched .result) (else3 .if3 .left)) (else4 .if4 .left) (after-row-word .row-word .ensures) (pre .1 .0 .short) (pre .1 .0 .here) (node-bounded (given .room) (given .words .now) (given .text .now .now) (given .table .now .now) (given .left)) _ _ _ (rw (after-put .put .ensures) at (after-walk-node .walk-node .ensures)) (c .if5 .taken)
 
 walk-rule-same-length-2 : (t : ℕ) → walk-rule-lts.Need-same-length-2 (walk-rule-claims t) (walk-rule-at t) walk-rule.Post
 walk-rule-same-length-2 t c = search needs
 
 walk-rule-returns-7 : (t : ℕ) → walk-rule-lts.Need-returns-7 (walk-rule-claims t) (walk-rule-at t) walk-rule.Post
 walk-rule-returns-7 t c =
-    let given = c .before .before .before .before .before .before .before .before .before .before .before .before .before .before .before .before .before .before .before .before .before .before .before .before .before .before .before .args in
-    let pre = c .before .before .before .before .before .before .before .before .before .before .before .before .before .before .before .before .before .before .before .before .before .before .before .before .before .before .before .pre in
-    let rules-in = c .before .before .before .before .before .before .before .before .before .before .before .before .before .before .before .before .before .before .before .before .before .before .before .before .before .rules-in in
-    let look = c .before .before .before .before .before .before .before .before .before .before .before .before .before .before .before .before .before .before .before .before .before .before .before .look in
-    let is-held = c .before .before .before .before .before .before .before .before .before .before .before .before .before .before .before .before .before .before .before .before .before .before .is-held in
-    let if1 = c .before .before .before .before .before .before .before .before .before .before .before .before .before .before .before .before .before .before .before .before .before .if1 in
-    let from-word = c .before .before .before .before .before .before .before .before .before .before .before .before .before .before .before .before .before .before .before .before .from-word in
-    let held = c .before .before .before .before .before .before .before .before .before .before .before .before .before .before .before .before .before .before .held in
-    let if2 = c .before .before .before .before .before .before .before .before .before .before .before .before .before .before .before .if2 in
-    let touched = c .before .before .before .before .before .before .before .before .before .before .before .before .before .before .touched in
-    let if3 = c .before .before .before .before .before .before .before .before .before .before .before .before .before .if3 in
-    let if4 = c .before .before .before .before .before .before .before .before .before .before .before .if4 in
-    let row-word = c .before .before .before .before .before .before .before .before .before .row-word in
-    let put = c .before .before .before .before .before .before .before .before .put in
-    let w = was-possible (held .given .0 .0) (recordOf (look .result)) (possible (look .result) (given .at) (length (given .text .now .now))) (sym (held .given .1) ∙ from-word .ensures) in
+    let after-walk-node : walk-rule-place walk-rule-lts.After-walk-node t = search in
+    let after-put : walk-rule-place walk-rule-lts.After-put t = search in
+    let after-row-word : walk-rule-place walk-rule-lts.After-row-word t = search in
+    let else4 : walk-rule-place walk-rule-lts.Else4 t = search in
+    let else3 : walk-rule-place walk-rule-lts.Else3 t = search in
+    let after-touched : walk-rule-place walk-rule-lts.After-touched t = search in
+    let else2 : walk-rule-place walk-rule-lts.Else2 t = search in
+    let after-held : walk-rule-place walk-rule-lts.After-held t = search in
+    let after-from-word : walk-rule-place walk-rule-lts.After-from-word t = search in
+    let else1 : walk-rule-place walk-rule-lts.Else1 t = search in
+    let after-is-held : walk-rule-place walk-rule-lts.After-is-held t = search in
+    let after-look : walk-rule-place walk-rule-lts.After-look t = search in
+    let after-rules-in : walk-rule-place walk-rule-lts.After-rules-in t = search in
+    let start : walk-rule-place walk-rule-lts.Start t = search in
+    let given = start .args in
+    let pre = start .pre in
+    let w = was-possible (after-held .held .given .0 .0) (recordOf (after-look .look .result)) (possible (after-look .look .result) (given .at) (length (given .text .now .now))) (sym (after-held .held .given .1) ∙ after-from-word .from-word .ensures) in
     let m = ap (λ (r : Record). r .matched) (w .1) in
     let n = ap (λ (r : Record). r .length) (w .1) in
-    rule-goes (rulesIn (given .words .now)) (given .root) (given .room) (given .text .now .now) (given .table .now .now) (nodeV (given .room) (given .words .now) (given .text .now .now) (given .table .now .now) (given .left)) (given .rule) (given .at) (given .lo) (given .hi) (given .depth) (look .ensures ∙ ap (λ (n : ℕ). getD (given .table .now .now) (slotOf n (given .rule) (given .at)) 0) (rules-in .ensures .0)) (given .count .now) (given .rows .now) (sym (is-held .ensures) ∙ not-false (is-held .result) (if1 .left)) (w .0) (sym m ∙ not-false (held .given .0 .0 .matched) (if2 .left)) n (sym (touched .ensures) ∙ not-false (touched .result) (if3 .left)) (if4 .left) (row-word .ensures) (pre .1 .0 .short) (pre .1 .0 .here) (node-bounded (given .room) (given .words .now) (given .text .now .now) (given .table .now .now) (given .left)) _ _ _ (rw (put .ensures) at (c .before .before .before .walk-node .ensures)) (c .if5 .left)
+    rule-goes (rulesIn (given .words .now)) (given .root) (given .room) (given .text .now .now) (given .table .now .now) (nodeV (given .room) (given .words .now) (given .text .now .now) (given .table .now .now) (given .left)) (given .rule) (given .at) (given .lo) (given .hi) (given .depth) (after-look .look .ensures ∙ ap (λ (n : ℕ). getD (given .table .now .now) (slotOf n (given .rule) (given .at)) 0) (after-rules-in .rules-in .ensures .0)) (given .count .now) (given .rows .now) (sym (after-is-held .is-held .ensures) ∙ not-false (after-is-held .is-held .result) (else1 .if1 .left)) (w .0) (sym m ∙ not-false (after-held .held .given .0 .0 .matched) (else2 .if2 .left)) n (sym (after-touched .touched .ensures) ∙ not-false (after-touched .touched .result) (else3 .if3 .left)) (else4 .if4 .left) (after-row-word .row-word .ensures) (pre .1 .0 .short) (pre .1 .0 .here) (node-bounded (given .room) (given .words .now) (given .text .now .now) (given .table .now .now) (given .left)) _ _ _ (rw (after-put .put .ensures) at (after-walk-node .walk-node .ensures)) (c .if5 .left)
 
 walk-sequence-walk-node-requires : (t : ℕ) → walk-sequence-lts.Need-walk-node-requires (walk-sequence-claims t) (walk-sequence-at t) walk-sequence.Post
 walk-sequence-walk-node-requires t c κs =
-    let pre = c .before .before .before .pre in
+    let start : walk-sequence-place walk-sequence-lts.Start t = search in
+    let pre = start .pre in
     (omega (arith, pre .0), (record { short = (pre .1 .0 .short); here = (pre .1 .0 .here); few = (pre .1 .0 .few); shallow = omega (arith, pre .1 .0 .shallow) }, pre .1 .1))
 
 walk-sequence-same-length : (t : ℕ) → walk-sequence-lts.Need-same-length (walk-sequence-claims t) (walk-sequence-at t) walk-sequence.Post
@@ -663,60 +765,71 @@ walk-sequence-same-length t c = search needs
 
 walk-sequence-returns : (t : ℕ) → walk-sequence-lts.Need-returns (walk-sequence-claims t) (walk-sequence-at t) walk-sequence.Post
 walk-sequence-returns t c =
-    let given = c .before .before .before .before .before .before .before .args in
-    let pre = c .before .before .before .before .before .before .before .pre in
+    let after-walk-node : walk-sequence-place walk-sequence-lts.After-walk-node t = search in
+    let start : walk-sequence-place walk-sequence-lts.Start t = search in
+    let given = start .args in
+    let pre = start .pre in
     let inner = nodeV (given .room) (given .words .now) (given .text .now .now) (given .table .now .now) (given .left) in
-    sequence-ends (given .text .now .now) (given .room) inner (pre .1 .0 .short) (node-bounded (given .room) (given .words .now) (given .text .now .now) (given .table .now .now) (given .left)) (pairV (rulesIn (given .words .now)) (given .b) (given .room) (given .text .now .now) (given .table .now .now) inner) (given .a) (given .b) (given .at) (given .lo) (given .hi) (given .depth) (pre .1 .0 .here) (pre .1 .0 .few) (c .before .before .before .walk-node .ensures) (c .if1 .taken)
+    sequence-ends (given .text .now .now) (given .room) inner (pre .1 .0 .short) (node-bounded (given .room) (given .words .now) (given .text .now .now) (given .table .now .now) (given .left)) (pairV (rulesIn (given .words .now)) (given .b) (given .room) (given .text .now .now) (given .table .now .now) inner) (given .a) (given .b) (given .at) (given .lo) (given .hi) (given .depth) (pre .1 .0 .here) (pre .1 .0 .few) (after-walk-node .walk-node .ensures) (c .if1 .taken)
 
 walk-sequence-add-walk-node : (t : ℕ) → walk-sequence-lts.Need-add-walk-node (walk-sequence-claims t) (walk-sequence-at t) walk-sequence.Post
 walk-sequence-add-walk-node t c =
-    let given = c .before .before .before .before .before .before .before .before .before .args in
-    let pre = c .before .before .before .before .before .before .before .before .before .pre in
-    let x = c .before .before .before .before .before .walk-node in
+    let else1 : walk-sequence-place walk-sequence-lts.Else1 t = search in
+    let after-walk-node : walk-sequence-place walk-sequence-lts.After-walk-node t = search in
+    let start : walk-sequence-place walk-sequence-lts.Start t = search in
+    let given = start .args in
+    let pre = start .pre in
     let inner = nodeV (given .room) (given .words .now) (given .text .now .now) (given .table .now .now) (given .left) in
-    omega (arith, (sequence-first (given .text .now .now) (given .room) inner (pre .1 .0 .short) (node-bounded (given .room) (given .words .now) (given .text .now .now) (given .table .now .now) (given .left)) (pairV (rulesIn (given .words .now)) (given .b) (given .room) (given .text .now .now) (given .table .now .now) inner) (given .a) (given .b) (given .at) (given .lo) (given .hi) (given .depth) (pre .1 .0 .here) (pre .1 .0 .few) (x .ensures) (c .before .before .if1 .left)) .in-text, (pre .1 .0 .short))
+    omega (arith, (sequence-first (given .text .now .now) (given .room) inner (pre .1 .0 .short) (node-bounded (given .room) (given .words .now) (given .text .now .now) (given .table .now .now) (given .left)) (pairV (rulesIn (given .words .now)) (given .b) (given .room) (given .text .now .now) (given .table .now .now) inner) (given .a) (given .b) (given .at) (given .lo) (given .hi) (given .depth) (pre .1 .0 .here) (pre .1 .0 .few) (after-walk-node .walk-node .ensures) (else1 .if1 .left)) .in-text, (pre .1 .0 .short))
 
 walk-sequence-walk-node-requires-2 : (t : ℕ) → walk-sequence-lts.Need-walk-node-requires-2 (walk-sequence-claims t) (walk-sequence-at t) walk-sequence.Post
 walk-sequence-walk-node-requires-2 t c κs =
-    let given = c .before .before .before .before .before .before .before .before .before .args in
-    let pre = c .before .before .before .before .before .before .before .before .before .pre in
-    let x = c .before .before .before .before .before .walk-node in
-    let if1 = c .before .before .if1 in
+    let else1 : walk-sequence-place walk-sequence-lts.Else1 t = search in
+    let after-walk-node : walk-sequence-place walk-sequence-lts.After-walk-node t = search in
+    let start : walk-sequence-place walk-sequence-lts.Start t = search in
+    let given = start .args in
+    let pre = start .pre in
     let inner = nodeV (given .room) (given .words .now) (given .text .now .now) (given .table .now .now) (given .left) in
-    (omega (arith, pre .0), (record { short = (pre .1 .0 .short); here = (sequence-first (given .text .now .now) (given .room) inner (pre .1 .0 .short) (node-bounded (given .room) (given .words .now) (given .text .now .now) (given .table .now .now) (given .left)) (pairV (rulesIn (given .words .now)) (given .b) (given .room) (given .text .now .now) (given .table .now .now) inner) (given .a) (given .b) (given .at) (given .lo) (given .hi) (given .depth) (pre .1 .0 .here) (pre .1 .0 .few) (x .ensures) (if1 .left)) .in-text; few = (sequence-first (given .text .now .now) (given .room) inner (pre .1 .0 .short) (node-bounded (given .room) (given .words .now) (given .text .now .now) (given .table .now .now) (given .left)) (pairV (rulesIn (given .words .now)) (given .b) (given .room) (given .text .now .now) (given .table .now .now) inner) (given .a) (given .b) (given .at) (given .lo) (given .hi) (given .depth) (pre .1 .0 .here) (pre .1 .0 .few) (x .ensures) (if1 .left)) .few; shallow = omega (arith, pre .1 .0 .shallow) }, pre .1 .2))
+    (omega (arith, pre .0), (record { short = (pre .1 .0 .short); here = (sequence-first (given .text .now .now) (given .room) inner (pre .1 .0 .short) (node-bounded (given .room) (given .words .now) (given .text .now .now) (given .table .now .now) (given .left)) (pairV (rulesIn (given .words .now)) (given .b) (given .room) (given .text .now .now) (given .table .now .now) inner) (given .a) (given .b) (given .at) (given .lo) (given .hi) (given .depth) (pre .1 .0 .here) (pre .1 .0 .few) (after-walk-node .walk-node .ensures) (else1 .if1 .left)) .in-text; few = (sequence-first (given .text .now .now) (given .room) inner (pre .1 .0 .short) (node-bounded (given .room) (given .words .now) (given .text .now .now) (given .table .now .now) (given .left)) (pairV (rulesIn (given .words .now)) (given .b) (given .room) (given .text .now .now) (given .table .now .now) inner) (given .a) (given .b) (given .at) (given .lo) (given .hi) (given .depth) (pre .1 .0 .here) (pre .1 .0 .few) (after-walk-node .walk-node .ensures) (else1 .if1 .left)) .few; shallow = omega (arith, pre .1 .0 .shallow) }, pre .1 .2))
 
 walk-sequence-same-length-2 : (t : ℕ) → walk-sequence-lts.Need-same-length-2 (walk-sequence-claims t) (walk-sequence-at t) walk-sequence.Post
 walk-sequence-same-length-2 t c = search needs
 
 walk-sequence-returns-2 : (t : ℕ) → walk-sequence-lts.Need-returns-2 (walk-sequence-claims t) (walk-sequence-at t) walk-sequence.Post
 walk-sequence-returns-2 t c =
-    let given = c .before .before .before .before .before .before .before .before .before .before .before .before .before .args in
-    let pre = c .before .before .before .before .before .before .before .before .before .before .before .before .before .pre in
-    let x = c .before .before .before .before .before .before .before .before .before .walk-node in
-    let if1 = c .before .before .before .before .before .before .if1 in
+    let after-walk-node2 : walk-sequence-place walk-sequence-lts.After-walk-node2 t = search in
+    let else1 : walk-sequence-place walk-sequence-lts.Else1 t = search in
+    let after-walk-node : walk-sequence-place walk-sequence-lts.After-walk-node t = search in
+    let start : walk-sequence-place walk-sequence-lts.Start t = search in
+    let given = start .args in
+    let pre = start .pre in
     let inner = nodeV (given .room) (given .words .now) (given .text .now .now) (given .table .now .now) (given .left) in
-    sequence-second-ends (given .text .now .now) (given .room) inner (pre .1 .0 .short) (node-bounded (given .room) (given .words .now) (given .text .now .now) (given .table .now .now) (given .left)) (pairV (rulesIn (given .words .now)) (given .b) (given .room) (given .text .now .now) (given .table .now .now) inner) (given .a) (given .b) (given .at) (given .lo) (given .hi) (given .depth) (pre .1 .0 .here) (pre .1 .0 .few) (x .ensures) (if1 .left) (c .before .before .before .walk-node2 .ensures) (c .if2 .taken)
+    sequence-second-ends (given .text .now .now) (given .room) inner (pre .1 .0 .short) (node-bounded (given .room) (given .words .now) (given .text .now .now) (given .table .now .now) (given .left)) (pairV (rulesIn (given .words .now)) (given .b) (given .room) (given .text .now .now) (given .table .now .now) inner) (given .a) (given .b) (given .at) (given .lo) (given .hi) (given .depth) (pre .1 .0 .here) (pre .1 .0 .few) (after-walk-node .walk-node .ensures) (else1 .if1 .left) (after-walk-node2 .walk-node2 .ensures) (c .if2 .taken)
 
 walk-sequence-add-result : (t : ℕ) → walk-sequence-lts.Need-add-result (walk-sequence-claims t) (walk-sequence-at t) walk-sequence.Post
 walk-sequence-add-result t c =
-    let given = c .before .before .before .before .before .before .before .before .before .before .before .before .before .args in
-    let pre = c .before .before .before .before .before .before .before .before .before .before .before .before .before .pre in
-    let x = c .before .before .before .before .before .before .before .before .before .walk-node in
-    let if1 = c .before .before .before .before .before .before .if1 in
+    let after-walk-node2 : walk-sequence-place walk-sequence-lts.After-walk-node2 t = search in
+    let else1 : walk-sequence-place walk-sequence-lts.Else1 t = search in
+    let after-walk-node : walk-sequence-place walk-sequence-lts.After-walk-node t = search in
+    let start : walk-sequence-place walk-sequence-lts.Start t = search in
+    let given = start .args in
+    let pre = start .pre in
     let inner = nodeV (given .room) (given .words .now) (given .text .now .now) (given .table .now .now) (given .left) in
-    omega (arith, (sequence-second (given .text .now .now) (given .room) inner (pre .1 .0 .short) (node-bounded (given .room) (given .words .now) (given .text .now .now) (given .table .now .now) (given .left)) (pairV (rulesIn (given .words .now)) (given .b) (given .room) (given .text .now .now) (given .table .now .now) inner) (given .a) (given .b) (given .at) (given .lo) (given .hi) (given .depth) (pre .1 .0 .here) (pre .1 .0 .few) (x .ensures) (if1 .left) (c .before .before .before .walk-node2 .ensures) (c .if2 .left)) .in-text, (pre .1 .0 .short))
+    omega (arith, (sequence-second (given .text .now .now) (given .room) inner (pre .1 .0 .short) (node-bounded (given .room) (given .words .now) (given .text .now .now) (given .table .now .now) (given .left)) (pairV (rulesIn (given .words .now)) (given .b) (given .room) (given .text .now .now) (given .table .now .now) inner) (given .a) (given .b) (given .at) (given .lo) (given .hi) (given .depth) (pre .1 .0 .here) (pre .1 .0 .few) (after-walk-node .walk-node .ensures) (else1 .if1 .left) (after-walk-node2 .walk-node2 .ensures) (c .if2 .left)) .in-text, (pre .1 .0 .short))
 
 walk-sequence-same-length-3 : (t : ℕ) → walk-sequence-lts.Need-same-length-3 (walk-sequence-claims t) (walk-sequence-at t) walk-sequence.Post
 walk-sequence-same-length-3 t c = search needs
 
 walk-sequence-returns-3 : (t : ℕ) → walk-sequence-lts.Need-returns-3 (walk-sequence-claims t) (walk-sequence-at t) walk-sequence.Post
 walk-sequence-returns-3 t c =
-    let given = c .before .before .before .before .before .before .before .before .before .before .before .before .before .args in
-    let pre = c .before .before .before .before .before .before .before .before .before .before .before .before .before .pre in
-    let x = c .before .before .before .before .before .before .before .before .before .walk-node in
-    let if1 = c .before .before .before .before .before .before .if1 in
+    let after-walk-node2 : walk-sequence-place walk-sequence-lts.After-walk-node2 t = search in
+    let else1 : walk-sequence-place walk-sequence-lts.Else1 t = search in
+    let after-walk-node : walk-sequence-place walk-sequence-lts.After-walk-node t = search in
+    let start : walk-sequence-place walk-sequence-lts.Start t = search in
+    let given = start .args in
+    let pre = start .pre in
     let inner = nodeV (given .room) (given .words .now) (given .text .now .now) (given .table .now .now) (given .left) in
-    sequence-both (given .text .now .now) (given .room) inner (pre .1 .0 .short) (node-bounded (given .room) (given .words .now) (given .text .now .now) (given .table .now .now) (given .left)) (pairV (rulesIn (given .words .now)) (given .b) (given .room) (given .text .now .now) (given .table .now .now) inner) (given .a) (given .b) (given .at) (given .lo) (given .hi) (given .depth) (pre .1 .0 .here) (pre .1 .0 .few) (x .ensures) (if1 .left) (c .before .before .before .walk-node2 .ensures) (c .if2 .left)
+    sequence-both (given .text .now .now) (given .room) inner (pre .1 .0 .short) (node-bounded (given .room) (given .words .now) (given .text .now .now) (given .table .now .now) (given .left)) (pairV (rulesIn (given .words .now)) (given .b) (given .room) (given .text .now .now) (given .table .now .now) inner) (given .a) (given .b) (given .at) (given .lo) (given .hi) (given .depth) (pre .1 .0 .here) (pre .1 .0 .few) (after-walk-node .walk-node .ensures) (else1 .if1 .left) (after-walk-node2 .walk-node2 .ensures) (c .if2 .left)
 
 abbrev walk-star-Inv-loop : walk-star-lts.InvT-loop
 walk-star-Inv-loop words text table rows₀ count₀ room a at lo hi depth left before₀ rows count before =
@@ -726,25 +839,32 @@ abbrev walk-star-μ-loop : walk-star-lts.MeasureT-loop
 walk-star-μ-loop words text table rows₀ count₀ room a at lo hi depth left before₀ rows count before =
     length (text .now) - (at + before)
 
+abbrev walk-star-place : (walk-star-lts.Claims → In 7 walk-star-kinds.ps → Out 7 walk-star-kinds.ps walk-star-kinds.r → walk-star-lts.InvT-loop → walk-star-lts.MeasureT-loop → Type 0) → ℕ → Type 0
+walk-star-place place t = place (walk-star-claims t) (walk-star-at t) walk-star.Post walk-star-Inv-loop walk-star-μ-loop
+
 walk-star-loop-holds : (t : ℕ) → walk-star-lts.Need-loop-holds (walk-star-claims t)
     (walk-star-at t)
     walk-star.Post
     walk-star-Inv-loop
     walk-star-μ-loop
 walk-star-loop-holds t c =
-    let inner = nodeV (c .before .args .room) (c .before .args .words .now) (c .before .args .text .now .now) (c .before .args .table .now .now) (c .before .args .left) in
-    (refl, λ short. star-start (c .before .args .text .now .now) (c .before .args .room) inner short (node-bounded (c .before .args .room) (c .before .args .words .now) (c .before .args .text .now .now) (c .before .args .table .now .now) (c .before .args .left)) (c .before .args .a) (c .before .args .at) (c .before .args .lo) (c .before .args .hi) (c .before .args .depth) (pairV (rulesIn (c .before .args .words .now)) 0 (c .before .args .room) (c .before .args .text .now .now) (c .before .args .table .now .now) inner) (c .before .pre .1 .0 .here) (c .before .pre .1 .0 .few))
+    let start : walk-star-place walk-star-lts.Start t = search in
+    let inner = nodeV (start .args .room) (start .args .words .now) (start .args .text .now .now) (start .args .table .now .now) (start .args .left) in
+    (refl, λ short. star-start (start .args .text .now .now) (start .args .room) inner short (node-bounded (start .args .room) (start .args .words .now) (start .args .text .now .now) (start .args .table .now .now) (start .args .left)) (start .args .a) (start .args .at) (start .args .lo) (start .args .hi) (start .args .depth) (pairV (rulesIn (start .args .words .now)) 0 (start .args .room) (start .args .text .now .now) (start .args .table .now .now) inner) (start .pre .1 .0 .here) (start .pre .1 .0 .few))
 
 walk-star-add-walk-part : (t : ℕ) → walk-star-lts.Need-add-walk-part (walk-star-claims t) (walk-star-at t) walk-star.Post walk-star-Inv-loop walk-star-μ-loop
 walk-star-add-walk-part t c =
-    let pre = c .before .before .before .before .pre in
-    omega (arith, (c .before .before .loop .inv .1 (pre .1 .0 .short)) .in-text, (pre .1 .0 .short))
+    let at-loop : walk-star-place walk-star-lts.At-loop t = search in
+    let start : walk-star-place walk-star-lts.Start t = search in
+    let pre = start .pre in
+    omega (arith, (at-loop .loop .inv .1 (pre .1 .0 .short)) .in-text, (pre .1 .0 .short))
 
 walk-star-walk-part-requires : (t : ℕ) → walk-star-lts.Need-walk-part-requires (walk-star-claims t) (walk-star-at t) walk-star.Post walk-star-Inv-loop walk-star-μ-loop
 walk-star-walk-part-requires t c κs =
-    let pre = c .before .before .before .before .pre in
-    let loop = c .before .before .loop in
-    (omega (arith, pre .0), (record { short = (pre .1 .0 .short); here = (loop .inv .1 (pre .1 .0 .short)) .in-text; few = (loop .inv .1 (pre .1 .0 .short)) .few; shallow = omega (arith, pre .1 .0 .shallow) }, pre .1 .1))
+    let at-loop : walk-star-place walk-star-lts.At-loop t = search in
+    let start : walk-star-place walk-star-lts.Start t = search in
+    let pre = start .pre in
+    (omega (arith, pre .0), (record { short = (pre .1 .0 .short); here = (at-loop .loop .inv .1 (pre .1 .0 .short)) .in-text; few = (at-loop .loop .inv .1 (pre .1 .0 .short)) .few; shallow = omega (arith, pre .1 .0 .shallow) }, pre .1 .1))
 
 walk-star-same-length : (t : ℕ) → walk-star-lts.Need-same-length (walk-star-claims t) (walk-star-at t) walk-star.Post walk-star-Inv-loop walk-star-μ-loop
 walk-star-same-length t c = search needs
@@ -755,10 +875,12 @@ walk-star-returns : (t : ℕ) → walk-star-lts.Need-returns (walk-star-claims t
     walk-star-Inv-loop
     walk-star-μ-loop
 walk-star-returns t c =
-    let given = c .before .before .before .before .before .before .before .before .args in
-    let pre = c .before .before .before .before .before .before .before .before .pre in
-    let loop = c .before .before .before .before .before .before .loop in
-    star-stops (given .text .now .now) (given .room) (nodeV (given .room) (given .words .now) (given .text .now .now) (given .table .now .now) (given .left)) (pre .1 .0 .short) (node-bounded (given .room) (given .words .now) (given .text .now .now) (given .table .now .now) (given .left)) (given .a) (given .at) (given .lo) (given .hi) (given .depth) (loop .inv .1 (pre .1 .0 .short)) (c .before .before .before .walk-part .ensures) (c .if1 .taken)
+    let after-walk-part : walk-star-place walk-star-lts.After-walk-part t = search in
+    let at-loop : walk-star-place walk-star-lts.At-loop t = search in
+    let start : walk-star-place walk-star-lts.Start t = search in
+    let given = start .args in
+    let pre = start .pre in
+    star-stops (given .text .now .now) (given .room) (nodeV (given .room) (given .words .now) (given .text .now .now) (given .table .now .now) (given .left)) (pre .1 .0 .short) (node-bounded (given .room) (given .words .now) (given .text .now .now) (given .table .now .now) (given .left)) (given .a) (given .at) (given .lo) (given .hi) (given .depth) (at-loop .loop .inv .1 (pre .1 .0 .short)) (after-walk-part .walk-part .ensures) (c .if1 .taken)
 
 walk-star-same-length-2 : (t : ℕ) → walk-star-lts.Need-same-length-2 (walk-star-claims t) (walk-star-at t) walk-star.Post walk-star-Inv-loop walk-star-μ-loop
 walk-star-same-length-2 t c = search needs
@@ -769,11 +891,12 @@ walk-star-returns-2 : (t : ℕ) → walk-star-lts.Need-returns-2 (walk-star-clai
     walk-star-Inv-loop
     walk-star-μ-loop
 walk-star-returns-2 t c =
-    let given = c .before .before .before .before .before .before .before .before .before .args in
-    let pre = c .before .before .before .before .before .before .before .before .before .pre in
-    let loop = c .before .before .before .before .before .before .before .loop in
-    let x = c .before .before .before .before .walk-part in
-    star-last (given .text .now .now) (given .room) (nodeV (given .room) (given .words .now) (given .text .now .now) (given .table .now .now) (given .left)) (pre .1 .0 .short) (node-bounded (given .room) (given .words .now) (given .text .now .now) (given .table .now .now) (given .left)) (given .a) (given .at) (given .lo) (given .hi) (given .depth) (loop .inv .1 (pre .1 .0 .short)) (x .ensures) (c .if2 .taken)
+    let after-walk-part : walk-star-place walk-star-lts.After-walk-part t = search in
+    let at-loop : walk-star-place walk-star-lts.At-loop t = search in
+    let start : walk-star-place walk-star-lts.Start t = search in
+    let given = start .args in
+    let pre = start .pre in
+    star-last (given .text .now .now) (given .room) (nodeV (given .room) (given .words .now) (given .text .now .now) (given .table .now .now) (given .left)) (pre .1 .0 .short) (node-bounded (given .room) (given .words .now) (given .text .now .now) (given .table .now .now) (given .left)) (given .a) (given .at) (given .lo) (given .hi) (given .depth) (at-loop .loop .inv .1 (pre .1 .0 .short)) (after-walk-part .walk-part .ensures) (c .if2 .taken)
 
 walk-star-add-result : (t : ℕ) → walk-star-lts.Need-add-result (walk-star-claims t)
     (walk-star-at t)
@@ -791,11 +914,12 @@ walk-star-returns-3 : (t : ℕ) → walk-star-lts.Need-returns-3 (walk-star-clai
     walk-star-Inv-loop
     walk-star-μ-loop
 walk-star-returns-3 t c =
-    let given = c .before .before .before .before .before .before .before .before .before .before .args in
-    let pre = c .before .before .before .before .before .before .before .before .before .before .pre in
-    let loop = c .before .before .before .before .before .before .before .before .loop in
-    let x = c .before .before .before .before .before .walk-part in
-    star-still (given .text .now .now) (given .room) (nodeV (given .room) (given .words .now) (given .text .now .now) (given .table .now .now) (given .left)) (pre .1 .0 .short) (node-bounded (given .room) (given .words .now) (given .text .now .now) (given .table .now .now) (given .left)) (given .a) (given .at) (given .lo) (given .hi) (given .depth) (loop .inv .1 (pre .1 .0 .short)) (x .ensures) (c .if3 .taken)
+    let after-walk-part : walk-star-place walk-star-lts.After-walk-part t = search in
+    let at-loop : walk-star-place walk-star-lts.At-loop t = search in
+    let start : walk-star-place walk-star-lts.Start t = search in
+    let given = start .args in
+    let pre = start .pre in
+    star-still (given .text .now .now) (given .room) (nodeV (given .room) (given .words .now) (given .text .now .now) (given .table .now .now) (given .left)) (pre .1 .0 .short) (node-bounded (given .room) (given .words .now) (given .text .now .now) (given .table .now .now) (given .left)) (given .a) (given .at) (given .lo) (given .hi) (given .depth) (at-loop .loop .inv .1 (pre .1 .0 .short)) (after-walk-part .walk-part .ensures) (c .if3 .taken)
 
 walk-star-add-before : (t : ℕ) → walk-star-lts.Need-add-before (walk-star-claims t)
     (walk-star-at t)
@@ -803,11 +927,14 @@ walk-star-add-before : (t : ℕ) → walk-star-lts.Need-add-before (walk-star-cl
     walk-star-Inv-loop
     walk-star-μ-loop
 walk-star-add-before t c =
-    let given = c .before .before .before .before .before .before .before .before .before .before .args in
-    let pre = c .before .before .before .before .before .before .before .before .before .before .pre in
-    let loop = c .before .before .before .before .before .before .before .before .loop in
-    let x = c .before .before .before .before .before .walk-part in
-    omega (arith, (star-found (given .text .now .now) (given .room) (nodeV (given .room) (given .words .now) (given .text .now .now) (given .table .now .now) (given .left)) (pre .1 .0 .short) (node-bounded (given .room) (given .words .now) (given .text .now .now) (given .table .now .now) (given .left)) (given .a) (given .at) (given .lo) (given .hi) (given .depth) (loop .inv .1 (pre .1 .0 .short)) (x .ensures) (let a = c .before .before .if1 .left in let b = c .before .if2 .left in omega (arith, b))) .in-text, (pre .1 .0 .short))
+    let else2 : walk-star-place walk-star-lts.Else2 t = search in
+    let else1 : walk-star-place walk-star-lts.Else1 t = search in
+    let after-walk-part : walk-star-place walk-star-lts.After-walk-part t = search in
+    let at-loop : walk-star-place walk-star-lts.At-loop t = search in
+    let start : walk-star-place walk-star-lts.Start t = search in
+    let given = start .args in
+    let pre = start .pre in
+    omega (arith, (star-found (given .text .now .now) (given .room) (nodeV (given .room) (given .words .now) (given .text .now .now) (given .table .now .now) (given .left)) (pre .1 .0 .short) (node-bounded (given .room) (given .words .now) (given .text .now .now) (given .table .now .now) (given .left)) (given .a) (given .at) (given .lo) (given .hi) (given .depth) (at-loop .loop .inv .1 (pre .1 .0 .short)) (after-walk-part .walk-part .ensures) (let a = else1 .if1 .left in let b = else2 .if2 .left in omega (arith, b))) .in-text, (pre .1 .0 .short))
 
 walk-star-loop-less : (t : ℕ) → walk-star-lts.Need-loop-less (walk-star-claims t)
     (walk-star-at t)
@@ -815,11 +942,14 @@ walk-star-loop-less : (t : ℕ) → walk-star-lts.Need-loop-less (walk-star-clai
     walk-star-Inv-loop
     walk-star-μ-loop
 walk-star-loop-less t c =
-    let given = c .before .before .before .before .before .before .before .before .before .before .args in
-    let pre = c .before .before .before .before .before .before .before .before .before .before .pre in
-    let loop = c .before .before .before .before .before .before .before .before .loop in
-    let x = c .before .before .before .before .before .walk-part in
-    let ne = c .if3 .left in omega (arith, ne, (star-found (given .text .now .now) (given .room) (nodeV (given .room) (given .words .now) (given .text .now .now) (given .table .now .now) (given .left)) (pre .1 .0 .short) (node-bounded (given .room) (given .words .now) (given .text .now .now) (given .table .now .now) (given .left)) (given .a) (given .at) (given .lo) (given .hi) (given .depth) (loop .inv .1 (pre .1 .0 .short)) (x .ensures) (let a = c .before .before .if1 .left in let b = c .before .if2 .left in omega (arith, b))) .in-text)
+    let else2 : walk-star-place walk-star-lts.Else2 t = search in
+    let else1 : walk-star-place walk-star-lts.Else1 t = search in
+    let after-walk-part : walk-star-place walk-star-lts.After-walk-part t = search in
+    let at-loop : walk-star-place walk-star-lts.At-loop t = search in
+    let start : walk-star-place walk-star-lts.Start t = search in
+    let given = start .args in
+    let pre = start .pre in
+    let ne = c .if3 .left in omega (arith, ne, (star-found (given .text .now .now) (given .room) (nodeV (given .room) (given .words .now) (given .text .now .now) (given .table .now .now) (given .left)) (pre .1 .0 .short) (node-bounded (given .room) (given .words .now) (given .text .now .now) (given .table .now .now) (given .left)) (given .a) (given .at) (given .lo) (given .hi) (given .depth) (at-loop .loop .inv .1 (pre .1 .0 .short)) (after-walk-part .walk-part .ensures) (let a = else1 .if1 .left in let b = else2 .if2 .left in omega (arith, b))) .in-text)
 
 walk-star-loop-again : (t : ℕ) → walk-star-lts.Need-loop-again (walk-star-claims t)
     (walk-star-at t)
@@ -827,10 +957,13 @@ walk-star-loop-again : (t : ℕ) → walk-star-lts.Need-loop-again (walk-star-cl
     walk-star-Inv-loop
     walk-star-μ-loop
 walk-star-loop-again t c =
-    let given = c .before .before .before .before .before .before .before .before .before .before .args in
-    let loop = c .before .before .before .before .before .before .before .before .loop in
-    let x = c .before .before .before .before .before .walk-part in
-    (x .kept .1 .1 .1 .0 ∙ loop .inv .0, λ short. star-more (given .text .now .now) (given .room) (nodeV (given .room) (given .words .now) (given .text .now .now) (given .table .now .now) (given .left)) short (node-bounded (given .room) (given .words .now) (given .text .now .now) (given .table .now .now) (given .left)) (given .a) (given .at) (given .lo) (given .hi) (given .depth) (loop .inv .1 short) (x .ensures) (let a = c .before .before .if1 .left in let b = c .before .if2 .left in omega (arith, b)) (c .if3 .left))
+    let else2 : walk-star-place walk-star-lts.Else2 t = search in
+    let else1 : walk-star-place walk-star-lts.Else1 t = search in
+    let after-walk-part : walk-star-place walk-star-lts.After-walk-part t = search in
+    let at-loop : walk-star-place walk-star-lts.At-loop t = search in
+    let start : walk-star-place walk-star-lts.Start t = search in
+    let given = start .args in
+    (after-walk-part .walk-part .kept .1 .1 .1 .0 ∙ at-loop .loop .inv .0, λ short. star-more (given .text .now .now) (given .room) (nodeV (given .room) (given .words .now) (given .text .now .now) (given .table .now .now) (given .left)) short (node-bounded (given .room) (given .words .now) (given .text .now .now) (given .table .now .now) (given .left)) (given .a) (given .at) (given .lo) (given .hi) (given .depth) (at-loop .loop .inv .1 short) (after-walk-part .walk-part .ensures) (let a = else1 .if1 .left in let b = else2 .if2 .left in omega (arith, b)) (c .if3 .left))
 
 pub +walk-choice+walk-node+walk-not+walk-part+walk-rule+walk-sequence+walk-star-spec :
     {M : Type 1} → statement M

@@ -17,26 +17,40 @@ check-requires c κs = search needs
 
 returns : tie.Need-returns
 returns c =
-    image-refused (c .before .before .before .before .args .image .now) (c .before .before .before .before .args .text .now) (c .before .check .result) (c .before .check .ensures) (c .if1 .taken)
+    let after-check : tie.After-check = search in
+    let start : tie.Start = search in
+    image-refused (start .args .image .now) (start .args .text .now) (after-check .check .result) (after-check .check .ensures) (c .if1 .taken)
 
 returns-2 : tie.Need-returns-2
 returns-2 c =
-    text-refused (c .before .before .before .before .before .args .image .now) (c .before .before .before .before .before .args .text .now) (checked-0 (c .before)) (c .if2 .taken)
+    let else1 : tie.Else1 = search in
+    let start : tie.Start = search in
+    text-refused (start .args .image .now) (start .args .text .now) (checked-0 (else1)) (c .if2 .taken)
 
 start-word-requires : tie.Need-start-word-requires
 start-word-requires c κs =
-    (accepted (checked-0 (c .before)), c .if2 .left)
+    let else1 : tie.Else1 = search in
+    (accepted (checked-0 (else1)), c .if2 .left)
 
 returns-3 : tie.Need-returns-3
 returns-3 c =
-    depth-refused (c .before .before .before .before .before .before .before .args .image .now) (c .before .before .before .before .before .before .before .args .text .now) (checked-0 (c .before .before .before)) (c .before .before .if2 .left) (c .before .start-word .ensures) (c .if3 .taken)
+    let after-start-word : tie.After-start-word = search in
+    let else2 : tie.Else2 = search in
+    let else1 : tie.Else1 = search in
+    let start : tie.Start = search in
+    depth-refused (start .args .image .now) (start .args .text .now) (checked-0 (else1)) (else2 .if2 .left) (after-start-word .start-word .ensures) (c .if3 .taken)
 
 reading-of-requires : tie.Need-reading-of-requires
 reading-of-requires c κs = search needs
 
 returns-4 : tie.Need-returns-4
 returns-4 c =
-    answered-reading (c .before .before .before .before .before .before .before .before .args .image .now) (c .before .before .before .before .before .before .before .before .args .text .now) (checked-0 (c .before .before .before .before)) (c .before .before .before .if2 .left) (c .before .before .start-word .ensures) (c .before .if3 .left) (c .reading-of .result) (c .reading-of .ensures)
+    let else3 : tie.Else3 = search in
+    let after-start-word : tie.After-start-word = search in
+    let else2 : tie.Else2 = search in
+    let else1 : tie.Else1 = search in
+    let start : tie.Start = search in
+    answered-reading (start .args .image .now) (start .args .text .now) (checked-0 (else1)) (else2 .if2 .left) (after-start-word .start-word .ensures) (else3 .if3 .left) (c .reading-of .result) (c .reading-of .ensures)
 
 pub plain-reading-spec : {M : Type 1} → statement M
 plain-reading-spec =

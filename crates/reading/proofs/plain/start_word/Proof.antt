@@ -18,16 +18,16 @@ rule-at-requires c κs = search needs
 
 mul-word : tie.Need-mul-word
 mul-word c =
-    let given = c .before .before .before .before .before .args in
-    let header-of = c .before .header-of in
-    let small = root-small (given .image .now) (header-of .result .start) in
+    let after-header-of : tie.After-header-of = search in
+    let start-place : tie.Start = search in
+    let small = root-small (start-place .args .image .now) (after-header-of .header-of .result .start) in
     omega (arith, c .rule-at .ensures .its-root)
 
 array-read-word : tie.Need-array-read-word
 array-read-word c =
-    let given = c .before .before .before .before .before .args in
-    let header-of = c .before .header-of in
-    let small = root-small (given .image .now) (header-of .result .start) in
+    let after-header-of : tie.After-header-of = search in
+    let start-place : tie.Start = search in
+    let small = root-small (start-place .args .image .now) (after-header-of .header-of .result .start) in
     omega (arith, c .rule-at .ensures .its-root)
 
 slice-aggregate-eval-word : tie.Need-slice-aggregate-eval-word
@@ -38,15 +38,15 @@ eval-word-requires c κs = search needs
 
 returns : tie.Need-returns
 returns c =
-    let given = c .before .before .before .before .before .before .before .before .before .before .before .args in
-    let pre = c .before .before .before .before .before .before .before .before .before .before .before .pre in
-    let loaded = c .before .before .before .before .before .before .before .before .load in
-    let header-of = c .before .before .before .before .before .before .before .header-of in
-    let rule-at = c .before .before .before .before .before .before .rule-at in
-    let eval-word = c .before .eval-word in
-    let e : rule-at .result .root ≡ root (given .image .now) (start (given .image .now)) =
-    rule-at .ensures .its-root ∙ ap (root (given .image .now)) (header-of .ensures .its-start) in
-    start-given (given .image .now) (given .t2 .now) (loaded .ensures) (pre .1) (rw e at (eval-word .ensures))
+    let after-eval-word : tie.After-eval-word = search in
+    let after-rule-at : tie.After-rule-at = search in
+    let after-header-of : tie.After-header-of = search in
+    let after-load : tie.After-load = search in
+    let start-place : tie.Start = search in
+    let given = start-place .args in
+    let e : after-rule-at .rule-at .result .root ≡ root (given .image .now) (start (given .image .now)) =
+    after-rule-at .rule-at .ensures .its-root ∙ ap (root (given .image .now)) (after-header-of .header-of .ensures .its-start) in
+    start-given (given .image .now) (given .t2 .now) (after-load .load .ensures) (start-place .pre .1) (rw e at (after-eval-word .eval-word .ensures))
 
 pub start-word-spec : {M : Type 1} → statement M
 start-word-spec =

@@ -18,14 +18,14 @@ rule-at-requires c κs = search needs
 
 eval-rule-requires : tie.Need-eval-rule-requires
 eval-rule-requires c κs =
-    let given = c .before .before .before .before .before .before .before .before .before .before .args in
-    let pre = c .before .before .before .before .before .before .before .before .before .before .pre in
-    let header-of = c .before .before .before .before .before .header-of in
-    let rule-at = c .before .before .before .before .rule-at in
-    let small = root-small (given .image .now) (header-of .result .start) in (
+    let after-rule-at : tie.After-rule-at = search in
+    let after-header-of : tie.After-header-of = search in
+    let start-place : tie.Start = search in
+    let pre = start-place .pre in
+    let small = root-small (start-place .args .image .now) (after-header-of .header-of .result .start) in (
       record { short = pre .1; here = omega arith; most = omega arith },
-      omega (arith, header-of .ensures .its-start, pre .0 .lawful .counts .start-rule, pre .0 .lawful .counts .few-rules),
-      omega (arith, rule-at .ensures .its-root),
+      omega (arith, after-header-of .header-of .ensures .its-start, pre .0 .lawful .counts .start-rule, pre .0 .lawful .counts .few-rules),
+      omega (arith, after-rule-at .rule-at .ensures .its-root),
     )
 
 same-length : tie.Need-same-length
@@ -33,15 +33,16 @@ same-length c = search needs
 
 returns : tie.Need-returns
 returns c =
-    let given = c .before .before .before .before .before .before .before .before .before .before .before .before .before .args in
-    let loaded = c .before .before .before .before .before .before .before .before .before .load in
-    let header-of = c .before .before .before .before .before .before .before .before .header-of in
-    let rule-at = c .before .before .before .before .before .before .before .rule-at in
-    let eval-rule = c .before .before .eval-rule in
-    let e : rule-at .result .root ≡ root (given .image .now) (start (given .image .now)) =
-    rule-at .ensures .its-root ∙ ap (root (given .image .now)) (header-of .ensures .its-start) in
-    start-over-given (given .image .now) (given .t2 .now) (loaded .ensures) (given .table .now) (given .count .now)
-    (rw (e, header-of .ensures .its-start) at (eval-rule .ensures))
+    let after-eval-rule : tie.After-eval-rule = search in
+    let after-rule-at : tie.After-rule-at = search in
+    let after-header-of : tie.After-header-of = search in
+    let after-load : tie.After-load = search in
+    let start-place : tie.Start = search in
+    let given = start-place .args in
+    let e : after-rule-at .rule-at .result .root ≡ root (given .image .now) (start (given .image .now)) =
+    after-rule-at .rule-at .ensures .its-root ∙ ap (root (given .image .now)) (after-header-of .header-of .ensures .its-start) in
+    start-over-given (given .image .now) (given .t2 .now) (after-load .load .ensures) (given .table .now) (given .count .now)
+    (rw (e, after-header-of .header-of .ensures .its-start) at (after-eval-rule .eval-rule .ensures))
 
 pub start-over-spec : {M : Type 1} → statement M
 start-over-spec =

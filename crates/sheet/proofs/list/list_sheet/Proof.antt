@@ -14,7 +14,9 @@ asked-requires c κs = search needs
 
 returns : tie.Need-returns
 returns c =
-    lists-unasked (c .before .before .before .before .before .before .args .image .now) (c .before .before .before .before .before .before .args .buffer .now) (c .before .before .before .before .before .before .args .n) (c .before .before .before .before .before .before .args .table .now) (c .before .before .before .before .before .before .args .rows .now) (c .before .asked .result) (let ne = c .if1 .taken in omega (arith, ne)) (c .before .asked .ensures)
+    let after-asked : tie.After-asked = search in
+    let start : tie.Start = search in
+    lists-unasked (start .args .image .now) (start .args .buffer .now) (start .args .n) (start .args .table .now) (start .args .rows .now) (after-asked .asked .result) (let ne = c .if1 .taken in omega (arith, ne)) (after-asked .asked .ensures)
 
 sub-start-over : tie.Need-sub-start-over
 sub-start-over c = search needs
@@ -24,44 +26,60 @@ part-start-over-start c = search needs
 
 part-start-over-end : tie.Need-part-start-over-end
 part-start-over-end c =
-    let image = c .before .before .before .before .before .before .args .image .now in
-    let buffer = c .before .before .before .before .before .before .args .buffer .now in
-    let n = c .before .before .before .before .before .before .args .n in
-    let table = c .before .before .before .before .before .before .args .table .now in
-    let good = passed image (length buffer) n (length table) (c .before .asked .ensures) (c .if1 .left) in
+    let after-asked : tie.After-asked = search in
+    let start : tie.Start = search in
+    let image = start .args .image .now in
+    let buffer = start .args .buffer .now in
+    let n = start .args .n in
+    let table = start .args .table .now in
+    let good = passed image (length buffer) n (length table) (after-asked .asked .ensures) (c .if1 .left) in
     omega (arith, loan image (length buffer) n (length table) good .text-fits)
 
 start-over-requires : tie.Need-start-over-requires
 start-over-requires c κs =
-    let image = c .before .before .before .before .before .before .before .before .before .args .image .now in
-    let buffer = c .before .before .before .before .before .before .before .before .before .args .buffer .now in
-    let n = c .before .before .before .before .before .before .before .before .before .args .n in
-    let table = c .before .before .before .before .before .before .before .before .before .args .table .now in
-    let good = passed image (length buffer) n (length table) (c .before .before .before .before .asked .ensures) (c .before .before .before .if1 .left) in
+    let else1 : tie.Else1 = search in
+    let after-asked : tie.After-asked = search in
+    let start : tie.Start = search in
+    let image = start .args .image .now in
+    let buffer = start .args .buffer .now in
+    let n = start .args .n in
+    let table = start .args .table .now in
+    let good = passed image (length buffer) n (length table) (after-asked .asked .ensures) (else1 .if1 .left) in
     (accepted-image image (length buffer) n (length table) good, simp length-take (omega (arith, loan image (length buffer) n (length table) good .short)))
 
 zeroed-requires : tie.Need-zeroed-requires
 zeroed-requires c κs =
-    let image = c .before .before .before .before .before .before .before .before .before .before .before .before .before .before .args .image .now in
-    let buffer = c .before .before .before .before .before .before .before .before .before .before .before .before .before .before .args .buffer .now in
-    let n = c .before .before .before .before .before .before .before .before .before .before .before .before .before .before .args .n in
-    let table = c .before .before .before .before .before .before .before .before .before .before .before .before .before .before .args .table .now in
-    let good = passed image (length buffer) n (length table) (c .before .before .before .before .before .before .before .before .before .asked .ensures) (c .before .before .before .before .before .before .before .before .if1 .left) in
-    (omega (arith, c .before .if2 .taken), table-lent image (length buffer) n (length table) good refl (omega (arith, loan image (length buffer) n (length table) good .text-fits)) _ (c .before .before .before .before .start-over .kept .1 .1 .0))
+    let then2 : tie.Then2 = search in
+    let after-start-over : tie.After-start-over = search in
+    let else1 : tie.Else1 = search in
+    let after-asked : tie.After-asked = search in
+    let start : tie.Start = search in
+    let image = start .args .image .now in
+    let buffer = start .args .buffer .now in
+    let n = start .args .n in
+    let table = start .args .table .now in
+    let good = passed image (length buffer) n (length table) (after-asked .asked .ensures) (else1 .if1 .left) in
+    (omega (arith, then2 .if2 .taken), table-lent image (length buffer) n (length table) good refl (omega (arith, loan image (length buffer) n (length table) good .text-fits)) _ (after-start-over .start-over .kept .1 .1 .0))
 
 same-length : tie.Need-same-length
 same-length c = search needs
 
 returns-2 : tie.Need-returns-2
 returns-2 c =
-    let image = c .before .before .before .before .before .before .before .before .before .before .before .before .before .before .before .before .before .args .image .now in
-    let buffer = c .before .before .before .before .before .before .before .before .before .before .before .before .before .before .before .before .before .args .buffer .now in
-    let n = c .before .before .before .before .before .before .before .before .before .before .before .before .before .before .before .before .before .args .n in
-    let table = c .before .before .before .before .before .before .before .before .before .before .before .before .before .before .before .before .before .args .table .now in
-    let good = passed image (length buffer) n (length table) (c .before .before .before .before .before .before .before .before .before .before .before .before .asked .ensures) (c .before .before .before .before .before .before .before .before .before .before .before .if1 .left) in
-    let rows = c .before .before .before .before .before .before .before .before .before .before .before .before .before .before .before .before .before .args .rows .now in
-    rw (c .before .before .zeroed .ensures .0, c .before .before .zeroed .ensures .1)
-    (list-refused image buffer n table rows good {m = n - 0} (c .before .before .before .before .before .before .before .start-over .ensures) (omega arith) (c .before .before .before .before .if2 .taken))
+    let after-zeroed : tie.After-zeroed = search in
+    let then2 : tie.Then2 = search in
+    let after-start-over : tie.After-start-over = search in
+    let else1 : tie.Else1 = search in
+    let after-asked : tie.After-asked = search in
+    let start : tie.Start = search in
+    let image = start .args .image .now in
+    let buffer = start .args .buffer .now in
+    let n = start .args .n in
+    let table = start .args .table .now in
+    let good = passed image (length buffer) n (length table) (after-asked .asked .ensures) (else1 .if1 .left) in
+    let rows = start .args .rows .now in
+    rw (after-zeroed .zeroed .ensures .0, after-zeroed .zeroed .ensures .1)
+    (list-refused image buffer n table rows good {m = n - 0} (after-start-over .start-over .ensures) (omega arith) (then2 .if2 .taken))
 
 sub-list-over : tie.Need-sub-list-over
 sub-list-over c = search needs
@@ -71,20 +89,28 @@ part-list-over-start c = search needs
 
 part-list-over-end : tie.Need-part-list-over-end
 part-list-over-end c =
-    let image = c .before .before .before .before .before .before .before .before .before .before .before .before .before .args .image .now in
-    let buffer = c .before .before .before .before .before .before .before .before .before .before .before .before .before .args .buffer .now in
-    let n = c .before .before .before .before .before .before .before .before .before .before .before .before .before .args .n in
-    let table = c .before .before .before .before .before .before .before .before .before .before .before .before .before .args .table .now in
-    let good = passed image (length buffer) n (length table) (c .before .before .before .before .before .before .before .before .asked .ensures) (c .before .before .before .before .before .before .before .if1 .left) in
+    let after-start-over : tie.After-start-over = search in
+    let else1 : tie.Else1 = search in
+    let after-asked : tie.After-asked = search in
+    let start : tie.Start = search in
+    let image = start .args .image .now in
+    let buffer = start .args .buffer .now in
+    let n = start .args .n in
+    let table = start .args .table .now in
+    let good = passed image (length buffer) n (length table) (after-asked .asked .ensures) (else1 .if1 .left) in
     omega (arith, loan image (length buffer) n (length table) good .text-fits)
 
 list-over-requires : tie.Need-list-over-requires
 list-over-requires c κs =
-    let image = c .before .before .before .before .before .before .before .before .before .before .before .before .before .before .before .before .args .image .now in
-    let buffer = c .before .before .before .before .before .before .before .before .before .before .before .before .before .before .before .before .args .buffer .now in
-    let n = c .before .before .before .before .before .before .before .before .before .before .before .before .before .before .before .before .args .n in
-    let table = c .before .before .before .before .before .before .before .before .before .before .before .before .before .before .before .before .args .table .now in
-    let good = passed image (length buffer) n (length table) (c .before .before .before .before .before .before .before .before .before .before .before .asked .ensures) (c .before .before .before .before .before .before .before .before .before .before .if1 .left) in
+    let after-start-over : tie.After-start-over = search in
+    let else1 : tie.Else1 = search in
+    let after-asked : tie.After-asked = search in
+    let start : tie.Start = search in
+    let image = start .args .image .now in
+    let buffer = start .args .buffer .now in
+    let n = start .args .n in
+    let table = start .args .table .now in
+    let good = passed image (length buffer) n (length table) (after-asked .asked .ensures) (else1 .if1 .left) in
     (accepted-image image (length buffer) n (length table) good, simp length-take (omega (arith, loan image (length buffer) n (length table) good .short)))
 
 enum-known-written : tie.Need-enum-known-written
@@ -98,14 +124,21 @@ enum-known-k c = search needs
 
 stopped-requires : tie.Need-stopped-requires
 stopped-requires c κs =
-    let image = c .before .before .before .before .before .before .before .before .before .before .before .before .before .before .before .before .before .before .before .before .before .before .before .args .image .now in
-    let buffer = c .before .before .before .before .before .before .before .before .before .before .before .before .before .before .before .before .before .before .before .before .before .before .before .args .buffer .now in
-    let n = c .before .before .before .before .before .before .before .before .before .before .before .before .before .before .before .before .before .before .before .before .before .before .before .args .n in
-    let table = c .before .before .before .before .before .before .before .before .before .before .before .before .before .before .before .before .before .before .before .before .before .before .before .args .table .now in
-    let good = passed image (length buffer) n (length table) (c .before .before .before .before .before .before .before .before .before .before .before .before .before .before .before .before .before .before .asked .ensures) (c .before .before .before .before .before .before .before .before .before .before .before .before .before .before .before .before .before .if1 .left) in
-    let rows = c .before .before .before .before .before .before .before .before .before .before .before .before .before .before .before .before .before .before .before .before .before .before .before .args .rows .now in (
-      stop-number image buffer n table rows good (n - 0) (c .before .before .before .before .before .before .list-over .ensures) (c .before .before .k .given .1),
-      table-lent image (length buffer) n (length table) good refl (omega (arith, loan image (length buffer) n (length table) good .text-fits)) _ (c .before .before .before .before .before .before .before .before .before .before .before .before .before .start-over .kept .1 .1 .0),
+    let after-k : tie.After-k = search in
+    let after-list-over : tie.After-list-over = search in
+    let else2 : tie.Else2 = search in
+    let after-start-over : tie.After-start-over = search in
+    let else1 : tie.Else1 = search in
+    let after-asked : tie.After-asked = search in
+    let start : tie.Start = search in
+    let image = start .args .image .now in
+    let buffer = start .args .buffer .now in
+    let n = start .args .n in
+    let table = start .args .table .now in
+    let good = passed image (length buffer) n (length table) (after-asked .asked .ensures) (else1 .if1 .left) in
+    let rows = start .args .rows .now in (
+      stop-number image buffer n table rows good (n - 0) (after-list-over .list-over .ensures) (after-k .k .given .1),
+      table-lent image (length buffer) n (length table) good refl (omega (arith, loan image (length buffer) n (length table) good .text-fits)) _ (after-start-over .start-over .kept .1 .1 .0),
     )
 
 same-length-2 : tie.Need-same-length-2
@@ -116,14 +149,21 @@ same-length-3 c = search needs
 
 returns-3 : tie.Need-returns-3
 returns-3 c =
-    let image = c .before .before .before .before .before .before .before .before .before .before .before .before .before .before .before .before .before .before .before .before .before .before .before .args .image .now in
-    let buffer = c .before .before .before .before .before .before .before .before .before .before .before .before .before .before .before .before .before .before .before .before .before .before .before .args .buffer .now in
-    let n = c .before .before .before .before .before .before .before .before .before .before .before .before .before .before .before .before .before .before .before .before .before .before .before .args .n in
-    let table = c .before .before .before .before .before .before .before .before .before .before .before .before .before .before .before .before .before .before .before .before .before .before .before .args .table .now in
-    let good = passed image (length buffer) n (length table) (c .before .before .before .before .before .before .before .before .before .before .before .before .before .before .before .before .before .before .asked .ensures) (c .before .before .before .before .before .before .before .before .before .before .before .before .before .before .before .before .before .if1 .left) in
-    let rows = c .before .before .before .before .before .before .before .before .before .before .before .before .before .before .before .before .before .before .before .before .before .before .before .args .rows .now in
+    let after-written : tie.After-written = search in
+    let after-list-over : tie.After-list-over = search in
+    let else2 : tie.Else2 = search in
+    let after-start-over : tie.After-start-over = search in
+    let else1 : tie.Else1 = search in
+    let after-asked : tie.After-asked = search in
+    let start : tie.Start = search in
+    let image = start .args .image .now in
+    let buffer = start .args .buffer .now in
+    let n = start .args .n in
+    let table = start .args .table .now in
+    let good = passed image (length buffer) n (length table) (after-asked .asked .ensures) (else1 .if1 .left) in
+    let rows = start .args .rows .now in
     rw (c .reading-of .ensures)
-    (list-rows image buffer n table rows good {m = n - 0} (c .before .before .before .before .before .before .before .before .before .before .before .before .before .start-over .ensures) (omega arith) (c .before .before .before .before .before .before .before .before .before .before .if2 .left) (c .before .before .before .before .before .before .list-over .ensures) (c .before .before .written .given .1))
+    (list-rows image buffer n table rows good {m = n - 0} (after-start-over .start-over .ensures) (omega arith) (else2 .if2 .left) (after-list-over .list-over .ensures) (after-written .written .given .1))
 
 same-length-4 : tie.Need-same-length-4
 same-length-4 c = search needs
@@ -133,14 +173,22 @@ same-length-5 c = search needs
 
 returns-4 : tie.Need-returns-4
 returns-4 c =
-    let image = c .before .before .before .before .before .before .before .before .before .before .before .before .before .before .before .before .before .before .before .before .before .before .before .before .before .before .args .image .now in
-    let buffer = c .before .before .before .before .before .before .before .before .before .before .before .before .before .before .before .before .before .before .before .before .before .before .before .before .before .before .args .buffer .now in
-    let n = c .before .before .before .before .before .before .before .before .before .before .before .before .before .before .before .before .before .before .before .before .before .before .before .before .before .before .args .n in
-    let table = c .before .before .before .before .before .before .before .before .before .before .before .before .before .before .before .before .before .before .before .before .before .before .before .before .before .before .args .table .now in
-    let good = passed image (length buffer) n (length table) (c .before .before .before .before .before .before .before .before .before .before .before .before .before .before .before .before .before .before .before .before .before .asked .ensures) (c .before .before .before .before .before .before .before .before .before .before .before .before .before .before .before .before .before .before .before .before .if1 .left) in
-    let rows = c .before .before .before .before .before .before .before .before .before .before .before .before .before .before .before .before .before .before .before .before .before .before .before .before .before .before .args .rows .now in
-    rw (c .before .before .stopped .ensures .0, c .before .before .stopped .ensures .1)
-    (list-stopped image buffer n table rows good {m = n - 0} (c .before .before .before .before .before .before .before .before .before .before .before .before .before .before .before .before .start-over .ensures) (omega arith) (c .before .before .before .before .before .before .before .before .before .before .before .before .before .if2 .left) (c .before .before .before .before .before .before .before .before .before .list-over .ensures) (c .before .before .before .before .before .k .given .1))
+    let after-stopped : tie.After-stopped = search in
+    let after-k : tie.After-k = search in
+    let after-list-over : tie.After-list-over = search in
+    let else2 : tie.Else2 = search in
+    let after-start-over : tie.After-start-over = search in
+    let else1 : tie.Else1 = search in
+    let after-asked : tie.After-asked = search in
+    let start : tie.Start = search in
+    let image = start .args .image .now in
+    let buffer = start .args .buffer .now in
+    let n = start .args .n in
+    let table = start .args .table .now in
+    let good = passed image (length buffer) n (length table) (after-asked .asked .ensures) (else1 .if1 .left) in
+    let rows = start .args .rows .now in
+    rw (after-stopped .stopped .ensures .0, after-stopped .stopped .ensures .1)
+    (list-stopped image buffer n table rows good {m = n - 0} (after-start-over .start-over .ensures) (omega arith) (else2 .if2 .left) (after-list-over .list-over .ensures) (after-k .k .given .1))
 
 pub list-sheet-spec : {M : Type 1} → statement M
 list-sheet-spec =

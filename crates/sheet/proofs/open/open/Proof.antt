@@ -17,21 +17,28 @@ header-of-requires c κs = search needs
 
 fill-requires : tie.Need-fill-requires
 fill-requires c κs =
-    let image = c .before .before .before .before .before .before .before .before .args .image .now in
-    let text = c .before .before .before .before .before .before .before .before .args .text .now in
-    let buffer = c .before .before .before .before .before .before .before .before .args .buffer .now in
-    let table = c .before .before .before .before .before .before .before .before .args .table .now in
-    let good = passed image (length buffer) (length text) (length table) (c .before .before .before .asked .ensures) (c .before .before .if1 .left) in
+    let else1 : tie.Else1 = search in
+    let after-asked : tie.After-asked = search in
+    let start : tie.Start = search in
+    let image = start .args .image .now in
+    let text = start .args .text .now in
+    let buffer = start .args .buffer .now in
+    let table = start .args .table .now in
+    let good = passed image (length buffer) (length text) (length table) (after-asked .asked .ensures) (else1 .if1 .left) in
     loan image (length buffer) (length text) (length table) good .text-fits
 
 clear-table-requires : tie.Need-clear-table-requires
 clear-table-requires c κs =
-    let image = c .before .before .before .before .before .before .before .before .before .before .before .before .args .image .now in
-    let text = c .before .before .before .before .before .before .before .before .before .before .before .before .args .text .now in
-    let buffer = c .before .before .before .before .before .before .before .before .before .before .before .before .args .buffer .now in
-    let table = c .before .before .before .before .before .before .before .before .before .before .before .before .args .table .now in
-    let good = passed image (length buffer) (length text) (length table) (c .before .before .before .before .before .before .before .asked .ensures) (c .before .before .before .before .before .before .if1 .left) in
-    table-lent image (length buffer) (length text) (length table) good (c .before .before .before .before .before .header-of .ensures .its-rules) (omega arith) table refl
+    let after-header-of : tie.After-header-of = search in
+    let else1 : tie.Else1 = search in
+    let after-asked : tie.After-asked = search in
+    let start : tie.Start = search in
+    let image = start .args .image .now in
+    let text = start .args .text .now in
+    let buffer = start .args .buffer .now in
+    let table = start .args .table .now in
+    let good = passed image (length buffer) (length text) (length table) (after-asked .asked .ensures) (else1 .if1 .left) in
+    table-lent image (length buffer) (length text) (length table) good (after-header-of .header-of .ensures .its-rules) (omega arith) table refl
 
 same-length : tie.Need-same-length
 same-length c = search needs
@@ -41,18 +48,24 @@ same-length-2 c = search needs
 
 returns-2 : tie.Need-returns-2
 returns-2 c =
-    let image = c .before .before .before .before .before .before .before .before .before .before .before .before .before .before .before .args .image .now in
-    let text = c .before .before .before .before .before .before .before .before .before .before .before .before .before .before .before .args .text .now in
-    let buffer = c .before .before .before .before .before .before .before .before .before .before .before .before .before .before .before .args .buffer .now in
-    let table = c .before .before .before .before .before .before .before .before .before .before .before .before .before .before .before .args .table .now in
-    let good = passed image (length buffer) (length text) (length table) (c .before .before .before .before .before .before .before .before .before .before .asked .ensures) (c .before .before .before .before .before .before .before .before .before .if1 .left) in
+    let after-clear-table : tie.After-clear-table = search in
+    let after-fill : tie.After-fill = search in
+    let after-header-of : tie.After-header-of = search in
+    let else1 : tie.Else1 = search in
+    let after-asked : tie.After-asked = search in
+    let start : tie.Start = search in
+    let image = start .args .image .now in
+    let text = start .args .text .now in
+    let buffer = start .args .buffer .now in
+    let table = start .args .table .now in
+    let good = passed image (length buffer) (length text) (length table) (after-asked .asked .ensures) (else1 .if1 .left) in
     record {
       first = good;
       values =
           record {
             length-is = refl;
-            bytes-are = c .before .before .before .before .before .before .fill .ensures;
-            words-are = (rw (c .before .before .before .before .before .before .before .before .header-of .ensures .its-rules) at (c .before .before .clear-table .ensures));
+            bytes-are = after-fill .fill .ensures;
+            words-are = (rw (after-header-of .header-of .ensures .its-rules) at (after-clear-table .clear-table .ensures));
           };
     }
 
