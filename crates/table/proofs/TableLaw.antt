@@ -23,6 +23,7 @@ use Rattle.editing.specs.Table.{tableWord, TableLent, stays, comes, cameFrom, w
 use Rattle.editing.specs.Held.{keptWord, heldTo}
 use Rattle.words.specs.Counted.{Counted}
 use Rattle.front.specs.Front.{keptAt}
+use Rattle.back.proofs.BackLaw.{count-fits}
 use Rattle.back.specs.Back.{cameWord, BackFits, Back}
 use Rattle.editing.proofs.Lengths.{new-is}
 use Rattle.editing.proofs.Held.{held-add, held-same, held-list, held-most}
@@ -264,17 +265,6 @@ module _
         let k2 = B .counted in
         omega arith
 
-    -- The count fits, since there are not more words.
-    pub few-standing : c + d ≤ tableSize R cap
-    unfolding wordsAfter
-    few-standing =
-        let f : ℕ → ℕ = λ j. wordAfter R n s e k t (j % R) (j / R) in
-        let a = standing-is in
-        let b = held-list (tabulate f (tableSize R cap)) in
-        let l = tabulate-long f (tableSize R cap) in
-        let m = held-most (at (tabulate f (tableSize R cap))) (length (tabulate f (tableSize R cap))) in
-        omega arith
-
 -- The slots of an edit lie in the table: those before, those after, and a row at s.
 pub record SlotsFit (R cap n s e k : ℕ) : Type 0 where
   pub old-slots : s * R + (e - s) * R + (n - e + 1) * R ≤ tableSize R cap
@@ -289,22 +279,35 @@ slots-fit {cap} {n} {s} {e} {k} R fits =
       row = (let m = slots.row-room R s (cap + 1) (omega arith) in omega arith);
     }
 
--- The back as it is lent has room for them.
+-- The front put back leaves the length.
+pub front-long :
+    (from : ℕ) (t kept : List ℕ) → from ≤ length t → length kept ≡ length (midOf 0 (from - 0) t) → length (putMid 0 (from - 0) t kept) ≡ length t
+front-long from t kept h l =
+    let a = l ∙ mid-long 0 (from - 0) t (omega arith) in put-long 0 (from - 0) t kept (omega arith) a
+
+-- The back as it is lent has room for slots that are not more than its words.
 pub back-room :
-    {R cap n s e k : ℕ} {t : List ℕ} (kept : List ℕ)
-    → TableLent R cap t
-    → EditFits cap n s e k
-    → length kept ≡ length (midOf 0 (s * R - 0) t)
-    → BackFits R ((e - s) * R) (k * R) ((n - e + 1) * R) (length (midOf (s * R) (tableSize R cap - s * R) (putMid 0 (s * R - 0) t kept)))
-back-room {R} {cap} {n} {s} {e} {k} {t} kept lent fits l =
-    let F = slots-fit R fits in
-    let w = lent .whole in
-    let a = l ∙ mid-long 0 (s * R - 0) t (omega arith) in
-    let b = put-long 0 (s * R - 0) t kept (omega arith) a in
-    let m = mid-long (s * R) (tableSize R cap - s * R) (putMid 0 (s * R - 0) t kept) (omega arith) in
-    record {
-      most-rules = lent .most-rules;
-      row = omega arith;
-      old-fits = omega arith;
-      new-fits = omega arith;
-    }
+    {R gone come tail : ℕ} (from m : ℕ) (xs : List ℕ)
+    → from + m ≤ length xs
+    → R ≤ 64
+    → R ≤ m
+    → gone + tail ≤ m
+    → come + tail ≤ m
+    → BackFits R gone come tail (length (midOf from m xs))
+back-room from m xs fits most row old new =
+    let e = mid-long from m xs fits in
+    record { most-rules = most; row = omega arith; old-fits = omega arith; new-fits = omega arith }
+
+-- The counts fit, since there are not more words.
+pub counts-fit :
+    {f held : ℕ → ℕ} {old new words : List ℕ} {lo hi count c R gone come tail d : ℕ} (from m : ℕ) (xs : List ℕ)
+    → Counted f old new lo hi held count c
+    → Back R gone come tail (midOf from m xs) words d
+    → from + m ≤ length xs
+    → c + d ≤ count + m
+counts-fit {held = held} {count = count} from m xs K B fits =
+    let e = K .counted in
+    let h = held-most held count in
+    let l = count-fits B in
+    let w = mid-long from m xs fits in
+    omega arith

@@ -1,7 +1,10 @@
 -- `edit_table` meets its contract, by the law of the edited table. Assumes nothing.
+use Prim.Native.Nat.{_*_, _-_}
 use native.Mathlib.Omega.{arith}
 use borrow.Author.Needs.{needs}
-use Rattle.table.proofs.TableLaw.{slots-fit, back-room, table-is, standing-is, few-standing}
+use borrow.Rule.Slice.PartMut.{putMid}
+use Rattle.records.specs.Slots.{tableSize}
+use Rattle.table.proofs.TableLaw.{slots-fit, front-long, back-room, counts-fit, table-is, standing-is}
 use Rattle.table.proofs.edit_table.Statement.{statement}
 use Rattle.table.proofs.edit_table.Tie as tie
 
@@ -72,15 +75,20 @@ edit-back-requires : tie.Need-edit-back-requires
 edit-back-requires c κs =
     let at-keep-front = c .before .before .before in
     let start = at-keep-front .before .before .before in
-    back-room (at-keep-front .keep-front .last .0) (start .pre .0) (start .pre .1) (at-keep-front .keep-front .ensures .filled .long)
+    let F = slots-fit (start .args .rules) (start .pre .1) in
+    let whole = start .pre .0 .whole in
+    let long = front-long (start .args .s * start .args .rules) (start .args .table .now) (at-keep-front .keep-front .last .0) (omega arith) (at-keep-front .keep-front .ensures .filled .long) in
+    back-room (start .args .s * start .args .rules) (tableSize (start .args .rules) (start .args .cap) - start .args .s * start .args .rules) (putMid 0 (start .args .s * start .args .rules - 0) (start .args .table .now) (at-keep-front .keep-front .last .0)) (omega arith) (start .pre .0 .most-rules) (omega arith) (omega arith) (omega arith)
 
 add-result : tie.Need-add-result
 add-result c =
     let at-edit-back = c .before .before in
     let at-keep-front = at-edit-back .before .before .before .before in
     let start = at-keep-front .before .before .before in
-    let few = few-standing (start .pre .0) (start .pre .1) (at-keep-front .keep-front .ensures) (at-edit-back .edit-back .ensures) in
+    let F = slots-fit (start .args .rules) (start .pre .1) in
     let whole = start .pre .0 .whole in
+    let long = front-long (start .args .s * start .args .rules) (start .args .table .now) (at-keep-front .keep-front .last .0) (omega arith) (at-keep-front .keep-front .ensures .filled .long) in
+    let few = counts-fit (start .args .s * start .args .rules) (tableSize (start .args .rules) (start .args .cap) - start .args .s * start .args .rules) (putMid 0 (start .args .s * start .args .rules - 0) (start .args .table .now) (at-keep-front .keep-front .last .0)) (at-keep-front .keep-front .ensures) (at-edit-back .edit-back .ensures) (omega arith) in
     omega arith
 
 same-length : tie.Need-same-length
