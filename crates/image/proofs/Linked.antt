@@ -9,21 +9,22 @@ use borrow.Author.Tests.{eqb-true, eqb-false, eq-eqb, ne-eqb}
 use Rattle.grammar.specs.declared.NodeFields.{NodeFields}
 use Rattle.grammar.specs.Image.{nodeWord, fieldsOf, fieldsAt, kind, fieldA, root, nodeOf, node, call}
 use Rattle.grammar.proofs.Nodes.{is-call}
-use Rattle.image.specs.Linked.{linkedIf, linkedWord, Linked}
+use Rattle.image.specs.Linked.{linkedIf, linkedFrom, linkedWord, Linked}
 use Rattle.image.proofs.SameFields.{same-record}
 
 pub root-small : (img : List ℕ) (r : ℕ) → root img r < 4096
 unfolding root
 root-small img r = omega arith
 
+-- The word of a node that is no call, and of one that is.
+module _ (img : List ℕ) (word : ℕ) where
+  pub own-word : (fieldsOf word .kind ≡ 7 → ⊥) → word ≡ linkedFrom img word
+  own-word other = ap (λ (b : Bool). linkedIf b word (root img (fieldsOf word .a))) (sym (ne-eqb (fieldsOf word .kind) 7 other))
+
+  pub call-word : fieldsOf word .kind ≡ 7 → word / 4096 * 4096 + root img (fieldsOf word .a) ≡ linkedFrom img word
+  call-word seven = ap (λ (b : Bool). linkedIf b word (root img (fieldsOf word .a))) (sym (eq-eqb (fieldsOf word .kind) 7 seven))
+
 module _ (img : List ℕ) (n : ℕ) where
-  -- The word of a node that is no call, and of one that is.
-  pub own-word : (kind img n ≡ 7 → ⊥) → nodeWord img n ≡ linkedWord img n
-  own-word other = ap (λ (b : Bool). linkedIf b (nodeWord img n) (root img (fieldA img n))) (sym (ne-eqb (kind img n) 7 other))
-
-  pub call-word : kind img n ≡ 7 → nodeWord img n / 4096 * 4096 + root img (fieldA img n) ≡ linkedWord img n
-  call-word seven = ap (λ (b : Bool). linkedIf b (nodeWord img n) (root img (fieldA img n))) (sym (eq-eqb (kind img n) 7 seven))
-
   pub linked : Linked img n (fieldsOf (linkedWord img n))
   unfolding fieldsAt
   linked = go (eqb (kind img n) 7) refl

@@ -6,14 +6,17 @@ use mathlib.Core.Bool.{Bool, true, false}
 use mathlib.Core.List.{List}
 use lib.Dec.{eqb}
 use Rattle.grammar.specs.declared.NodeFields.{NodeFields}
-use Rattle.grammar.specs.Image.{nodeWord, root, kind, nodeZero, fieldA, fieldB}
+use Rattle.grammar.specs.Image.{nodeWord, fieldsOf, root, kind, nodeZero, fieldA, fieldB}
 
 abbrev pub linkedIf : (calls : Bool) (word root : ℕ) → ℕ
 linkedIf false word root = word
 linkedIf true word root = word / 2 ^ 12 * 2 ^ 12 + root
 
+abbrev pub linkedFrom : List ℕ → (word : ℕ) → ℕ
+linkedFrom img word = linkedIf (eqb (fieldsOf word .kind) 7) word (root img (fieldsOf word .a))
+
 abbrev pub linkedWord : List ℕ → ℕ → ℕ
-linkedWord img n = linkedIf (eqb (kind img n) 7) (nodeWord img n) (root img (fieldA img n))
+linkedWord img n = linkedFrom img (nodeWord img n)
 
 -- The fields of such a word.
 pub record Linked (img : List ℕ) (n : ℕ) (f : NodeFields) : Type 0 where

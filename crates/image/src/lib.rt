@@ -5,7 +5,7 @@ ghost use mathlib.Core.Path.{_≡_};
 ghost use Prim.Native.Nat.{_<_};
 ghost use Rattle.grammar.specs.Image.{byteAt, word16, word32, nodeWord, fieldsOf, fieldsAt};
 ghost use Rattle.image.specs.Fields.{HeaderFields, RuleFields, SameFields};
-ghost use Rattle.image.specs.Linked.{linkedWord};
+ghost use Rattle.image.specs.Linked.{linkedFrom};
 
 pub struct Header {
     pub edition: usize,
@@ -133,11 +133,10 @@ pub fn node_at(image: &[u8], node: usize) -> NodeFields
     node_of(node_word(image, node))
 }
 
-// The word of a node, a call's with the root of the called rule for field B, which is 0 in a lawful image.
-pub fn linked_word(image: &[u8], node: usize) -> u32
-    ensures { λ r. ⌜ r ≡ linkedWord (now (image .entry)) node ⌝ }
+// A node's word, a call's with the root of the called rule for field B, which is 0 in a lawful image.
+pub fn linked_word(image: &[u8], word: u32) -> u32
+    ensures { λ r. ⌜ r ≡ linkedFrom (now (image .entry)) word ⌝ }
 {
-    let word = node_word(image, node);
     let fields = node_of(word);
     if fields.kind != 7 {
         return word;

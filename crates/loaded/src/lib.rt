@@ -13,7 +13,7 @@ pub fn load(image: &[u8]) -> [u32; 4097]
     let rules = header.rules;
     let mut words = [0u32; 4097];
     for n in 0..count {
-        words[n] = image::linked_word(image, n);
+        words[n] = image::linked_word(image, image::node_word(image, n));
     }
     words[4096] = rules as u32;
     words

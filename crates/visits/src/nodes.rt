@@ -15,7 +15,7 @@ pub fn node_words(image: &[u8]) -> [u32; 1024]
     let count = header.nodes;
     let mut words = [0u32; 1024];
     for n in 0..count {
-        words[n] = image::linked_word(image, n);
+        words[n] = image::linked_word(image, image::node_word(image, n));
     }
     words
 }

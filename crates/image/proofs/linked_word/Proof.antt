@@ -1,34 +1,22 @@
 use Prim.Native.Nat.{_<_}
 use native.Mathlib.Omega.{arith}
 use mathlib.Core.Path.{ap, _∙_}
-use Rattle.grammar.specs.Image.{fieldsAt, root}
-use Rattle.image.specs.Fields.{SameFields}
-use Rattle.image.proofs.SameFields.{fields-at}
+use Rattle.grammar.specs.Image.{root}
 use Rattle.image.proofs.Linked.{root-small, own-word, call-word}
 use borrow.Author.Needs.{needs}
 use Rattle.image.proofs.linked_word.Statement.{statement}
 use Rattle.image.proofs.linked_word.Tie as tie
 
--- The fields are those of the image's node, and the root is of 12 bits.
-read : (c : tie.After-node-of) → SameFields (c .node-of .result) (fieldsAt (c .before .before .before .args .image .now) (c .before .before .before .args .node))
-read c =
-    let start = c .before .before .before in
-    fields-at (start .args .image .now) (start .args .node) (c .before .node-word .ensures) (c .node-of .ensures)
-
 small : (c : tie.After-rule-at) → c .rule-at .result .root < 4096
 small c = rw (c .rule-at .ensures .its-root) (root-small _ _)
-
-node-word-requires : tie.Need-node-word-requires
-node-word-requires c κs = search needs
 
 node-of-requires : tie.Need-node-of-requires
 node-of-requires c κs = search needs
 
 returns : tie.Need-returns
 returns c =
-    let start = c .before .before .before .before .before in
-    c .before .before .before .node-word .ensures
-    ∙ own-word (start .args .image .now) (start .args .node) (λ e. c .if1 .taken (read (c .before .before) .its-kind ∙ e))
+    let start = c .before .before .before .before in
+    own-word (start .args .image .now) (start .args .word) (λ e. c .if1 .taken (c .before .before .node-of .ensures .its-kind ∙ e))
 
 rule-at-requires : tie.Need-rule-at-requires
 rule-at-requires c κs = search needs
@@ -48,18 +36,16 @@ cast-result c = omega (arith, small (c .before .before))
 returns-2 : tie.Need-returns-2
 returns-2 c =
     let at-rule = c .before .before in
-    let fields = read (at-rule .before .before .before) in
-    let start = at-rule .before .before .before .before .before .before in
+    let fields = at-rule .before .before .before .node-of .ensures in
+    let start = at-rule .before .before .before .before .before in
     let img = start .args .image .now in
     let its-root = at-rule .rule-at .ensures .its-root ∙ ap (root img) (fields .its-a) in
-    let word = at-rule .before .before .before .before .node-word .ensures in
-    omega (arith, its-root, word, c .before .wide-word .ensures, call-word img (start .args .node) (omega (arith, fields .its-kind, at-rule .before .if1 .left)))
+    omega (arith, its-root, c .before .wide-word .ensures, call-word img (start .args .word) (omega (arith, fields .its-kind, at-rule .before .if1 .left)))
 
 pub linked-word-spec : {M : Type 1} → statement M
 linked-word-spec =
     tie.close
     (tie.spec
-    node-word-requires
     node-of-requires
     returns
     rule-at-requires

@@ -1,8 +1,9 @@
 use Prim.Native.Nat.{ℕ, _≤_, _<_, _-_}
 use native.Mathlib.Omega.{arith}
-use mathlib.Core.Path.{_≡_, sym, _∙_}
+use mathlib.Core.Path.{_≡_, sym, ap, _∙_}
 use lib.ListN.{length, getD, length-set, length-replicate}
 use Rattle.grammar.specs.Image.{nodes}
+use Rattle.image.specs.Linked.{linkedFrom}
 use Rattle.loaded.proofs.LoadedWords.{linked-loaded, LoadedTo, none-loaded, next-loaded, loaded}
 use borrow.Author.Needs.{needs}
 use Rattle.loaded.proofs.load.Statement.{statement}
@@ -22,6 +23,9 @@ loop-holds : tie.Need-loop-holds Inv-loop μ-loop
 loop-holds c =
     (omega arith, length-replicate {A = ℕ} 4097 0, none-loaded (c .before .before .args .image .now) 4097)
 
+node-word-requires : tie.Need-node-word-requires Inv-loop μ-loop
+node-word-requires c κs = search needs
+
 linked-word-requires : tie.Need-linked-word-requires Inv-loop μ-loop
 linked-word-requires c κs = search needs
 
@@ -30,7 +34,8 @@ mul-words c = search needs
 
 array-write-words : tie.Need-array-write-words Inv-loop μ-loop
 array-write-words c =
-    omega (arith, c .before .before .before .before .before .pre .counts .few-nodes, c .before .before .before .header-of .ensures .its-nodes, c .before .before .loop .inv .0)
+    let at-loop = c .before .before .before in
+    omega (arith, at-loop .before .before .before .pre .counts .few-nodes, at-loop .before .header-of .ensures .its-nodes, at-loop .loop .inv .0)
 
 add-n : tie.Need-add-n Inv-loop μ-loop
 add-n c = search needs
@@ -40,8 +45,15 @@ loop-less c = search needs
 
 loop-again : tie.Need-loop-again Inv-loop μ-loop
 loop-again c =
-    let l : c .before .before .loop .n < length (c .before .before .loop .words) = omega (arith, c .before .before .before .before .before .pre .counts .few-nodes, c .before .before .before .header-of .ensures .its-nodes, c .before .before .loop .inv .1) in
-    (omega arith, length-set (c .before .before .loop .words) (c .before .before .loop .n) _ ∙ c .before .before .loop .inv .1, next-loaded (c .before .before .before .before .before .args .image .now) (c .before .before .loop .words) (c .before .before .loop .n) _ l (rw (c .linked-word .ensures) (linked-loaded (c .before .before .before .before .before .args .image .now) (c .before .before .loop .n))) (c .before .before .loop .inv .2))
+    let at-loop = c .before .before .before in
+    let start = at-loop .before .before .before in
+    let img = start .args .image .now in
+    let l : at-loop .loop .n < length (at-loop .loop .words) = omega (arith, start .pre .counts .few-nodes, at-loop .before .header-of .ensures .its-nodes, at-loop .loop .inv .1) in
+    let word = c .linked-word .ensures ∙ ap (linkedFrom img) (c .before .node-word .ensures) in (
+      omega arith,
+      length-set (at-loop .loop .words) (at-loop .loop .n) _ ∙ at-loop .loop .inv .1,
+      next-loaded img (at-loop .loop .words) (at-loop .loop .n) _ l (rw word (linked-loaded img (at-loop .loop .n))) (at-loop .loop .inv .2),
+    )
 
 cast-words : tie.Need-cast-words Inv-loop μ-loop
 cast-words c =
@@ -63,6 +75,7 @@ load-spec =
     μ-loop
     header-of-requires
     loop-holds
+    node-word-requires
     linked-word-requires
     mul-words
     array-write-words
