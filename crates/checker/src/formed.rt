@@ -15,15 +15,14 @@ ghost use Rattle.rounds.specs.Rounds.{round, RoundMade, SoundMarks, formedNodes
 fn formed_round(
     image: &[u8],
     order: &[u16; 1024],
+    count: usize,
     words: &[u32; 1024],
     known: &[u8; 1024],
     formed: &mut [bool; 1024],
 ) -> bool
-    requires { ⌜ Lawful (now image) × VisitsAll (nodes (now image)) (take (nodes (now image)) (now order)) × Outcomes (now image) (now known) × NodeWords (now image) (now words) × SoundMarks (now image) (now formed) ⌝ }
+    requires { ⌜ Lawful (now image) × VisitsAll (nodes (now image)) (take (nodes (now image)) (now order)) × Outcomes (now image) (now known) × NodeWords (now image) (now words) × SoundMarks (now image) (now formed) × (count ≡ nodes (now image)) ⌝ }
     ensures { λ added. ⌜ RoundMade (round (joinAt (now (image .entry)) (now (known .entry))) (take (nodes (now (image .entry))) (now (order .entry))) (now (formed .entry))) (now (formed .entry)) (now (formed .exit)) added ⌝ }
 {
-    let header = image::header_of(image);
-    let count = header.nodes;
     let mut added = false;
     for i in 0..count {
         let n = order::visited(order, i);
@@ -48,9 +47,11 @@ pub fn formed_nodes(
     requires { ⌜ Lawful (now image) × VisitsAll (nodes (now image)) (take (nodes (now image)) (now order)) × Outcomes (now image) (now known) × NodeWords (now image) (now words) ⌝ }
     ensures { λ r. ⌜ r ≡ formedNodes (now (image .entry)) (now (known .entry)) (take (nodes (now (image .entry))) (now (order .entry))) ⌝ }
 {
+    let header = image::header_of(image);
+    let count = header.nodes;
     let mut formed = [false; 1024];
     'rounds: loop {
-        let added = formed_round(image, order, words, known, &mut formed);
+        let added = formed_round(image, order, count, words, known, &mut formed);
         if !added {
             break 'rounds;
         }

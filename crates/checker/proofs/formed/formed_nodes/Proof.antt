@@ -13,24 +13,27 @@ use Rattle.checker.proofs.formed.formed_nodes.Statement.{statement}
 use Rattle.checker.proofs.formed.formed_nodes.Tie as tie
 
 abbrev Inv-rounds : tie.InvT-rounds
-Inv-rounds image order words known formed₀ formed = SoundMarks image formed × Reached (joinAt image known) (take (nodes image) order) noMarks formed
+Inv-rounds image order words known count formed₀ formed = SoundMarks image formed × Reached (joinAt image known) (take (nodes image) order) noMarks formed
 
 abbrev μ-rounds : tie.MeasureT-rounds
-μ-rounds image order words known formed₀ formed = nodes image - marks formed
+μ-rounds image order words known count formed₀ formed = nodes image - marks formed
+
+header-of-requires : tie.Need-header-of-requires Inv-rounds μ-rounds
+header-of-requires c κs = search needs
 
 rounds-holds : tie.Need-rounds-holds Inv-rounds μ-rounds
-rounds-holds c = (marks-start (c .before .args .image .now) 1024 refl, reached-none _)
+rounds-holds c = (marks-start (c .before .before .args .image .now) 1024 refl, reached-none _)
 
 formed-round-requires : tie.Need-formed-round-requires Inv-rounds μ-rounds
 formed-round-requires c κs =
     let at-rounds = c .before in
-    let entry = at-rounds .before .before in
-    (entry .pre .0, entry .pre .1, entry .pre .2, entry .pre .3, at-rounds .rounds .inv .0)
+    let entry = at-rounds .before .before .before in
+    (entry .pre .0, entry .pre .1, entry .pre .2, entry .pre .3, at-rounds .rounds .inv .0, at-rounds .before .header-of .ensures .its-nodes)
 
 rounds-less : tie.Need-rounds-less Inv-rounds μ-rounds
 rounds-less c =
     let at-rounds = c .before .before .before in
-    let entry = at-rounds .before .before in
+    let entry = at-rounds .before .before .before in
     let img = entry .args .image .now in
     let known = entry .args .known .now in
     let lawful = entry .pre .0 in
@@ -41,14 +44,14 @@ rounds-less c =
 rounds-again : tie.Need-rounds-again Inv-rounds μ-rounds
 rounds-again c =
     let at-rounds = c .before .before .before in
-    let entry = at-rounds .before .before in
+    let entry = at-rounds .before .before .before in
     let made = c .before .formed-round .ensures in
     (round-marks-sound (entry .args .image .now) (entry .args .known .now) _ (entry .pre .0 .counts) (entry .pre .0 .words) (entry .pre .2) (entry .pre .1) (at-rounds .rounds .inv .0) made, reached-more _ (at-rounds .rounds .inv .1) (made .is-round))
 
 returns : tie.Need-returns Inv-rounds μ-rounds
 returns c =
     let at-rounds = c .before .before .before in
-    let entry = at-rounds .before .before in
+    let entry = at-rounds .before .before .before in
     let made = c .before .formed-round .ensures in
     formed-nodes-left (entry .args .image .now) (entry .args .known .now) _ (entry .pre .0 .counts) (entry .pre .0 .words) (entry .pre .2) (entry .pre .1) _
     (reached-more _ (at-rounds .rounds .inv .1) (made .is-round))
@@ -60,6 +63,7 @@ formed-nodes-spec =
     (tie.spec
     Inv-rounds
     μ-rounds
+    header-of-requires
     rounds-holds
     formed-round-requires
     rounds-less
