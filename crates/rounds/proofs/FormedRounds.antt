@@ -4,7 +4,7 @@
 --     formed-rounds-stop     "The rounds stop at the first that adds nothing"
 --     formed-nodes-left      marks that some rounds leave and to which the next adds nothing are those
 -- Assumes nothing.
-use Prim.Native.Nat.{ℕ, _+_, _*_, _≤_, _<_}
+use Prim.Native.Nat.{ℕ, _≤_, _<_}
 use native.Mathlib.Omega.{arith}
 use mathlib.Core.Path.{_≡_, refl, sym, ap, _∙_, subst}
 use mathlib.Core.Bool.{Bool, true, false, _||_, or-true, true≢false}
@@ -20,7 +20,7 @@ use Rattle.grammar.proofs.References.{refers}
 use Rattle.rounds.specs.Order.{VisitsAll}
 use Rattle.rounds.specs.Visits.{formedFrom, joinAt}
 use Rattle.rounds.specs.Rounds.{round, rounds, StopAfter, noMarks, formedNodes, SoundMarks, RoundMade, Outcomes, Formed}
-use Rattle.rounds.proofs.Forming.{OnlyFormed, CannotJoin, formed-only, formed-all}
+use Rattle.rounds.proofs.Forming.{CannotJoin, formed-only, formed-all}
 use Rattle.rounds.proofs.Weights.{weightBy, weight-set, weight-most}
 use Rattle.rounds.proofs.Stops.{Growing, round-grows, round-still, rounds-good, still-at-most, same-left, stop}
 use Rattle.rounds.proofs.Turns.{Reached}

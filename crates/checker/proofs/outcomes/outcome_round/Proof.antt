@@ -10,7 +10,7 @@ use Rattle.rounds.proofs.Orders.{array-node}
 use native.Mathlib.Omega.{arith}
 use lib.ListN.{length, getD, take}
 use lib.Seq.{getD-take}
-use Prim.Native.Nat.{ℕ, _≤_, _<_, _-_}
+use Prim.Native.Nat.{_≤_, _<_, _-_}
 use borrow.Author.Needs.{needs}
 use Rattle.checker.proofs.outcomes.outcome_round.Statement.{statement}
 use Rattle.checker.proofs.outcomes.outcome_round.Tie as tie

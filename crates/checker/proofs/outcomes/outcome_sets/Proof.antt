@@ -7,7 +7,7 @@ use Rattle.rounds.proofs.OutcomeRounds.{weight, sound-start, weight-bound, roun
 use Rattle.rounds.proofs.Turns.{Reached, reached-none, reached-more, nothing-more}
 use native.Mathlib.Omega.{arith}
 use lib.ListN.{take}
-use Prim.Native.Nat.{ℕ, _*_, _-_}
+use Prim.Native.Nat.{_*_, _-_}
 use borrow.Author.Needs.{needs}
 use Rattle.checker.proofs.outcomes.outcome_sets.Statement.{statement}
 use Rattle.checker.proofs.outcomes.outcome_sets.Tie as tie
