@@ -8,35 +8,7 @@ ghost use Rattle.grammar.specs.Questions.{Lawful, Question7};
 ghost use Rattle.lawful.specs.Tells.{Tells};
 ghost use Rattle.rounds.specs.Order.{VisitsAll};
 ghost use Rattle.visits.specs.Nodes.{NodeWords};
-ghost use Rattle.rounds.specs.Visits.{joinAt};
-ghost use Rattle.rounds.specs.Rounds.{round, RoundMade, SoundMarks, formedNodes, Outcomes, Formed};
-
-// One round over an order, and whether it added anything.
-fn formed_round(
-    image: &[u8],
-    order: &[u16; 1024],
-    words: &[u32; 1024],
-    known: &[u8; 1024],
-    formed: &mut [bool; 1024],
-) -> bool
-    requires { ⌜ Lawful (now image) × VisitsAll (nodes (now image)) (take (nodes (now image)) (now order)) × Outcomes (now image) (now known) × NodeWords (now image) (now words) × SoundMarks (now image) (now formed) ⌝ }
-    ensures { λ added. ⌜ RoundMade (round (joinAt (now (image .entry)) (now (known .entry))) (take (nodes (now (image .entry))) (now (order .entry))) (now (formed .entry))) (now (formed .entry)) (now (formed .exit)) added ⌝ }
-{
-    let header = image::header_of(image);
-    let count = header.nodes;
-    let mut added = false;
-    for i in 0..count {
-        let n = order::visited(order, i);
-        let old = formed[n];
-        if !old {
-            if visit::node_formed(image, words, known, formed, n) {
-                formed[n] = true;
-                added = true;
-            }
-        }
-    }
-    added
-}
+ghost use Rattle.rounds.specs.Rounds.{formedNodes, Outcomes, Formed};
 
 // The nodes that the rounds over an order leave. "The rounds stop at the first that adds nothing."
 pub fn formed_nodes(
@@ -48,9 +20,21 @@ pub fn formed_nodes(
     requires { ⌜ Lawful (now image) × VisitsAll (nodes (now image)) (take (nodes (now image)) (now order)) × Outcomes (now image) (now known) × NodeWords (now image) (now words) ⌝ }
     ensures { λ r. ⌜ r ≡ formedNodes (now (image .entry)) (now (known .entry)) (take (nodes (now (image .entry))) (now (order .entry))) ⌝ }
 {
+    let header = image::header_of(image);
+    let count = header.nodes;
     let mut formed = [false; 1024];
     'rounds: loop {
-        let added = formed_round(image, order, words, known, &mut formed);
+        let mut added = false;
+        for i in 0..count {
+            let n = order::visited(order, i);
+            let old = formed[n];
+            if !old {
+                if visit::node_formed(image, words, known, &formed, n) {
+                    formed[n] = true;
+                    added = true;
+                }
+            }
+        }
         if !added {
             break 'rounds;
         }

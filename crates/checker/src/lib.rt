@@ -2,11 +2,11 @@
 // one 6 and 7.
 use visits::nodes;
 ghost use Rattle.grammar.specs.Questions.{Checked};
-ghost use Rattle.checker.specs.Stars.{StarsAsked};
 
 mod formed;
 mod order;
 mod outcomes;
+pub mod stars;
 
 // The number of the first question that the image fails, 0 where it passes all seven.
 pub fn check(image: &[u8]) -> u8
@@ -26,24 +26,5 @@ pub fn check(image: &[u8]) -> u8
     if !formed::all_formed(image, &formed) {
         return 7;
     }
-    0
-}
-
-// The number of the first of questions 1 to 6 that the image fails, 0 where it passes them: then `known` has the outcome sets.
-// The check does not begin with it, since order and words would have to be copied out for question 7.
-pub fn stars_number(image: &[u8], known: &mut [u8; 1024]) -> u8
-    ensures { λ r. ⌜ StarsAsked (now (image .entry)) (now (known .exit)) r ⌝ }
-{
-    let number = lawful::lawful_number(image);
-    if number != 0 {
-        return number;
-    }
-    let order = order::round_order(image);
-    let words = nodes::node_words(image);
-    let sets = outcomes::outcome_sets(image, &order, &words);
-    if !outcomes::stars_consume(image, &sets) {
-        return 6;
-    }
-    *known = sets;
     0
 }

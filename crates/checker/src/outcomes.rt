@@ -19,15 +19,14 @@ ghost use Rattle.rounds.specs.Rounds.{round, RoundMade, Sound, outcomeSets, Out
 fn outcome_round(
     image: &[u8],
     order: &[u16; 1024],
+    count: usize,
     table: &[[[u8; 8]; 8]; 8],
     words: &[u32; 1024],
     known: &mut [u8; 1024],
 ) -> bool
-    requires { ⌜ Lawful (now image) × VisitsAll (nodes (now image)) (take (nodes (now image)) (now order)) × SetTable (now table) × NodeWords (now image) (now words) × Sound (now image) (now known) ⌝ }
+    requires { ⌜ Lawful (now image) × VisitsAll (nodes (now image)) (take (nodes (now image)) (now order)) × SetTable (now table) × NodeWords (now image) (now words) × Sound (now image) (now known) × (count ≡ nodes (now image)) ⌝ }
     ensures { λ added. ⌜ RoundMade (round (gatherAt (now (image .entry))) (take (nodes (now (image .entry))) (now (order .entry))) (now (known .entry))) (now (known .entry)) (now (known .exit)) added ⌝ }
 {
-    let header = image::header_of(image);
-    let count = header.nodes;
     let mut added = false;
     for i in 0..count {
         let n = order::visited(order, i);
@@ -49,10 +48,12 @@ pub fn outcome_sets(image: &[u8], order: &[u16; 1024], words: &[u32; 1024]) -> [
     requires { ⌜ Lawful (now image) × VisitsAll (nodes (now image)) (take (nodes (now image)) (now order)) × NodeWords (now image) (now words) ⌝ }
     ensures { λ r. ⌜ r ≡ outcomeSets (now (image .entry)) (take (nodes (now (image .entry))) (now (order .entry))) ⌝ }
 {
+    let header = image::header_of(image);
+    let count = header.nodes;
     let table = table::set_table();
     let mut known = [0u8; 1024];
     'rounds: loop {
-        let added = outcome_round(image, order, &table, words, &mut known);
+        let added = outcome_round(image, order, count, &table, words, &mut known);
         if !added {
             break 'rounds;
         }

@@ -4,7 +4,7 @@
 --     formed-rounds-stop     "The rounds stop at the first that adds nothing"
 --     formed-nodes-left      marks that some rounds leave and to which the next adds nothing are those
 -- Assumes nothing.
-use Prim.Native.Nat.{ℕ, _+_, _*_, _≤_, _<_}
+use Prim.Native.Nat.{ℕ, _≤_, _<_}
 use native.Mathlib.Omega.{arith}
 use mathlib.Core.Path.{_≡_, refl, sym, ap, _∙_, subst}
 use mathlib.Core.Bool.{Bool, true, false, _||_, or-true, true≢false}
@@ -20,9 +20,9 @@ use Rattle.grammar.proofs.References.{refers}
 use Rattle.rounds.specs.Order.{VisitsAll}
 use Rattle.rounds.specs.Visits.{formedFrom, joinAt}
 use Rattle.rounds.specs.Rounds.{round, rounds, StopAfter, noMarks, formedNodes, SoundMarks, RoundMade, Outcomes, Formed}
-use Rattle.rounds.proofs.Forming.{OnlyFormed, CannotJoin, formed-only, formed-all}
+use Rattle.rounds.proofs.Forming.{CannotJoin, formed-only, formed-all}
 use Rattle.rounds.proofs.Weights.{weightBy, weight-set, weight-most}
-use Rattle.rounds.proofs.Stops.{Growing, round-good, round-grows, round-still, rounds-good, still-at-most, same-left, stop}
+use Rattle.rounds.proofs.Stops.{Growing, round-grows, round-still, rounds-good, still-at-most, same-left, stop}
 use Rattle.rounds.proofs.Turns.{Reached}
 
 -- The number of marks.
@@ -176,7 +176,7 @@ module _
     unfolding formedNodes
     sound-nodes = rounds-good law order noMarks (all .only-nodes) start (nodes img)
 
-    -- A round that adds something makes one mark more at least, and leaves right ones.
+    -- A round that adds something makes one mark more at least.
     pub round-marks :
         {formed next : List Bool} {added : Bool}
         → SoundMarks img formed
@@ -190,13 +190,6 @@ module _
             → marks formed < marks next
         go (inl f) = absurd (m .something e (m .is-round ∙ f))
         go (inr h) = rw (m .is-round) h
-
-    pub round-marks-sound :
-        {formed next : List Bool} {added : Bool}
-        → SoundMarks img formed
-        → RoundMade (round (joinAt img known) order formed) formed next added
-        → SoundMarks img next
-    round-marks-sound {formed} s m = subst (SoundMarks img) (sym (m .is-round)) (round-good law order formed (all .only-nodes) s)
 
     -- A visit that adds nothing found a node that cannot join.
     cannot-by : (formed : List Bool) (n : ℕ) → n < nodes img → SoundMarks img formed → joinAt img known formed n ≡ formed → CannotJoin img known formed n

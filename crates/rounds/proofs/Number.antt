@@ -1,6 +1,6 @@
 -- Every byte string has its number: `imageNumber` is the number of the first of questions 1 to 7 that fails, 0 where none does.
 -- Assumes nothing.
-use Prim.Native.Nat.{ℕ, _≤_, _<_}
+use Prim.Native.Nat.{ℕ, _<_}
 use mathlib.Core.Path.{_≡_, refl, sym, _∙_, ap}
 use mathlib.Core.Bool.{Bool, true, false, not, true≢false}
 use mathlib.Core.List.{List, [], _∷_}
@@ -9,7 +9,7 @@ use lib.ListN.{getD}
 use borrow.Author.Tests.{not-true}
 use Rattle.grammar.specs.Image.{Node, empty, terminal, sequence, choice, star, not-predicate, call, unlawful, node, nodes}
 use Rattle.grammar.specs.Outcomes.{Has, matches-empty}
-use Rattle.grammar.specs.Questions.{Question, First, ofImage, Checked, Lawful, Question1, Question2, Question3, Question4, Question5, Question6, Question7}
+use Rattle.grammar.specs.Questions.{Question, First, ofImage, Checked, Question1, Question2, Question3, Question4, Question5, Question6, Question7}
 use Rattle.grammar.specs.Tests.{every, editionTest, countsTest, sizeTest, wordsTest, onceTest}
 use Rattle.grammar.proofs.References.{Refers, refers}
 use Rattle.grammar.proofs.Acceptance.{one-number}

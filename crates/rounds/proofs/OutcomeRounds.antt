@@ -4,7 +4,7 @@
 --     outcome-rounds-stop    "The rounds stop at the first that adds nothing"
 --     outcome-sets-left      sets that some rounds leave and to which the next adds nothing are those
 -- Assumes nothing.
-use Prim.Native.Nat.{ℕ, _+_, _*_, _≤_, _<_}
+use Prim.Native.Nat.{ℕ, _*_, _≤_, _<_}
 use native.Mathlib.Omega.{arith}
 use mathlib.Core.Path.{_≡_, refl, sym, ap, _∙_, subst}
 use mathlib.Core.Bool.{Bool, true, false, _||_, or-true, true≢false}
@@ -13,7 +13,6 @@ use mathlib.Core.List.{List}
 use lib.ListN.{length, getD, set, replicate, length-set, length-replicate}
 use lib.Seq.{set-getD, getD-set-same}
 use lib.Dec.{eqb}
-use mir.Val.{boolByte}
 use borrow.Author.Tests.{eqb-true, eqb-false}
 use Rattle.grammar.proofs.Bools.{either}
 use Rattle.grammar.proofs.Writes.{after-write, all-the-same}
@@ -26,7 +25,7 @@ use Rattle.rounds.specs.Order.{VisitsAll}
 use Rattle.rounds.specs.Visits.{gathered, gatherAt}
 use Rattle.rounds.specs.Rounds.{round, rounds, StopAfter, noOutcomes, outcomeSets, Sound, RoundMade, Outcomes}
 use Rattle.rounds.proofs.Bits.{bit-union, union-small, size, size-most, union-larger}
-use Rattle.rounds.proofs.Gathering.{Only, Closed, gathered-only, gathered-all}
+use Rattle.rounds.proofs.Gathering.{Closed, gathered-only, gathered-all}
 use Rattle.rounds.proofs.Weights.{weightBy, weight-set, weight-most}
 use Rattle.rounds.proofs.Stops.{Growing, round-good, round-grows, round-still, rounds-good, still-at-most, same-left, stop}
 use Rattle.rounds.proofs.Turns.{Reached}

@@ -34,7 +34,7 @@ abbrev pub noMarks : List Bool
 noMarks = replicate 1024 false
 
 -- What the rounds over an order leave. A round that adds something adds an outcome at least, and a node has three; so the first that
--- adds nothing comes within 3 × nodes rounds, and no later one adds anything (proofs/Left.antt).
+-- adds nothing comes within 3 × nodes rounds, and no later one adds anything (proofs/OutcomeRounds.antt).
 unfoldable pub outcomeSets : (img order : List ℕ) → List ℕ
 outcomeSets img order = rounds (gatherAt img) (3 * nodes img) order noOutcomes
 

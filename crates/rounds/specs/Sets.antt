@@ -1,8 +1,5 @@
 -- Outcome sets as numbers below 8: 1 for outcome 0, 2 for outcome 1, 4 for outcome f, added up.
-use Prim.Native.Nat.{ℕ, _+_, _*_, _/_, _%_, _<_}
-use mathlib.Core.Path.{_≡_}
-use mathlib.Core.List.{List, [], _∷_}
-use lib.ListN.{getD}
+use Prim.Native.Nat.{ℕ, _+_, _*_, _/_, _%_}
 use mathlib.Core.Bool.{Bool, false, _&&_, _||_}
 use mir.Val.{boolByte}
 use lib.Dec.{eqb}

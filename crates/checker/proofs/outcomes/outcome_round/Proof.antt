@@ -10,36 +10,33 @@ use Rattle.rounds.proofs.Orders.{array-node}
 use native.Mathlib.Omega.{arith}
 use lib.ListN.{length, getD, take}
 use lib.Seq.{getD-take}
-use Prim.Native.Nat.{ℕ, _≤_, _<_, _-_}
+use Prim.Native.Nat.{_≤_, _<_, _-_}
 use borrow.Author.Needs.{needs}
 use Rattle.checker.proofs.outcomes.outcome_round.Statement.{statement}
 use Rattle.checker.proofs.outcomes.outcome_round.Tie as tie
 
 abbrev Inv-loop : tie.InvT-loop
-Inv-loop image order table words known₀ count added₀ i₀ known added i = (i ≤ count) × Turned (gatherAt image) weight (Sound image) (take (nodes image) order) known₀ known i added
+Inv-loop image order count table words known₀ added₀ i₀ known added i = (i ≤ count) × Turned (gatherAt image) weight (Sound image) (take (nodes image) order) known₀ known i added
 
 abbrev μ-loop : tie.MeasureT-loop
-μ-loop image order table words known₀ count added₀ i₀ known added i = count - i
-
-header-of-requires : tie.Need-header-of-requires Inv-loop μ-loop
-header-of-requires c κs = search needs
+μ-loop image order count table words known₀ added₀ i₀ known added i = count - i
 
 loop-holds : tie.Need-loop-holds Inv-loop μ-loop
-loop-holds c = (search needs, turn-none (c .before .before .pre .4))
+loop-holds c = (search needs, turn-none (c .before .pre .4))
 
 visited-requires : tie.Need-visited-requires Inv-loop μ-loop
-visited-requires c κs = omega (arith, c .before .before .before .before .pre .0 .counts .few-nodes)
+visited-requires c κs = omega (arith, c .before .before .before .pre .0 .counts .few-nodes)
 
 element-copy-out-old : tie.Need-element-copy-out-old Inv-loop μ-loop
 element-copy-out-old c =
-    let entry = c .before .before .before .before .before in
+    let entry = c .before .before .before .before in
     let few = entry .pre .0 .counts .few-nodes in
     omega (arith, array-node (nodes (entry .args .image .now)) (entry .args .order .now) (c .before .before .loop .i) (entry .pre .1) (omega arith), c .before .before .loop .inv .1 .good .as-long)
 
 node-outcomes-requires : tie.Need-node-outcomes-requires Inv-loop μ-loop
 node-outcomes-requires c κs =
     let at-loop = c .before .before .before .before .before in
-    let entry = at-loop .before .before .before in
+    let entry = at-loop .before .before in
     let in-nodes = array-node (nodes (entry .args .image .now)) (entry .args .order .now) (at-loop .loop .i) (entry .pre .1) (omega arith) in
     (entry .pre .0, omega arith, entry .pre .2, entry .pre .3, at-loop .loop .inv .1 .good .small)
 
@@ -49,9 +46,9 @@ join-requires c κs = search needs
 element-write-known : tie.Need-element-write-known Inv-loop μ-loop
 element-write-known c =
     let at-loop = c .before .before .before .before .before .before .before .before in
-    let entry = at-loop .before .before .before in
+    let entry = at-loop .before .before in
     let few = entry .pre .0 .counts .few-nodes in
-    let count = at-loop .before .header-of .ensures .its-nodes in
+    let count = entry .pre .5 in
     omega (arith, array-node (nodes (entry .args .image .now)) (entry .args .order .now) (at-loop .loop .i) (entry .pre .1) (omega (arith, count, c .before .before .before .before .before .before .before .loop-test .taken)), at-loop .loop .inv .1 .good .as-long)
 
 add-i : tie.Need-add-i Inv-loop μ-loop
@@ -63,7 +60,7 @@ loop-less c = search needs
 loop-again : tie.Need-loop-again Inv-loop μ-loop
 loop-again c =
     let at-loop = c .before .before .before .before in
-    let entry = at-loop .before .before .before in
+    let entry = at-loop .before .before in
     let img = entry .args .image .now in
     let array = entry .args .order .now in
     let known = at-loop .loop .known in
@@ -99,8 +96,8 @@ loop-again c =
 
 returns : tie.Need-returns Inv-loop μ-loop
 returns c =
-    let entry = c .before .before .before .before in
-    turn-made (c .before .loop .inv .1) (omega (arith, entry .pre .1 .as-long, c .before .before .header-of .ensures .its-nodes))
+    let entry = c .before .before .before in
+    turn-made (c .before .loop .inv .1) (omega (arith, entry .pre .1 .as-long, entry .pre .5))
 
 pub outcome-round-spec : {M : Type 1} → statement M
 outcome-round-spec =
@@ -108,7 +105,6 @@ outcome-round-spec =
     (tie.spec
     Inv-loop
     μ-loop
-    header-of-requires
     loop-holds
     visited-requires
     element-copy-out-old

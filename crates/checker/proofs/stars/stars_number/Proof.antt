@@ -6,8 +6,8 @@ use mathlib.Core.Path.{subst, _∙_}
 use native.Mathlib.Omega.{arith}
 use Prim.Native.Nat.{ℕ}
 use borrow.Author.Needs.{needs}
-use Rattle.checker.proofs.stars_number.Statement.{statement}
-use Rattle.checker.proofs.stars_number.Tie as tie
+use Rattle.checker.proofs.stars.stars_number.Statement.{statement}
+use Rattle.checker.proofs.stars.stars_number.Tie as tie
 
 -- What is known where questions 1 to 5 have been passed.
 lawful : (c : tie.Else1) → Lawful (c .before .before .before .args .image .now)
