@@ -223,7 +223,7 @@ pub fn eval_rule(
     let rules = loaded::rules_in(words);
     let word = memo::look(table, rules, rule, at);
     if records::is_held(word) {
-        let Decoded::Possible(held) = Record::from_word(word, at, text.len()) else {
+        let Decoded::Possible(held) = Record::from_word(word, at, terminals::end_of(*text)) else {
             return 12;
         };
         if left < held.nesting {

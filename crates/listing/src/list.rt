@@ -29,7 +29,7 @@ fn walk_all(
     requires { ⌜ (length (now text) ≤ 65535) × (now count ≤ room) × (start < 4096) × (root < 4096) ⌝ }
     ensures { λ r. ⌜ Gives (now (count .entry)) (now (rows .entry)) r (now (rows .exit)) (now (count .exit)) (ruleV room (now (words .entry)) (now (text .entry)) (now (table .entry)) 4096 root start 0 0 (length (now (text .entry))) 0 (now (count .entry))) ⌝ }
 {
-    let n = text.len();
+    let n = terminals::end_of(text);
     let left = Record::MAX_NESTING;
     walk::walk_rule(
         words,

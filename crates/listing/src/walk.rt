@@ -252,7 +252,7 @@ fn walk_not(
         room,
         a,
         at,
-        text.len() + 1,
+        terminals::end_of(*text) + 1,
         0,
         depth,
         left,
@@ -340,7 +340,7 @@ fn walk_part(
         room,
         a,
         at,
-        text.len() + 1,
+        terminals::end_of(*text) + 1,
         0,
         depth,
         left,
@@ -391,7 +391,7 @@ pub fn walk_rule(
     if !records::is_held(word) {
         return FAILED + 12;
     }
-    let Decoded::Possible(held) = Record::from_word(word, at, text.len()) else {
+    let Decoded::Possible(held) = Record::from_word(word, at, terminals::end_of(*text)) else {
         return FAILED + 12;
     };
     if !held.matched {

@@ -55,12 +55,13 @@ module _ (img B : List ℕ) (n : ℕ) (W R : List ℕ) (good : First (ofSheet im
   same-promise {a} {b} {W′} {R₁} {R₂} e f p =
       subst (λ (r : List ℕ). ListPromise img B n W R b W′ r) f (subst (λ (y : ListAnswer). ListPromise img B n W R y W′ R₁) e p)
 
-  -- The number with which the walk stopped is one of three.
-  pub stop-number : (m : ℕ) {k : ℕ} {after R′ : List ℕ} {r : Listed} → ListedOver img (take m B) after R r R′ → r ≡ Refused k → Number k
+  -- The number with which the walk stopped is one of three, over any text.
+  pub stop-number :
+      {k : ℕ} {text after R′ : List ℕ} {r : Listed} → ListedOver img text after R r R′ → r ≡ Refused k → Number k
   unfolding startV
-  stop-number m {k} {after} {R′} w e =
-      let x : NotWritten (startV (length R) img (w .grammar) (take m B) after 0 (length (take m B))) R k R′ =
-      subst (λ (r : Listed). ListedIn (w .grammar) (take m B) after (start img) (root img (start img)) R r R′) e (w .listed) in
+  stop-number {k} {text} {after} {R′} w e =
+      let x : NotWritten (startV (length R) img (w .grammar) text after 0 (length text)) R k R′ =
+      subst (λ (r : Listed). ListedIn (w .grammar) text after (start img) (root img (start img)) R r R′) e (w .listed) in
       x .number-is
 
   -- The code lends the bytes 0 to n of the buffer, which are n − 0.

@@ -11,11 +11,19 @@ const ONE_BYTE: u64 = 0xC000_0002_0001_0001;
 
 const NO_BYTE: u64 = 0x8000_0002_0001_0000;
 
+// The end of the text: "A text has n bytes, positions 0 to n; position n is the end." Evaluator, walk and terminals ask it here, and the
+// byte at a position below.
+pub fn end_of(text: &[u8]) -> usize
+    ensures { λ r. ⌜ r ≡ length (now (text .entry)) ⌝ }
+{
+    text.len()
+}
+
 // "1 any byte"
 pub fn any_byte(text: &[u8], at: usize) -> u64
     ensures { λ r. ⌜ r ≡ wordOf (terminalAt any (now (text .entry)) at) ⌝ }
 {
-    if at < text.len() { ONE_BYTE } else { NO_BYTE }
+    if at < end_of(text) { ONE_BYTE } else { NO_BYTE }
 }
 
 fn wide(byte: u8) -> usize
@@ -36,7 +44,7 @@ fn byte_at(text: &[u8], at: usize) -> usize
 pub fn byte_between(text: &[u8], from: usize, to: usize, at: usize) -> u64
     ensures { λ r. ⌜ r ≡ wordOf (terminalAt (range from to) (now (text .entry)) at) ⌝ }
 {
-    if text.len() <= at {
+    if end_of(text) <= at {
         return NO_BYTE;
     }
     let byte = byte_at(text, at);

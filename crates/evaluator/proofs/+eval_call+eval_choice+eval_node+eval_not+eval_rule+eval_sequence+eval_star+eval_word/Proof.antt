@@ -63,6 +63,7 @@ use Rattle.memo.proofs.look.Reads as look-reads
 use Rattle.memo.proofs.put.Reads as put-reads
 use Rattle.terminals.proofs.any_byte.Reads as any-byte-reads
 use Rattle.terminals.proofs.byte_between.Reads as byte-between-reads
+use Rattle.terminals.proofs.end_of.Reads as end-of-reads
 use Rattle.records.proofs.Record.from_word.Reads as from-word-reads
 use Rattle.records.proofs.Record.word.Reads as word-reads
 use Rattle.records.proofs.examined_of.Reads as examined-of-reads
@@ -197,7 +198,7 @@ abbrev eval-not-place : (eval-not-lts.Claims → In 5 eval-not-kinds.ps → Out 
 eval-not-place place t = place (eval-not-claims t) (eval-not-at t) eval-not.Post
 
 abbrev eval-rule-claims : ℕ → eval-rule-lts.Claims
-eval-rule-claims t = (rules-in-reads.Asked, rules-in-reads.Learnt, look-reads.Asked, look-reads.Learnt, is-held-reads.Asked, is-held-reads.Learnt, from-word-reads.Asked, from-word-reads.Learnt, word-reads.Asked, word-reads.Learnt, eval-node-below t, eval-node.Post, put-reads.Asked, put-reads.Learnt, wrapping-add-u64-reads.Asked, wrapping-add-u64-reads.Learnt)
+eval-rule-claims t = (rules-in-reads.Asked, rules-in-reads.Learnt, look-reads.Asked, look-reads.Learnt, is-held-reads.Asked, is-held-reads.Learnt, end-of-reads.Asked, end-of-reads.Learnt, from-word-reads.Asked, from-word-reads.Learnt, word-reads.Asked, word-reads.Learnt, eval-node-below t, eval-node.Post, put-reads.Asked, put-reads.Learnt, wrapping-add-u64-reads.Asked, wrapping-add-u64-reads.Learnt)
 
 abbrev eval-rule-place : (eval-rule-lts.Claims → In 5 eval-rule-kinds.ps → Out 5 eval-rule-kinds.ps eval-rule-kinds.r → Type 0) → ℕ → Type 0
 eval-rule-place place t = place (eval-rule-claims t) (eval-rule-at t) eval-rule.Post
@@ -443,6 +444,9 @@ eval-rule-look-requires t c κs = search needs
 eval-rule-is-held-requires : (t : ℕ) → eval-rule-lts.Need-is-held-requires (eval-rule-claims t) (eval-rule-at t) eval-rule.Post
 eval-rule-is-held-requires t c κs = search needs
 
+eval-rule-end-of-requires : (t : ℕ) → eval-rule-lts.Need-end-of-requires (eval-rule-claims t) (eval-rule-at t) eval-rule.Post
+eval-rule-end-of-requires t c κs = search needs
+
 eval-rule-from-word-requires : (t : ℕ) → eval-rule-lts.Need-from-word-requires (eval-rule-claims t) (eval-rule-at t) eval-rule.Post
 eval-rule-from-word-requires t c κs = search needs
 
@@ -458,13 +462,14 @@ eval-rule-same-length t c = search needs
 eval-rule-returns : (t : ℕ) → eval-rule-lts.Need-returns (eval-rule-claims t) (eval-rule-at t) eval-rule.Post
 eval-rule-returns t c =
     let after-from-word : eval-rule-place eval-rule-lts.After-from-word t = search in
+    let after-end-of : eval-rule-place eval-rule-lts.After-end-of t = search in
     let then1 : eval-rule-place eval-rule-lts.Then1 t = search in
     let after-is-held : eval-rule-place eval-rule-lts.After-is-held t = search in
     let after-look : eval-rule-place eval-rule-lts.After-look t = search in
     let after-rules-in : eval-rule-place eval-rule-lts.After-rules-in t = search in
     let start : eval-rule-place eval-rule-lts.Start t = search in
     let a = start .args in
-    rule-impossible (rulesIn (a .words .now)) (a .root) (a .text .now .now) (nodeW (a .words .now) (a .text .now .now) (a .left)) (a .left) (a .rule) (a .at) (a .table .now) (a .count .now) (rw (after-rules-in .rules-in .ensures .0) at (after-look .look .ensures)) (sym (after-is-held .is-held .ensures) ∙ then1 .if1 .taken) (was-impossible (recordOf (after-look .look .result)) (possible (after-look .look .result) (a .at) (length (a .text .now .now))) (sym (c .enum-told .given .1) ∙ after-from-word .from-word .ensures))
+    rule-impossible (rulesIn (a .words .now)) (a .root) (a .text .now .now) (nodeW (a .words .now) (a .text .now .now) (a .left)) (a .left) (a .rule) (a .at) (a .table .now) (a .count .now) (rw (after-rules-in .rules-in .ensures .0) at (after-look .look .ensures)) (sym (after-is-held .is-held .ensures) ∙ then1 .if1 .taken) (was-impossible (recordOf (after-look .look .result)) (possible (after-look .look .result) (a .at) (length (a .text .now .now))) (sym (c .enum-told .given .1) ∙ (rw (after-end-of .end-of .ensures) at (after-from-word .from-word .ensures))))
 
 eval-rule-same-length-2 : (t : ℕ) → eval-rule-lts.Need-same-length-2 (eval-rule-claims t) (eval-rule-at t) eval-rule.Post
 eval-rule-same-length-2 t c = search needs
@@ -473,13 +478,14 @@ eval-rule-returns-2 : (t : ℕ) → eval-rule-lts.Need-returns-2 (eval-rule-clai
 eval-rule-returns-2 t c =
     let after-held : eval-rule-place eval-rule-lts.After-held t = search in
     let after-from-word : eval-rule-place eval-rule-lts.After-from-word t = search in
+    let after-end-of : eval-rule-place eval-rule-lts.After-end-of t = search in
     let then1 : eval-rule-place eval-rule-lts.Then1 t = search in
     let after-is-held : eval-rule-place eval-rule-lts.After-is-held t = search in
     let after-look : eval-rule-place eval-rule-lts.After-look t = search in
     let after-rules-in : eval-rule-place eval-rule-lts.After-rules-in t = search in
     let start : eval-rule-place eval-rule-lts.Start t = search in
     let a = start .args in
-    let w = was-possible (after-held .held .given .0 .0) (recordOf (after-look .look .result)) (possible (after-look .look .result) (a .at) (length (a .text .now .now))) (sym (after-held .held .given .1) ∙ after-from-word .from-word .ensures) in
+    let w = was-possible (after-held .held .given .0 .0) (recordOf (after-look .look .result)) (possible (after-look .look .result) (a .at) (length (a .text .now .now))) (sym (after-held .held .given .1) ∙ (rw (after-end-of .end-of .ensures) at (after-from-word .from-word .ensures))) in
     let e = ap (λ (r : Record). r .nesting) (w .1) in
     rule-too-deep (rulesIn (a .words .now)) (a .root) (a .text .now .now) (nodeW (a .words .now) (a .text .now .now) (a .left)) (a .left) (a .rule) (a .at) (a .table .now) (a .count .now) (rw (after-rules-in .rules-in .ensures .0) at (after-look .look .ensures)) (sym (after-is-held .is-held .ensures) ∙ then1 .if1 .taken) (w .0) (omega (arith, e, c .if2 .taken))
 
@@ -494,13 +500,14 @@ eval-rule-returns-3 t c =
     let else2 : eval-rule-place eval-rule-lts.Else2 t = search in
     let after-held : eval-rule-place eval-rule-lts.After-held t = search in
     let after-from-word : eval-rule-place eval-rule-lts.After-from-word t = search in
+    let after-end-of : eval-rule-place eval-rule-lts.After-end-of t = search in
     let then1 : eval-rule-place eval-rule-lts.Then1 t = search in
     let after-is-held : eval-rule-place eval-rule-lts.After-is-held t = search in
     let after-look : eval-rule-place eval-rule-lts.After-look t = search in
     let after-rules-in : eval-rule-place eval-rule-lts.After-rules-in t = search in
     let start : eval-rule-place eval-rule-lts.Start t = search in
     let a = start .args in
-    let w = was-possible (after-held .held .given .0 .0) (recordOf (after-look .look .result)) (possible (after-look .look .result) (a .at) (length (a .text .now .now))) (sym (after-held .held .given .1) ∙ after-from-word .from-word .ensures) in
+    let w = was-possible (after-held .held .given .0 .0) (recordOf (after-look .look .result)) (possible (after-look .look .result) (a .at) (length (a .text .now .now))) (sym (after-held .held .given .1) ∙ (rw (after-end-of .end-of .ensures) at (after-from-word .from-word .ensures))) in
     let e = ap (λ (r : Record). r .nesting) (w .1) in
     rule-met (rulesIn (a .words .now)) (a .root) (a .text .now .now) (nodeW (a .words .now) (a .text .now .now) (a .left)) (a .left) (a .rule) (a .at) (a .table .now) (a .count .now) (rw (after-rules-in .rules-in .ensures .0) at (after-look .look .ensures)) (sym (after-is-held .is-held .ensures) ∙ then1 .if1 .taken) (w .0) (omega (arith, e, else2 .if2 .left)) (c .word .ensures ∙ ap recordWord (w .1))
 
@@ -1074,6 +1081,7 @@ pub +eval-call+eval-choice+eval-node+eval-not+eval-rule+eval-sequence+eval-star+
     (eval-rule-rules-in-requires t)
     (eval-rule-look-requires t)
     (eval-rule-is-held-requires t)
+    (eval-rule-end-of-requires t)
     (eval-rule-from-word-requires t)
     (eval-rule-enum-known-held t)
     (eval-rule-enum-told t)

@@ -48,6 +48,7 @@ use Rattle.listing.proofs.slots.put.Reads as put-reads
 use Rattle.listing.proofs.slots.row_word.Reads as row-word-reads
 use Rattle.listing.proofs.slots.touched.Reads as touched-reads
 use Rattle.memo.proofs.look.Reads as look-reads
+use Rattle.terminals.proofs.end_of.Reads as end-of-reads
 use Rattle.loaded.proofs.rules_in.Reads as rules-in-reads
 use Rattle.records.proofs.Record.from_word.Reads as from-word-reads
 use Rattle.records.proofs.is_held.Reads as is-held-reads
@@ -147,19 +148,19 @@ abbrev walk-node-place : (walk-node-lts.Claims → In 7 walk-node-kinds.ps → O
 walk-node-place place t = place (walk-node-claims t) (walk-node-at t) walk-node.Post
 
 abbrev walk-not-claims : ℕ → walk-not-lts.Claims
-walk-not-claims t = (walk-node-below t, walk-node.Post)
+walk-not-claims t = (end-of-reads.Asked, end-of-reads.Learnt, walk-node-below t, walk-node.Post)
 
 abbrev walk-not-place : (walk-not-lts.Claims → In 7 walk-not-kinds.ps → Out 7 walk-not-kinds.ps walk-not-kinds.r → Type 0) → ℕ → Type 0
 walk-not-place place t = place (walk-not-claims t) (walk-not-at t) walk-not.Post
 
 abbrev walk-part-claims : ℕ → walk-part-lts.Claims
-walk-part-claims t = (walk-node-below t, walk-node.Post, touched-reads.Asked, touched-reads.Learnt)
+walk-part-claims t = (end-of-reads.Asked, end-of-reads.Learnt, walk-node-below t, walk-node.Post, touched-reads.Asked, touched-reads.Learnt)
 
 abbrev walk-part-place : (walk-part-lts.Claims → In 7 walk-part-kinds.ps → Out 7 walk-part-kinds.ps walk-part-kinds.r → Type 0) → ℕ → Type 0
 walk-part-place place t = place (walk-part-claims t) (walk-part-at t) walk-part.Post
 
 abbrev walk-rule-claims : ℕ → walk-rule-lts.Claims
-walk-rule-claims t = (rules-in-reads.Asked, rules-in-reads.Learnt, look-reads.Asked, look-reads.Learnt, is-held-reads.Asked, is-held-reads.Learnt, from-word-reads.Asked, from-word-reads.Learnt, touched-reads.Asked, touched-reads.Learnt, row-word-reads.Asked, row-word-reads.Learnt, put-reads.Asked, put-reads.Learnt, walk-node-below t, walk-node.Post)
+walk-rule-claims t = (rules-in-reads.Asked, rules-in-reads.Learnt, look-reads.Asked, look-reads.Learnt, is-held-reads.Asked, is-held-reads.Learnt, end-of-reads.Asked, end-of-reads.Learnt, from-word-reads.Asked, from-word-reads.Learnt, touched-reads.Asked, touched-reads.Learnt, row-word-reads.Asked, row-word-reads.Learnt, put-reads.Asked, put-reads.Learnt, walk-node-below t, walk-node.Post)
 
 abbrev walk-rule-place : (walk-rule-lts.Claims → In 7 walk-rule-kinds.ps → Out 7 walk-rule-kinds.ps walk-rule-kinds.r → Type 0) → ℕ → Type 0
 walk-rule-place place t = place (walk-rule-claims t) (walk-rule-at t) walk-rule.Post
@@ -423,10 +424,14 @@ walk-node-returns-11 t c =
     let k = past-7 (after-node-of .node-of .result .kind) (at-match-rest .match .rest .0 .0 .0 .0 .0 .0 .0 .1) (at-match-rest .match .rest .0 .0 .0 .0 .0 .0 .1) (at-match-rest .match .rest .0 .0 .0 .0 .0 .1) (at-match-rest .match .rest .0 .0 .0 .0 .1) (at-match-rest .match .rest .0 .0 .0 .1) (at-match-rest .match .rest .0 .0 .1) (at-match-rest .match .rest .0 .1) (at-match-rest .match .rest .1) in
     node-goes (given .room) (given .words .now) (given .text .now .now) (given .table .now .now) (given .node) (given .at) (given .lo) (given .hi) (given .depth) (given .count .now) (given .rows .now) (given .left) (else1 .if1 .left) (word-is (getD (given .words .now) (given .node) 0) (after-node-of .node-of .ensures) (is-unlawful _ k)) (unlawful-goes (given .room) (given .words .now) (given .text .now .now) (given .table .now .now) (given .node) (given .at) (given .lo) (given .hi) (given .depth) (given .count .now) (given .rows .now) (given .left - 1))
 
+walk-not-end-of-requires : (t : ℕ) → walk-not-lts.Need-end-of-requires (walk-not-claims t) (walk-not-at t) walk-not.Post
+walk-not-end-of-requires t c κs = search needs
+
 walk-not-add-walk-node : (t : ℕ) → walk-not-lts.Need-add-walk-node (walk-not-claims t) (walk-not-at t) walk-not.Post
 walk-not-add-walk-node t c =
+    let after-end-of : walk-not-place walk-not-lts.After-end-of t = search in
     let start : walk-not-place walk-not-lts.Start t = search in
-    omega (arith, (start .pre .1 .0 .short))
+    omega (arith, after-end-of .end-of .ensures, (start .pre .1 .0 .short))
 
 walk-not-walk-node-requires : (t : ℕ) → walk-not-lts.Need-walk-node-requires (walk-not-claims t) (walk-not-at t) walk-not.Post
 walk-not-walk-node-requires t c κs =
@@ -442,11 +447,12 @@ walk-not-same-length t c = search needs
 walk-not-returns : (t : ℕ) → walk-not-lts.Need-returns (walk-not-claims t) (walk-not-at t) walk-not.Post
 walk-not-returns t c =
     let after-walk-node : walk-not-place walk-not-lts.After-walk-node t = search in
+    let after-end-of : walk-not-place walk-not-lts.After-end-of t = search in
     let start : walk-not-place walk-not-lts.Start t = search in
     let given = start .args in
     let pre = start .pre in
     let inner = nodeV (given .room) (given .words .now) (given .text .now .now) (given .table .now .now) (given .left) in
-    not-stops (given .text .now .now) (given .room) inner (pre .1 .0 .short) (node-bounded (given .room) (given .words .now) (given .text .now .now) (given .table .now .now) (given .left)) (pairV (rulesIn (given .words .now)) 0 (given .room) (given .text .now .now) (given .table .now .now) inner) (given .a) (given .at) 0 0 (given .depth) (pre .1 .0 .here) (pre .1 .0 .few) (after-walk-node .walk-node .ensures) (c .if1 .taken)
+    not-stops (given .text .now .now) (given .room) inner (pre .1 .0 .short) (node-bounded (given .room) (given .words .now) (given .text .now .now) (given .table .now .now) (given .left)) (pairV (rulesIn (given .words .now)) 0 (given .room) (given .text .now .now) (given .table .now .now) inner) (given .a) (given .at) 0 0 (given .depth) (pre .1 .0 .here) (pre .1 .0 .few) ((rw (after-end-of .end-of .ensures) at (after-walk-node .walk-node .ensures))) (c .if1 .taken)
 
 walk-not-same-length-2 : (t : ℕ) → walk-not-lts.Need-same-length-2 (walk-not-claims t) (walk-not-at t) walk-not.Post
 walk-not-same-length-2 t c = search needs
@@ -454,11 +460,12 @@ walk-not-same-length-2 t c = search needs
 walk-not-returns-2 : (t : ℕ) → walk-not-lts.Need-returns-2 (walk-not-claims t) (walk-not-at t) walk-not.Post
 walk-not-returns-2 t c =
     let after-walk-node : walk-not-place walk-not-lts.After-walk-node t = search in
+    let after-end-of : walk-not-place walk-not-lts.After-end-of t = search in
     let start : walk-not-place walk-not-lts.Start t = search in
     let given = start .args in
     let pre = start .pre in
     let inner = nodeV (given .room) (given .words .now) (given .text .now .now) (given .table .now .now) (given .left) in
-    not-fails (given .text .now .now) (given .room) inner (pre .1 .0 .short) (node-bounded (given .room) (given .words .now) (given .text .now .now) (given .table .now .now) (given .left)) (pairV (rulesIn (given .words .now)) 0 (given .room) (given .text .now .now) (given .table .now .now) inner) (given .a) (given .at) 0 0 (given .depth) (pre .1 .0 .here) (pre .1 .0 .few) (after-walk-node .walk-node .ensures) (c .if2 .taken)
+    not-fails (given .text .now .now) (given .room) inner (pre .1 .0 .short) (node-bounded (given .room) (given .words .now) (given .text .now .now) (given .table .now .now) (given .left)) (pairV (rulesIn (given .words .now)) 0 (given .room) (given .text .now .now) (given .table .now .now) inner) (given .a) (given .at) 0 0 (given .depth) (pre .1 .0 .here) (pre .1 .0 .few) ((rw (after-end-of .end-of .ensures) at (after-walk-node .walk-node .ensures))) (c .if2 .taken)
 
 walk-not-same-length-3 : (t : ℕ) → walk-not-lts.Need-same-length-3 (walk-not-claims t) (walk-not-at t) walk-not.Post
 walk-not-same-length-3 t c = search needs
@@ -467,16 +474,21 @@ walk-not-returns-3 : (t : ℕ) → walk-not-lts.Need-returns-3 (walk-not-claims 
 walk-not-returns-3 t c =
     let else1 : walk-not-place walk-not-lts.Else1 t = search in
     let after-walk-node : walk-not-place walk-not-lts.After-walk-node t = search in
+    let after-end-of : walk-not-place walk-not-lts.After-end-of t = search in
     let start : walk-not-place walk-not-lts.Start t = search in
     let given = start .args in
     let pre = start .pre in
     let inner = nodeV (given .room) (given .words .now) (given .text .now .now) (given .table .now .now) (given .left) in
-    not-matches (given .text .now .now) (given .room) inner (pre .1 .0 .short) (node-bounded (given .room) (given .words .now) (given .text .now .now) (given .table .now .now) (given .left)) (pairV (rulesIn (given .words .now)) 0 (given .room) (given .text .now .now) (given .table .now .now) inner) (given .a) (given .at) 0 0 (given .depth) (pre .1 .0 .here) (pre .1 .0 .few) (after-walk-node .walk-node .ensures) (let a = else1 .if1 .left in let b = c .if2 .left in omega arith)
+    not-matches (given .text .now .now) (given .room) inner (pre .1 .0 .short) (node-bounded (given .room) (given .words .now) (given .text .now .now) (given .table .now .now) (given .left)) (pairV (rulesIn (given .words .now)) 0 (given .room) (given .text .now .now) (given .table .now .now) inner) (given .a) (given .at) 0 0 (given .depth) (pre .1 .0 .here) (pre .1 .0 .few) ((rw (after-end-of .end-of .ensures) at (after-walk-node .walk-node .ensures))) (let a = else1 .if1 .left in let b = c .if2 .left in omega arith)
+
+walk-part-end-of-requires : (t : ℕ) → walk-part-lts.Need-end-of-requires (walk-part-claims t) (walk-part-at t) walk-part.Post
+walk-part-end-of-requires t c κs = search needs
 
 walk-part-add-walk-node : (t : ℕ) → walk-part-lts.Need-add-walk-node (walk-part-claims t) (walk-part-at t) walk-part.Post
 walk-part-add-walk-node t c =
+    let after-end-of : walk-part-place walk-part-lts.After-end-of t = search in
     let start : walk-part-place walk-part-lts.Start t = search in
-    omega (arith, (start .pre .1 .0 .short))
+    omega (arith, after-end-of .end-of .ensures, (start .pre .1 .0 .short))
 
 walk-part-walk-node-requires : (t : ℕ) → walk-part-lts.Need-walk-node-requires (walk-part-claims t) (walk-part-at t) walk-part.Post
 walk-part-walk-node-requires t c κs =
@@ -490,20 +502,22 @@ walk-part-same-length t c = search needs
 walk-part-returns : (t : ℕ) → walk-part-lts.Need-returns (walk-part-claims t) (walk-part-at t) walk-part.Post
 walk-part-returns t c =
     let after-walk-node : walk-part-place walk-part-lts.After-walk-node t = search in
+    let after-end-of : walk-part-place walk-part-lts.After-end-of t = search in
     let start : walk-part-place walk-part-lts.Start t = search in
     let given = start .args in
     let pre = start .pre in
     let inner = nodeV (given .room) (given .words .now) (given .text .now .now) (given .table .now .now) (given .left) in
-    part-ends (given .text .now .now) (given .room) inner (pre .1 .0 .short) (node-bounded (given .room) (given .words .now) (given .text .now .now) (given .table .now .now) (given .left)) (pairV (rulesIn (given .words .now)) 0 (given .room) (given .text .now .now) (given .table .now .now) inner) (given .a) (given .at) (given .lo) (given .hi) (given .depth) (pre .1 .0 .here) (pre .1 .0 .few) (after-walk-node .walk-node .ensures) (c .if1 .taken)
+    part-ends (given .text .now .now) (given .room) inner (pre .1 .0 .short) (node-bounded (given .room) (given .words .now) (given .text .now .now) (given .table .now .now) (given .left)) (pairV (rulesIn (given .words .now)) 0 (given .room) (given .text .now .now) (given .table .now .now) inner) (given .a) (given .at) (given .lo) (given .hi) (given .depth) (pre .1 .0 .here) (pre .1 .0 .few) ((rw (after-end-of .end-of .ensures) at (after-walk-node .walk-node .ensures))) (c .if1 .taken)
 
 walk-part-touched-requires : (t : ℕ) → walk-part-lts.Need-touched-requires (walk-part-claims t) (walk-part-at t) walk-part.Post
 walk-part-touched-requires t c κs =
     let after-walk-node : walk-part-place walk-part-lts.After-walk-node t = search in
+    let after-end-of : walk-part-place walk-part-lts.After-end-of t = search in
     let start : walk-part-place walk-part-lts.Start t = search in
     let given = start .args in
     let pre = start .pre in
     let inner = nodeV (given .room) (given .words .now) (given .text .now .now) (given .table .now .now) (given .left) in
-    omega (arith, (part-found (given .text .now .now) (given .room) inner (pre .1 .0 .short) (node-bounded (given .room) (given .words .now) (given .text .now .now) (given .table .now .now) (given .left)) (pairV (rulesIn (given .words .now)) 0 (given .room) (given .text .now .now) (given .table .now .now) inner) (given .a) (given .at) (given .lo) (given .hi) (given .depth) (pre .1 .0 .here) (pre .1 .0 .few) (after-walk-node .walk-node .ensures) (c .if1 .left)) .in-text, (pre .1 .0 .short))
+    omega (arith, (part-found (given .text .now .now) (given .room) inner (pre .1 .0 .short) (node-bounded (given .room) (given .words .now) (given .text .now .now) (given .table .now .now) (given .left)) (pairV (rulesIn (given .words .now)) 0 (given .room) (given .text .now .now) (given .table .now .now) inner) (given .a) (given .at) (given .lo) (given .hi) (given .depth) (pre .1 .0 .here) (pre .1 .0 .few) ((rw (after-end-of .end-of .ensures) at (after-walk-node .walk-node .ensures))) (c .if1 .left)) .in-text, (pre .1 .0 .short))
 
 walk-part-same-length-2 : (t : ℕ) → walk-part-lts.Need-same-length-2 (walk-part-claims t) (walk-part-at t) walk-part.Post
 walk-part-same-length-2 t c = search needs
@@ -513,21 +527,23 @@ walk-part-returns-2 t c =
     let after-touched : walk-part-place walk-part-lts.After-touched t = search in
     let else1 : walk-part-place walk-part-lts.Else1 t = search in
     let after-walk-node : walk-part-place walk-part-lts.After-walk-node t = search in
+    let after-end-of : walk-part-place walk-part-lts.After-end-of t = search in
     let start : walk-part-place walk-part-lts.Start t = search in
     let given = start .args in
     let pre = start .pre in
     let inner = nodeV (given .room) (given .words .now) (given .text .now .now) (given .table .now .now) (given .left) in
-    part-missed (given .text .now .now) (given .room) inner (pre .1 .0 .short) (node-bounded (given .room) (given .words .now) (given .text .now .now) (given .table .now .now) (given .left)) (pairV (rulesIn (given .words .now)) 0 (given .room) (given .text .now .now) (given .table .now .now) inner) (given .a) (given .at) (given .lo) (given .hi) (given .depth) (pre .1 .0 .here) (pre .1 .0 .few) (after-walk-node .walk-node .ensures) (else1 .if1 .left) (sym (after-touched .touched .ensures) ∙ not-true (after-touched .touched .result) (c .if2 .taken))
+    part-missed (given .text .now .now) (given .room) inner (pre .1 .0 .short) (node-bounded (given .room) (given .words .now) (given .text .now .now) (given .table .now .now) (given .left)) (pairV (rulesIn (given .words .now)) 0 (given .room) (given .text .now .now) (given .table .now .now) inner) (given .a) (given .at) (given .lo) (given .hi) (given .depth) (pre .1 .0 .here) (pre .1 .0 .few) ((rw (after-end-of .end-of .ensures) at (after-walk-node .walk-node .ensures))) (else1 .if1 .left) (sym (after-touched .touched .ensures) ∙ not-true (after-touched .touched .result) (c .if2 .taken))
 
 walk-part-walk-node-requires-2 : (t : ℕ) → walk-part-lts.Need-walk-node-requires-2 (walk-part-claims t) (walk-part-at t) walk-part.Post
 walk-part-walk-node-requires-2 t c κs =
     let else1 : walk-part-place walk-part-lts.Else1 t = search in
     let after-walk-node : walk-part-place walk-part-lts.After-walk-node t = search in
+    let after-end-of : walk-part-place walk-part-lts.After-end-of t = search in
     let start : walk-part-place walk-part-lts.Start t = search in
     let given = start .args in
     let pre = start .pre in
     let inner = nodeV (given .room) (given .words .now) (given .text .now .now) (given .table .now .now) (given .left) in
-    (omega (arith, pre .0), (record { short = (pre .1 .0 .short); here = (pre .1 .0 .here); few = (part-found (given .text .now .now) (given .room) inner (pre .1 .0 .short) (node-bounded (given .room) (given .words .now) (given .text .now .now) (given .table .now .now) (given .left)) (pairV (rulesIn (given .words .now)) 0 (given .room) (given .text .now .now) (given .table .now .now) inner) (given .a) (given .at) (given .lo) (given .hi) (given .depth) (pre .1 .0 .here) (pre .1 .0 .few) (after-walk-node .walk-node .ensures) (else1 .if1 .left)) .few; shallow = omega (arith, pre .1 .0 .shallow) }, pre .1 .1))
+    (omega (arith, pre .0), (record { short = (pre .1 .0 .short); here = (pre .1 .0 .here); few = (part-found (given .text .now .now) (given .room) inner (pre .1 .0 .short) (node-bounded (given .room) (given .words .now) (given .text .now .now) (given .table .now .now) (given .left)) (pairV (rulesIn (given .words .now)) 0 (given .room) (given .text .now .now) (given .table .now .now) inner) (given .a) (given .at) (given .lo) (given .hi) (given .depth) (pre .1 .0 .here) (pre .1 .0 .few) ((rw (after-end-of .end-of .ensures) at (after-walk-node .walk-node .ensures))) (else1 .if1 .left)) .few; shallow = omega (arith, pre .1 .0 .shallow) }, pre .1 .1))
 
 walk-part-same-length-3 : (t : ℕ) → walk-part-lts.Need-same-length-3 (walk-part-claims t) (walk-part-at t) walk-part.Post
 walk-part-same-length-3 t c = search needs
@@ -539,11 +555,12 @@ walk-part-returns-3 t c =
     let after-touched : walk-part-place walk-part-lts.After-touched t = search in
     let else1 : walk-part-place walk-part-lts.Else1 t = search in
     let after-walk-node : walk-part-place walk-part-lts.After-walk-node t = search in
+    let after-end-of : walk-part-place walk-part-lts.After-end-of t = search in
     let start : walk-part-place walk-part-lts.Start t = search in
     let given = start .args in
     let pre = start .pre in
     let inner = nodeV (given .room) (given .words .now) (given .text .now .now) (given .table .now .now) (given .left) in
-    part-goes (given .text .now .now) (given .room) inner (pre .1 .0 .short) (node-bounded (given .room) (given .words .now) (given .text .now .now) (given .table .now .now) (given .left)) (pairV (rulesIn (given .words .now)) 0 (given .room) (given .text .now .now) (given .table .now .now) inner) (given .a) (given .at) (given .lo) (given .hi) (given .depth) (pre .1 .0 .here) (pre .1 .0 .few) (after-walk-node .walk-node .ensures) (else1 .if1 .left) (sym (after-touched .touched .ensures) ∙ not-false (after-touched .touched .result) (else2 .if2 .left)) (after-walk-node2 .walk-node2 .ensures)
+    part-goes (given .text .now .now) (given .room) inner (pre .1 .0 .short) (node-bounded (given .room) (given .words .now) (given .text .now .now) (given .table .now .now) (given .left)) (pairV (rulesIn (given .words .now)) 0 (given .room) (given .text .now .now) (given .table .now .now) inner) (given .a) (given .at) (given .lo) (given .hi) (given .depth) (pre .1 .0 .here) (pre .1 .0 .few) ((rw (after-end-of .end-of .ensures) at (after-walk-node .walk-node .ensures))) (else1 .if1 .left) (sym (after-touched .touched .ensures) ∙ not-false (after-touched .touched .result) (else2 .if2 .left)) (after-walk-node2 .walk-node2 .ensures)
 
 walk-rule-rules-in-requires : (t : ℕ) → walk-rule-lts.Need-rules-in-requires (walk-rule-claims t) (walk-rule-at t) walk-rule.Post
 walk-rule-rules-in-requires t c κs = search needs
@@ -566,6 +583,9 @@ walk-rule-returns t c =
     let given = start .args in
     rule-empty (rulesIn (given .words .now)) (given .root) (given .room) (given .text .now .now) (given .table .now .now) (nodeV (given .room) (given .words .now) (given .text .now .now) (given .table .now .now) (given .left)) (given .rule) (given .at) (given .lo) (given .hi) (given .depth) (after-look .look .ensures ∙ ap (λ (n : ℕ). getD (given .table .now .now) (slotOf n (given .rule) (given .at)) 0) (after-rules-in .rules-in .ensures .0)) (given .count .now) (given .rows .now) (sym (after-is-held .is-held .ensures) ∙ not-true (after-is-held .is-held .result) (c .if1 .taken))
 
+walk-rule-end-of-requires : (t : ℕ) → walk-rule-lts.Need-end-of-requires (walk-rule-claims t) (walk-rule-at t) walk-rule.Post
+walk-rule-end-of-requires t c κs = search needs
+
 walk-rule-from-word-requires : (t : ℕ) → walk-rule-lts.Need-from-word-requires (walk-rule-claims t) (walk-rule-at t) walk-rule.Post
 walk-rule-from-word-requires t c κs = search needs
 
@@ -581,23 +601,25 @@ walk-rule-add-result-2 t c = search needs
 walk-rule-returns-2 : (t : ℕ) → walk-rule-lts.Need-returns-2 (walk-rule-claims t) (walk-rule-at t) walk-rule.Post
 walk-rule-returns-2 t c =
     let after-from-word : walk-rule-place walk-rule-lts.After-from-word t = search in
+    let after-end-of : walk-rule-place walk-rule-lts.After-end-of t = search in
     let after-look : walk-rule-place walk-rule-lts.After-look t = search in
     let after-rules-in : walk-rule-place walk-rule-lts.After-rules-in t = search in
     let start : walk-rule-place walk-rule-lts.Start t = search in
     let given = start .args in
-    rule-impossible (rulesIn (given .words .now)) (given .root) (given .room) (given .text .now .now) (given .table .now .now) (nodeV (given .room) (given .words .now) (given .text .now .now) (given .table .now .now) (given .left)) (given .rule) (given .at) (given .lo) (given .hi) (given .depth) (after-look .look .ensures ∙ ap (λ (n : ℕ). getD (given .table .now .now) (slotOf n (given .rule) (given .at)) 0) (after-rules-in .rules-in .ensures .0)) (given .count .now) (given .rows .now) (was-impossible (recordOf (after-look .look .result)) (possible (after-look .look .result) (given .at) (length (given .text .now .now))) (sym (c .enum-told .given .1) ∙ after-from-word .from-word .ensures))
+    rule-impossible (rulesIn (given .words .now)) (given .root) (given .room) (given .text .now .now) (given .table .now .now) (nodeV (given .room) (given .words .now) (given .text .now .now) (given .table .now .now) (given .left)) (given .rule) (given .at) (given .lo) (given .hi) (given .depth) (after-look .look .ensures ∙ ap (λ (n : ℕ). getD (given .table .now .now) (slotOf n (given .rule) (given .at)) 0) (after-rules-in .rules-in .ensures .0)) (given .count .now) (given .rows .now) (was-impossible (recordOf (after-look .look .result)) (possible (after-look .look .result) (given .at) (length (given .text .now .now))) (sym (c .enum-told .given .1) ∙ (rw (after-end-of .end-of .ensures) at (after-from-word .from-word .ensures))))
 
 walk-rule-returns-3 : (t : ℕ) → walk-rule-lts.Need-returns-3 (walk-rule-claims t) (walk-rule-at t) walk-rule.Post
 walk-rule-returns-3 t c =
     let after-held : walk-rule-place walk-rule-lts.After-held t = search in
     let after-from-word : walk-rule-place walk-rule-lts.After-from-word t = search in
+    let after-end-of : walk-rule-place walk-rule-lts.After-end-of t = search in
     let else1 : walk-rule-place walk-rule-lts.Else1 t = search in
     let after-is-held : walk-rule-place walk-rule-lts.After-is-held t = search in
     let after-look : walk-rule-place walk-rule-lts.After-look t = search in
     let after-rules-in : walk-rule-place walk-rule-lts.After-rules-in t = search in
     let start : walk-rule-place walk-rule-lts.Start t = search in
     let given = start .args in
-    let w = was-possible (after-held .held .given .0 .0) (recordOf (after-look .look .result)) (possible (after-look .look .result) (given .at) (length (given .text .now .now))) (sym (after-held .held .given .1) ∙ after-from-word .from-word .ensures) in
+    let w = was-possible (after-held .held .given .0 .0) (recordOf (after-look .look .result)) (possible (after-look .look .result) (given .at) (length (given .text .now .now))) (sym (after-held .held .given .1) ∙ (rw (after-end-of .end-of .ensures) at (after-from-word .from-word .ensures))) in
     let m = ap (λ (r : Record). r .matched) (w .1) in
     let n = ap (λ (r : Record). r .length) (w .1) in
     rule-failed (rulesIn (given .words .now)) (given .root) (given .room) (given .text .now .now) (given .table .now .now) (nodeV (given .room) (given .words .now) (given .text .now .now) (given .table .now .now) (given .left)) (given .rule) (given .at) (given .lo) (given .hi) (given .depth) (after-look .look .ensures ∙ ap (λ (n : ℕ). getD (given .table .now .now) (slotOf n (given .rule) (given .at)) 0) (after-rules-in .rules-in .ensures .0)) (given .count .now) (given .rows .now) (sym (after-is-held .is-held .ensures) ∙ not-false (after-is-held .is-held .result) (else1 .if1 .left)) (w .0) (sym m ∙ not-true (after-held .held .given .0 .0 .matched) (c .if2 .taken))
@@ -606,13 +628,14 @@ walk-rule-touched-requires : (t : ℕ) → walk-rule-lts.Need-touched-requires (
 walk-rule-touched-requires t c κs =
     let after-held : walk-rule-place walk-rule-lts.After-held t = search in
     let after-from-word : walk-rule-place walk-rule-lts.After-from-word t = search in
+    let after-end-of : walk-rule-place walk-rule-lts.After-end-of t = search in
     let else1 : walk-rule-place walk-rule-lts.Else1 t = search in
     let after-is-held : walk-rule-place walk-rule-lts.After-is-held t = search in
     let after-look : walk-rule-place walk-rule-lts.After-look t = search in
     let after-rules-in : walk-rule-place walk-rule-lts.After-rules-in t = search in
     let start : walk-rule-place walk-rule-lts.Start t = search in
     let given = start .args in
-    let w = was-possible (after-held .held .given .0 .0) (recordOf (after-look .look .result)) (possible (after-look .look .result) (given .at) (length (given .text .now .now))) (sym (after-held .held .given .1) ∙ after-from-word .from-word .ensures) in
+    let w = was-possible (after-held .held .given .0 .0) (recordOf (after-look .look .result)) (possible (after-look .look .result) (given .at) (length (given .text .now .now))) (sym (after-held .held .given .1) ∙ (rw (after-end-of .end-of .ensures) at (after-from-word .from-word .ensures))) in
     let m = ap (λ (r : Record). r .matched) (w .1) in
     let n = ap (λ (r : Record). r .length) (w .1) in
     omega (arith, n, rule-in-text (rulesIn (given .words .now)) (given .root) (given .room) (given .text .now .now) (given .table .now .now) (nodeV (given .room) (given .words .now) (given .text .now .now) (given .table .now .now) (given .left)) (given .rule) (given .at) (given .lo) (given .hi) (given .depth) (after-look .look .ensures ∙ ap (λ (n : ℕ). getD (given .table .now .now) (slotOf n (given .rule) (given .at)) 0) (after-rules-in .rules-in .ensures .0)) (given .count .now) (given .rows .now) (sym (after-is-held .is-held .ensures) ∙ not-false (after-is-held .is-held .result) (else1 .if1 .left)) (w .0), (start .pre .1 .0 .short))
@@ -623,13 +646,14 @@ walk-rule-returns-4 t c =
     let else2 : walk-rule-place walk-rule-lts.Else2 t = search in
     let after-held : walk-rule-place walk-rule-lts.After-held t = search in
     let after-from-word : walk-rule-place walk-rule-lts.After-from-word t = search in
+    let after-end-of : walk-rule-place walk-rule-lts.After-end-of t = search in
     let else1 : walk-rule-place walk-rule-lts.Else1 t = search in
     let after-is-held : walk-rule-place walk-rule-lts.After-is-held t = search in
     let after-look : walk-rule-place walk-rule-lts.After-look t = search in
     let after-rules-in : walk-rule-place walk-rule-lts.After-rules-in t = search in
     let start : walk-rule-place walk-rule-lts.Start t = search in
     let given = start .args in
-    let w = was-possible (after-held .held .given .0 .0) (recordOf (after-look .look .result)) (possible (after-look .look .result) (given .at) (length (given .text .now .now))) (sym (after-held .held .given .1) ∙ after-from-word .from-word .ensures) in
+    let w = was-possible (after-held .held .given .0 .0) (recordOf (after-look .look .result)) (possible (after-look .look .result) (given .at) (length (given .text .now .now))) (sym (after-held .held .given .1) ∙ (rw (after-end-of .end-of .ensures) at (after-from-word .from-word .ensures))) in
     let m = ap (λ (r : Record). r .matched) (w .1) in
     let n = ap (λ (r : Record). r .length) (w .1) in
     rule-missed (rulesIn (given .words .now)) (given .root) (given .room) (given .text .now .now) (given .table .now .now) (nodeV (given .room) (given .words .now) (given .text .now .now) (given .table .now .now) (given .left)) (given .rule) (given .at) (given .lo) (given .hi) (given .depth) (after-look .look .ensures ∙ ap (λ (n : ℕ). getD (given .table .now .now) (slotOf n (given .rule) (given .at)) 0) (after-rules-in .rules-in .ensures .0)) (given .count .now) (given .rows .now) (sym (after-is-held .is-held .ensures) ∙ not-false (after-is-held .is-held .result) (else1 .if1 .left)) (w .0) (sym m ∙ not-false (after-held .held .given .0 .0 .matched) (else2 .if2 .left)) n (sym (after-touched .touched .ensures) ∙ not-true (after-touched .touched .result) (c .if3 .taken))
@@ -644,13 +668,14 @@ walk-rule-returns-5 t c =
     let else2 : walk-rule-place walk-rule-lts.Else2 t = search in
     let after-held : walk-rule-place walk-rule-lts.After-held t = search in
     let after-from-word : walk-rule-place walk-rule-lts.After-from-word t = search in
+    let after-end-of : walk-rule-place walk-rule-lts.After-end-of t = search in
     let else1 : walk-rule-place walk-rule-lts.Else1 t = search in
     let after-is-held : walk-rule-place walk-rule-lts.After-is-held t = search in
     let after-look : walk-rule-place walk-rule-lts.After-look t = search in
     let after-rules-in : walk-rule-place walk-rule-lts.After-rules-in t = search in
     let start : walk-rule-place walk-rule-lts.Start t = search in
     let given = start .args in
-    let w = was-possible (after-held .held .given .0 .0) (recordOf (after-look .look .result)) (possible (after-look .look .result) (given .at) (length (given .text .now .now))) (sym (after-held .held .given .1) ∙ after-from-word .from-word .ensures) in
+    let w = was-possible (after-held .held .given .0 .0) (recordOf (after-look .look .result)) (possible (after-look .look .result) (given .at) (length (given .text .now .now))) (sym (after-held .held .given .1) ∙ (rw (after-end-of .end-of .ensures) at (after-from-word .from-word .ensures))) in
     let m = ap (λ (r : Record). r .matched) (w .1) in
     let n = ap (λ (r : Record). r .length) (w .1) in
     rule-full (rulesIn (given .words .now)) (given .root) (given .room) (given .text .now .now) (given .table .now .now) (nodeV (given .room) (given .words .now) (given .text .now .now) (given .table .now .now) (given .left)) (given .rule) (given .at) (given .lo) (given .hi) (given .depth) (after-look .look .ensures ∙ ap (λ (n : ℕ). getD (given .table .now .now) (slotOf n (given .rule) (given .at)) 0) (after-rules-in .rules-in .ensures .0)) (given .count .now) (given .rows .now) (sym (after-is-held .is-held .ensures) ∙ not-false (after-is-held .is-held .result) (else1 .if1 .left)) (w .0) (sym m ∙ not-false (after-held .held .given .0 .0 .matched) (else2 .if2 .left)) n (sym (after-touched .touched .ensures) ∙ not-false (after-touched .touched .result) (else3 .if3 .left)) (c .if4 .taken)
@@ -660,6 +685,7 @@ walk-rule-row-word-requires t c κs =
     let after-touched : walk-rule-place walk-rule-lts.After-touched t = search in
     let after-held : walk-rule-place walk-rule-lts.After-held t = search in
     let after-from-word : walk-rule-place walk-rule-lts.After-from-word t = search in
+    let after-end-of : walk-rule-place walk-rule-lts.After-end-of t = search in
     let else1 : walk-rule-place walk-rule-lts.Else1 t = search in
     let after-is-held : walk-rule-place walk-rule-lts.After-is-held t = search in
     let after-look : walk-rule-place walk-rule-lts.After-look t = search in
@@ -667,7 +693,7 @@ walk-rule-row-word-requires t c κs =
     let start : walk-rule-place walk-rule-lts.Start t = search in
     let given = start .args in
     let pre = start .pre in
-    let w = was-possible (after-held .held .given .0 .0) (recordOf (after-look .look .result)) (possible (after-look .look .result) (given .at) (length (given .text .now .now))) (sym (after-held .held .given .1) ∙ after-from-word .from-word .ensures) in
+    let w = was-possible (after-held .held .given .0 .0) (recordOf (after-look .look .result)) (possible (after-look .look .result) (given .at) (length (given .text .now .now))) (sym (after-held .held .given .1) ∙ (rw (after-end-of .end-of .ensures) at (after-from-word .from-word .ensures))) in
     let m = ap (λ (r : Record). r .matched) (w .1) in
     let n = ap (λ (r : Record). r .length) (w .1) in
     (omega (arith, pre .1 .0 .shallow), omega (arith, (pre .1 .0 .here), (pre .1 .0 .short)), omega (arith, n, rule-in-text (rulesIn (given .words .now)) (given .root) (given .room) (given .text .now .now) (given .table .now .now) (nodeV (given .room) (given .words .now) (given .text .now .now) (given .table .now .now) (given .left)) (given .rule) (given .at) (given .lo) (given .hi) (given .depth) (after-look .look .ensures ∙ ap (λ (n : ℕ). getD (given .table .now .now) (slotOf n (given .rule) (given .at)) 0) (after-rules-in .rules-in .ensures .0)) (given .count .now) (given .rows .now) (sym (after-is-held .is-held .ensures) ∙ not-false (after-is-held .is-held .result) (else1 .if1 .left)) (w .0), (pre .1 .0 .short)))
@@ -716,6 +742,7 @@ walk-rule-returns-6 t c =
     let else2 : walk-rule-place walk-rule-lts.Else2 t = search in
     let after-held : walk-rule-place walk-rule-lts.After-held t = search in
     let after-from-word : walk-rule-place walk-rule-lts.After-from-word t = search in
+    let after-end-of : walk-rule-place walk-rule-lts.After-end-of t = search in
     let else1 : walk-rule-place walk-rule-lts.Else1 t = search in
     let after-is-held : walk-rule-place walk-rule-lts.After-is-held t = search in
     let after-look : walk-rule-place walk-rule-lts.After-look t = search in
@@ -723,7 +750,7 @@ walk-rule-returns-6 t c =
     let start : walk-rule-place walk-rule-lts.Start t = search in
     let given = start .args in
     let pre = start .pre in
-    let w = was-possible (after-held .held .given .0 .0) (recordOf (after-look .look .result)) (possible (after-look .look .result) (given .at) (length (given .text .now .now))) (sym (after-held .held .given .1) ∙ after-from-word .from-word .ensures) in
+    let w = was-possible (after-held .held .given .0 .0) (recordOf (after-look .look .result)) (possible (after-look .look .result) (given .at) (length (given .text .now .now))) (sym (after-held .held .given .1) ∙ (rw (after-end-of .end-of .ensures) at (after-from-word .from-word .ensures))) in
     let m = ap (λ (r : Record). r .matched) (w .1) in
     let n = ap (λ (r : Record). r .length) (w .1) in
     rule-stops (rulesIn (given .words .now)) (given .root) (given .room) (given .text .now .now) (given .table .now .now) (nodeV (given .room) (given .words .now) (given .text .now .now) (given .table .now .now) (given .left)) (given .rule) (given .at) (given .lo) (given .hi) (given .depth) (after-look .look .ensures ∙ ap (λ (n : ℕ). getD (given .table .now .now) (slotOf n (given .rule) (given .at)) 0) (after-rules-in .rules-in .ensures .0)) (given .count .now) (given .rows .now) (sym (after-is-held .is-held .ensures) ∙ not-false (after-is-held .is-held .result) (else1 .if1 .left)) (w .0) (sym m ∙ not-false (after-held .held .given .0 .0 .matched) (else2 .if2 .left)) n (sym (after-touched .touched .ensures) ∙ not-false (after-touched .touched .result) (else3 .if3 .left)) (else4 .if4 .left) (after-row-word .row-word .ensures) (pre .1 .0 .short) (pre .1 .0 .here) (node-bounded (given .room) (given .words .now) (given .text .now .now) (given .table .now .now) (given .left)) _ _ _ (rw (after-put .put .ensures) at (after-walk-node .walk-node .ensures)) (c .if5 .taken)
@@ -742,6 +769,7 @@ walk-rule-returns-7 t c =
     let else2 : walk-rule-place walk-rule-lts.Else2 t = search in
     let after-held : walk-rule-place walk-rule-lts.After-held t = search in
     let after-from-word : walk-rule-place walk-rule-lts.After-from-word t = search in
+    let after-end-of : walk-rule-place walk-rule-lts.After-end-of t = search in
     let else1 : walk-rule-place walk-rule-lts.Else1 t = search in
     let after-is-held : walk-rule-place walk-rule-lts.After-is-held t = search in
     let after-look : walk-rule-place walk-rule-lts.After-look t = search in
@@ -749,7 +777,7 @@ walk-rule-returns-7 t c =
     let start : walk-rule-place walk-rule-lts.Start t = search in
     let given = start .args in
     let pre = start .pre in
-    let w = was-possible (after-held .held .given .0 .0) (recordOf (after-look .look .result)) (possible (after-look .look .result) (given .at) (length (given .text .now .now))) (sym (after-held .held .given .1) ∙ after-from-word .from-word .ensures) in
+    let w = was-possible (after-held .held .given .0 .0) (recordOf (after-look .look .result)) (possible (after-look .look .result) (given .at) (length (given .text .now .now))) (sym (after-held .held .given .1) ∙ (rw (after-end-of .end-of .ensures) at (after-from-word .from-word .ensures))) in
     let m = ap (λ (r : Record). r .matched) (w .1) in
     let n = ap (λ (r : Record). r .length) (w .1) in
     rule-goes (rulesIn (given .words .now)) (given .root) (given .room) (given .text .now .now) (given .table .now .now) (nodeV (given .room) (given .words .now) (given .text .now .now) (given .table .now .now) (given .left)) (given .rule) (given .at) (given .lo) (given .hi) (given .depth) (after-look .look .ensures ∙ ap (λ (n : ℕ). getD (given .table .now .now) (slotOf n (given .rule) (given .at)) 0) (after-rules-in .rules-in .ensures .0)) (given .count .now) (given .rows .now) (sym (after-is-held .is-held .ensures) ∙ not-false (after-is-held .is-held .result) (else1 .if1 .left)) (w .0) (sym m ∙ not-false (after-held .held .given .0 .0 .matched) (else2 .if2 .left)) n (sym (after-touched .touched .ensures) ∙ not-false (after-touched .touched .result) (else3 .if3 .left)) (else4 .if4 .left) (after-row-word .row-word .ensures) (pre .1 .0 .short) (pre .1 .0 .here) (node-bounded (given .room) (given .words .now) (given .text .now .now) (given .table .now .now) (given .left)) _ _ _ (rw (after-put .put .ensures) at (after-walk-node .walk-node .ensures)) (c .if5 .left)
@@ -1025,6 +1053,7 @@ pub +walk-choice+walk-node+walk-not+walk-part+walk-rule+walk-sequence+walk-star-
     (λ t. walk-not-lts.spec (walk-not-claims t)
     (walk-not-at t)
     walk-not.Post
+    (walk-not-end-of-requires t)
     (walk-not-add-walk-node t)
     (walk-not-walk-node-requires t)
     (walk-not-same-length t)
@@ -1036,6 +1065,7 @@ pub +walk-choice+walk-node+walk-not+walk-part+walk-rule+walk-sequence+walk-star-
     (λ t. walk-part-lts.spec (walk-part-claims t)
     (walk-part-at t)
     walk-part.Post
+    (walk-part-end-of-requires t)
     (walk-part-add-walk-node t)
     (walk-part-walk-node-requires t)
     (walk-part-same-length t)
@@ -1054,6 +1084,7 @@ pub +walk-choice+walk-node+walk-not+walk-part+walk-rule+walk-sequence+walk-star-
     (walk-rule-is-held-requires t)
     (walk-rule-add-result t)
     (walk-rule-returns t)
+    (walk-rule-end-of-requires t)
     (walk-rule-from-word-requires t)
     (walk-rule-enum-known-held t)
     (walk-rule-enum-told t)

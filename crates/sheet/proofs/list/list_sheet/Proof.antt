@@ -137,7 +137,7 @@ stopped-requires c κs =
     let table = start .args .table .now in
     let good = passed image (length buffer) n (length table) (after-asked .asked .ensures) (else1 .if1 .left) in
     let rows = start .args .rows .now in (
-      stop-number image buffer n table rows good (n - 0) (after-list-over .list-over .ensures) (after-k .k .given .1),
+      stop-number image buffer n table rows good (after-list-over .list-over .ensures) (after-k .k .given .1),
       table-lent image (length buffer) n (length table) good refl (omega (arith, loan image (length buffer) n (length table) good .text-fits)) _ (after-start-over .start-over .kept .1 .1 .0),
     )
 
