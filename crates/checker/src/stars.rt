@@ -6,8 +6,9 @@ use visits::nodes;
 ghost use Rattle.checker.specs.Stars.{StarsAsked};
 
 // The number of the first of questions 1 to 6 that the image fails, 0 where it passes them: then `known` has the outcome sets.
+// Refused, it leaves `known` as it was.
 pub fn stars_number(image: &[u8], known: &mut [u8; 1024]) -> u8
-    ensures { λ r. ⌜ StarsAsked (now (image .entry)) (now (known .exit)) r ⌝ }
+    ensures { λ r. ⌜ StarsAsked (now (image .entry)) (now (known .entry)) (now (known .exit)) r ⌝ }
 {
     let number = lawful::lawful_number(image);
     if number != 0 {

@@ -2,7 +2,7 @@ use Rattle.lawful.proofs.Told.{said-no, said-yes}
 use Rattle.grammar.specs.Questions.{Lawful, First, ofLawful}
 use Rattle.grammar.proofs.Acceptance.{lawful-at-0}
 use Rattle.rounds.proofs.Stars.{lawful-refused, stars-refused, stars-passed, order-visits, sets-in-order, sets-are-least}
-use mathlib.Core.Path.{subst, _∙_}
+use mathlib.Core.Path.{refl, subst, _∙_}
 use native.Mathlib.Omega.{arith}
 use Prim.Native.Nat.{ℕ}
 use borrow.Author.Needs.{needs}
@@ -24,6 +24,7 @@ returns c =
     record {
       first = lawful-refused (c .before .lawful-number .result) (omega (arith, different)) (c .before .lawful-number .ensures);
       sets = λ e. absurd (different e);
+      kept = λ h. refl;
     }
 
 round-order-requires : tie.Need-round-order-requires
@@ -49,6 +50,7 @@ returns-2 c =
     record {
       first = stars-refused (lawful (at-order .before)) (said-no (c .before .stars-consume .ensures) (c .if2 .taken));
       sets = λ e. absurd (omega arith);
+      kept = λ h. refl;
     }
 
 returns-3 : tie.Need-returns-3
@@ -58,6 +60,7 @@ returns-3 c =
     record {
       first = stars-passed (lawful (at-order .before)) (said-yes (c .before .stars-consume .ensures) (c .if2 .left));
       sets = λ e. c .before .before .before .outcome-sets .ensures ∙ sets-in-order img _ (at-order .round-order .ensures);
+      kept = λ h. absurd (omega arith);
     }
 
 pub stars-number-spec : {M : Type 1} → statement M
