@@ -13,7 +13,9 @@ abbrev μ-loop : tie.MeasureT-loop
 μ-loop field given₀ count i₀ given i = count - i
 
 returns : tie.Need-returns Inv-loop μ-loop
-returns c = odd (c .before .before .before .args .field .now) (omega arith)
+returns c =
+    let start : tie.Start Inv-loop μ-loop = search in
+    odd (start .args .field .now) (omega arith)
 
 returns-2 : tie.Need-returns-2 Inv-loop μ-loop
 returns-2 c = search needs
@@ -31,14 +33,18 @@ hex-digit-requires : tie.Need-hex-digit-requires Inv-loop μ-loop
 hex-digit-requires c κs = search needs
 
 same-length : tie.Need-same-length Inv-loop μ-loop
-same-length c = let e = c .before .before .before .before .loop .inv .filled .long in search needs
+same-length c =
+    let at-loop : tie.At-loop Inv-loop μ-loop = search in
+    let e = at-loop .loop .inv .filled .long in search needs
 
 returns-3 : tie.Need-returns-3 Inv-loop μ-loop
 returns-3 c =
-    let at = c .before .before .before .before in
+    let after-hex-digit : tie.After-hex-digit Inv-loop μ-loop = search in
+    let at-loop : tie.At-loop Inv-loop μ-loop = search in
+    let at = at-loop in
     let i = at .loop .i in
     let p = at .loop .inv .pairs in
-    let e = c .before .hex-digit .ensures in
+    let e = after-hex-digit .hex-digit .ensures in
     no-digit (at .before .before .before .before .before .args .field .now) (2 * i) (omega arith) (omega arith)
 
 mul-hex-digit-2 : tie.Need-mul-hex-digit-2 Inv-loop μ-loop
@@ -54,14 +60,19 @@ hex-digit-requires-2 : tie.Need-hex-digit-requires-2 Inv-loop μ-loop
 hex-digit-requires-2 c κs = search needs
 
 same-length-2 : tie.Need-same-length-2 Inv-loop μ-loop
-same-length-2 c = let e = c .before .before .before .before .before .before .before .loop .inv .filled .long in search needs
+same-length-2 c =
+    let else3 : tie.Else3 Inv-loop μ-loop = search in
+    let at-loop : tie.At-loop Inv-loop μ-loop = search in
+    let e = at-loop .loop .inv .filled .long in search needs
 
 returns-4 : tie.Need-returns-4 Inv-loop μ-loop
 returns-4 c =
-    let at = c .before .before .before .before .before .before .before in
+    let after-hex-digit2 : tie.After-hex-digit2 Inv-loop μ-loop = search in
+    let at-loop : tie.At-loop Inv-loop μ-loop = search in
+    let at = at-loop in
     let i = at .loop .i in
     let p = at .loop .inv .pairs in
-    let e = c .before .hex-digit2 .ensures in
+    let e = after-hex-digit2 .hex-digit2 .ensures in
     no-digit (at .before .before .before .before .before .args .field .now) (2 * i + 1) (omega arith) (omega arith)
 
 byte-of-requires : tie.Need-byte-of-requires Inv-loop μ-loop
@@ -78,17 +89,24 @@ loop-less c = search needs
 
 loop-again : tie.Need-loop-again Inv-loop μ-loop
 loop-again c =
-    let h = c .before .before .before .before .before .hex-digit .ensures in
-    let l = c .before .before .hex-digit2 .ensures in
+    let after-hex-digit2 : tie.After-hex-digit2 Inv-loop μ-loop = search in
+    let after-hex-digit : tie.After-hex-digit Inv-loop μ-loop = search in
+    let at-loop : tie.At-loop Inv-loop μ-loop = search in
+    let h = after-hex-digit .hex-digit .ensures in
+    let l = after-hex-digit2 .hex-digit2 .ensures in
     let b = c .byte-of .ensures in
-    let inv = c .before .before .before .before .before .before .before .before .loop .inv in
+    let inv = at-loop .loop .inv in
     next inv (omega arith) (omega arith) (omega arith) (omega arith)
 
 same-length-3 : tie.Need-same-length-3 Inv-loop μ-loop
-same-length-3 c = let e = c .before .loop .inv .filled .long in search needs
+same-length-3 c =
+    let at-loop : tie.At-loop Inv-loop μ-loop = search in
+    let e = at-loop .loop .inv .filled .long in search needs
 
 returns-5 : tie.Need-returns-5 Inv-loop μ-loop
-returns-5 c = whole (c .before .loop .inv) (omega arith)
+returns-5 c =
+    let at-loop : tie.At-loop Inv-loop μ-loop = search in
+    whole (at-loop .loop .inv) (omega arith)
 
 pub hex-spec : {M : Type 1} → statement M
 hex-spec =

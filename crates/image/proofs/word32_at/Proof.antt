@@ -74,8 +74,11 @@ add-result-3 c = search needs
 
 returns-3 : tie.Need-returns-3
 returns-3 c =
-    let last : c .before .before .before .before .before .before .before .before .before .before .before .args .at + 2 + 1 ≡ c .before .before .before .before .before .before .before .before .before .before .before .args .at + 3 = omega arith in
-    omega (arith, ap (byteAt (c .before .before .before .before .before .before .before .before .before .before .before .args .bytes .now)) last)
+    let after-wide2 : tie.After-wide2 = search in
+    let after-wide : tie.After-wide = search in
+    let start : tie.Start = search in
+    let last : start .args .at + 2 + 1 ≡ start .args .at + 3 = omega arith in
+    omega (arith, ap (byteAt (start .args .bytes .now)) last)
 
 pub word32-at-spec : {M : Type 1} → statement M
 word32-at-spec =
