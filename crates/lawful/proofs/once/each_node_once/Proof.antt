@@ -19,19 +19,33 @@ header-of-requires : tie.Need-header-of-requires Inv-loop μ-loop
 header-of-requires c κs = search needs
 
 tally-roots-requires : tie.Need-tally-roots-requires Inv-loop μ-loop
-tally-roots-requires c κs = (c .before .before .before .pre .0, c .before .before .before .pre .1, refl)
+tally-roots-requires c κs =
+    let start : tie.Start Inv-loop μ-loop = search in
+    (start .pre .0, start .pre .1, refl)
 
 tally-children-requires : tie.Need-tally-children-requires Inv-loop μ-loop
-tally-children-requires c κs = (c .before .before .before .before .before .pre .0, c .before .before .before .before .before .pre .1, omega (arith, c .before .tally-roots .ensures .all-rules .as-long))
+tally-children-requires c κs =
+    let after-tally-roots : tie.After-tally-roots Inv-loop μ-loop = search in
+    let start : tie.Start Inv-loop μ-loop = search in
+    (start .pre .0, start .pre .1, omega (arith, after-tally-roots .tally-roots .ensures .all-rules .as-long))
 
 loop-holds : tie.Need-loop-holds Inv-loop μ-loop
 loop-holds c = (search needs, below-none _)
 
 array-read-if1 : tie.Need-array-read-if1 Inv-loop μ-loop
-array-read-if1 c = omega (arith, c .before .before .before .before .before .before .before .before .pre .0 .few-nodes)
+array-read-if1 c =
+    let after-tally-roots : tie.After-tally-roots Inv-loop μ-loop = search in
+    let start : tie.Start Inv-loop μ-loop = search in
+    omega (arith, start .pre .0 .few-nodes)
 
 returns : tie.Need-returns Inv-loop μ-loop
-returns c = not-so (λ h. c .if1 .taken (count-of-once (c .before .before .before .before .before .before .before .before .before .args .image .now) _ _ 1024 (c .before .before .loop .n) (c .before .before .before .before .before .tally-roots .ensures .all-rules) (c .before .before .before .tally-children .ensures .all-nodes) (h .once (c .before .before .loop .n) (omega (arith, c .before .before .before .before .before .before .before .header-of .ensures .its-nodes)))))
+returns c =
+    let at-loop : tie.At-loop Inv-loop μ-loop = search in
+    let after-tally-children : tie.After-tally-children Inv-loop μ-loop = search in
+    let after-tally-roots : tie.After-tally-roots Inv-loop μ-loop = search in
+    let after-header-of : tie.After-header-of Inv-loop μ-loop = search in
+    let start : tie.Start Inv-loop μ-loop = search in
+    not-so (λ h. c .if1 .taken (count-of-once (start .args .image .now) _ _ 1024 (at-loop .loop .n) (after-tally-roots .tally-roots .ensures .all-rules) (after-tally-children .tally-children .ensures .all-nodes) (h .once (at-loop .loop .n) (omega (arith, after-header-of .header-of .ensures .its-nodes)))))
 
 add-n : tie.Need-add-n Inv-loop μ-loop
 add-n c = search needs
@@ -40,10 +54,18 @@ loop-less : tie.Need-loop-less Inv-loop μ-loop
 loop-less c = search needs
 
 loop-again : tie.Need-loop-again Inv-loop μ-loop
-loop-again c = (search needs, below-more _ _ (c .before .before .loop .inv .1) (c .if1 .left))
+loop-again c =
+    let at-loop : tie.At-loop Inv-loop μ-loop = search in
+    (search needs, below-more _ _ (at-loop .loop .inv .1) (c .if1 .left))
 
 returns-2 : tie.Need-returns-2 Inv-loop μ-loop
-returns-2 c = so (record { once = λ n l. once-of-count (c .before .before .before .before .before .before .before .before .args .image .now) _ _ 1024 n (c .before .before .before .before .tally-roots .ensures .all-rules) (c .before .before .tally-children .ensures .all-nodes) (c .before .loop .inv .1 n (omega (arith, c .before .before .before .before .before .before .header-of .ensures .its-nodes))) })
+returns-2 c =
+    let at-loop : tie.At-loop Inv-loop μ-loop = search in
+    let after-tally-children : tie.After-tally-children Inv-loop μ-loop = search in
+    let after-tally-roots : tie.After-tally-roots Inv-loop μ-loop = search in
+    let after-header-of : tie.After-header-of Inv-loop μ-loop = search in
+    let start : tie.Start Inv-loop μ-loop = search in
+    so (record { once = λ n l. once-of-count (start .args .image .now) _ _ 1024 n (after-tally-roots .tally-roots .ensures .all-rules) (after-tally-children .tally-children .ensures .all-nodes) (at-loop .loop .inv .1 n (omega (arith, after-header-of .header-of .ensures .its-nodes))) })
 
 pub each-node-once-spec : {M : Type 1} → statement M
 each-node-once-spec =

@@ -12,37 +12,48 @@ node-at-requires c κs = search needs
 
 tally-requires : tie.Need-tally-requires
 tally-requires c κs =
-    let entry = c .before .before .before .before .before in
+    let start : tie.Start = search in
+    let entry = start in
     (omega (arith, b-below (entry .args .image .now) (entry .pre .0) (entry .pre .1) (entry .args .n) (entry .pre .2) (omega arith) (omega arith)), entry .pre .3)
 
 tally-requires-2 : tie.Need-tally-requires-2
 tally-requires-2 c κs =
-    let entry = c .before .before .before .before .before .before .before in
-    (omega (arith, a-below (entry .args .image .now) (entry .pre .0) (entry .pre .1) (entry .args .n) (entry .pre .2) (omega arith) (omega arith)), omega (arith, c .before .tally .ensures .as-long, entry .pre .3))
+    let after-tally : tie.After-tally = search in
+    let start : tie.Start = search in
+    let entry = start in
+    (omega (arith, a-below (entry .args .image .now) (entry .pre .0) (entry .pre .1) (entry .args .n) (entry .pre .2) (omega arith) (omega arith)), omega (arith, after-tally .tally .ensures .as-long, entry .pre .3))
 
 tally-requires-3 : tie.Need-tally-requires-3
 tally-requires-3 c κs =
-    let entry = c .before .before .before .before .before .before in
+    let start : tie.Start = search in
+    let entry = start in
     (omega (arith, a-below (entry .args .image .now) (entry .pre .0) (entry .pre .1) (entry .args .n) (entry .pre .2) (omega arith) (omega arith)), entry .pre .3)
 
 returns : tie.Need-returns
 returns c =
-    let entry = c .before .before .before in
+    let start : tie.Start = search in
+    let entry = start in
     rw (childless-below-3 (entry .args .image .now) (entry .args .n) (omega arith)) (tallied-none (entry .args .counts .now))
 
 returns-2 : tie.Need-returns-2
 returns-2 c =
-    let entry = c .before .before .before .before .before .before .before .before in
-    rw (children-3-4 (entry .args .image .now) (entry .args .n) (omega arith) (omega arith), sym (c .before .before .before .before .before .before .node-at .ensures .its-a), sym (c .before .before .before .before .before .before .node-at .ensures .its-b)) (tallied-more (c .before .before .tally .ensures) (c .tally2 .ensures))
+    let after-tally : tie.After-tally = search in
+    let after-node-at : tie.After-node-at = search in
+    let start : tie.Start = search in
+    let entry = start in
+    rw (children-3-4 (entry .args .image .now) (entry .args .n) (omega arith) (omega arith), sym (after-node-at .node-at .ensures .its-a), sym (after-node-at .node-at .ensures .its-b)) (tallied-more (after-tally .tally .ensures) (c .tally2 .ensures))
 
 returns-3 : tie.Need-returns-3
 returns-3 c =
-    let entry = c .before .before .before .before .before .before .before in
-    rw (children-5-6 (entry .args .image .now) (entry .args .n) (omega arith) (omega arith), sym (c .before .before .before .before .before .node-at .ensures .its-a)) (c .tally3 .ensures)
+    let after-node-at : tie.After-node-at = search in
+    let start : tie.Start = search in
+    let entry = start in
+    rw (children-5-6 (entry .args .image .now) (entry .args .n) (omega arith) (omega arith), sym (after-node-at .node-at .ensures .its-a)) (c .tally3 .ensures)
 
 returns-4 : tie.Need-returns-4
 returns-4 c =
-    let entry = c .before .before .before .before .before in
+    let start : tie.Start = search in
+    let entry = start in
     rw (childless-from-7 (entry .args .image .now) (entry .args .n) (omega arith) (entry .pre .1 .node-words (entry .args .n) (entry .pre .2) .known-kind)) (tallied-none (entry .args .counts .now))
 
 pub tally-children-of-spec : {M : Type 1} → statement M
