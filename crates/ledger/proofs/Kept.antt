@@ -1,5 +1,5 @@
 -- How a function keeps a call's promise: the promise of each kind of answer, from the questions and from what was written. The reading's
--- are in SheetReads.antt. Assumes nothing.
+-- are in SheetReads.antt of crate promises. Assumes nothing.
 use Prim.Native.Nat.{ℕ, _≤_}
 use mathlib.Core.Path.{_≡_, refl}
 use mathlib.Core.List.{List}

@@ -1,5 +1,5 @@
--- A call that the program makes keeps the library's promise for the answer that is printed, and the text's length that the next call
--- is lent is the one answered, the former one where the call is refused.
+-- A call that the program makes keeps the library's promise for an answer, and the text's length that the next call is lent is the one
+-- answered, the former one where the call is refused. That this answer is the one printed is not said here: nothing is proved of what prints.
 use Prim.Native.Nat.{ℕ}
 use mathlib.Core.Path.{_≡_}
 use mathlib.Core.List.{List}
@@ -34,7 +34,7 @@ pub record ReadsSheet (img B : List ℕ) (n : ℕ) (W W′ : List ℕ) : Type 0 
   pub answer : ReadAnswer
   pub keeps : ReadPromise img B n W answer W′
 
--- The rows of an answer, none where the listing is refused: so many words are printed.
+-- The rows of an answer, none where the listing is refused.
 abbrev pub rowsIn : ListAnswer → ℕ
 rowsIn (ListAnswer.Listed x) = x .rows
 rowsIn (ListAnswer.Refused q) = 0

@@ -1,1 +1,1 @@
--- The calls' promises are in the crate ledger.
+-- The calls' promises are in the crate promises.

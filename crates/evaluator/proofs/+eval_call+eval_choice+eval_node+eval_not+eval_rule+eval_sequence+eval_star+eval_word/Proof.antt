@@ -1,5 +1,5 @@
 -- The cycle of the evaluator: each function answers, stores and counts as the model over a loaded grammar does. Each answer is a way of
--- proofs/Runs, Stars or Rules. The measure is four times the allowance: a word below a node, a node below a rule, a rule below the kinds.
+-- packrat/proofs/Runs, Stars or Rules. The measure is four times the allowance: a word below a node, a node below a rule, a rule below the kinds.
 -- Assumes nothing.
 use Rattle.packrat.proofs.Rules.{was-possible, was-impossible, rule-impossible, rule-too-deep, rule-met, rule-refused, rule-stored, node-too-deep, node-goes, word-goes, call-goes, past-7}
 use Rattle.packrat.proofs.LoadedRuns.{word-is}
