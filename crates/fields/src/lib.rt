@@ -72,28 +72,6 @@ pub fn decimal(field: &[u8]) -> Number
     Number::Is(value)
 }
 
-pub enum Numbers {
-    Are(usize, usize),
-    None,
-}
-
-fn both(first: Number, second: Number) -> Numbers {
-    match first {
-        Number::Is(a) => match second {
-            Number::Is(b) => Numbers::Are(a, b),
-            Number::None => Numbers::None,
-        },
-        Number::None => Numbers::None,
-    }
-}
-
-// Two numbers and nothing else.
-pub fn two_numbers(line: &[u8]) -> Numbers {
-    let end = end_of(line);
-    let next = after(line, end);
-    both(decimal(&line[0..end]), decimal(&line[next..]))
-}
-
 pub enum Decoded {
     Bytes(usize),
     TooLong,

@@ -11,7 +11,7 @@ use Rattle.grammar.specs.Questions.{First}
 use Rattle.editing.specs.Text.{newLength}
 use Rattle.promises.specs.Questions.{Question9, Question10, Question11, ofSheet}
 use Rattle.ledger.specs.Ledger.{Evaluations, Ledger, passes9, passes10, passes11}
-use Rattle.ledger.proofs.Bools.{both, joined}
+use Rattle.grammar.proofs.Bools.{both, joined}
 use Rattle.promises.proofs.Asked.{sheet-first}
 use Rattle.ledger.proofs.Inv.{Inv, cap-is, lent}
 
@@ -29,7 +29,7 @@ module _ {ev : Evaluations} {cap : ℕ} {rest : List ℕ} {l : Ledger} {B : List
     fails-9 t x =
         true≢false
         (sym
-        (joined (leb s e) (leb e (length (l .text))) (le-leb s e (x .ordered))
+        (joined (le-leb s e (x .ordered))
         (le-leb e (length (l .text)) (rw (sym (v .length-is)) (x .in-text))))
         ∙ t)
 
@@ -55,6 +55,6 @@ module _ {ev : Evaluations} {cap : ℕ} {rest : List ℕ} {l : Ledger} {B : List
     fails-11 t x =
         true≢false
         (sym
-        (joined (ltb rule (rules (l .image))) (leb q (length (l .text))) (lt-ltb rule (rules (l .image)) (x .rule-in))
+        (joined (lt-ltb rule (rules (l .image)) (x .rule-in))
         (le-leb q (length (l .text)) (rw (sym (v .length-is)) (x .position-in))))
         ∙ t)

@@ -26,7 +26,7 @@ use Rattle.editing.specs.Text.{EditFits, newLength, edited}
 use Rattle.editing.proofs.Loans.{edited-long}
 use Rattle.editing.specs.Pairs.{standsAfter}
 use Rattle.ledger.specs.Ledger.{Evaluations}
-use Rattle.ledger.proofs.Bools.{both, joined, either, or-left, or-right}
+use Rattle.grammar.proofs.Bools.{both, joined, either, or-left, or-right}
 
 -- "q ≤ s, the pair was held at q, and q + examined ≤ s"
 pub record Stays (held : ℕ → Bool) (examined : ℕ → ℕ) (s q : ℕ) : Type 0 where
@@ -62,14 +62,14 @@ module _ (held : ℕ → Bool) (examined : ℕ → ℕ) (n s e k q : ℕ) where
   unfolding standsAfter
   stands-stay t =
       or-left _ _
-      (joined (leb q s) _ (le-leb q s (t .before)) (joined (held q) _ (t .was-held) (le-leb (q + examined q) s (t .unseen))))
+      (joined (le-leb q s (t .before)) (joined (t .was-held) (le-leb (q + examined q) s (t .unseen))))
 
   pub stands-carry : Carried held n s e k q → standsAfter held examined n s e k q ≡ true
   unfolding standsAfter
   stands-carry t =
       or-right (leb q s && (held q && leb (q + examined q) s)) _
-      (joined (leb (s + k) q) _ (le-leb (s + k) q (t .behind))
-      (joined (leb q (newLength n s e k)) _ (le-leb q (newLength n s e k) (t .in-text)) (t .was-held)))
+      (joined (le-leb (s + k) q (t .behind))
+      (joined (le-leb q (newLength n s e k) (t .in-text)) (t .was-held)))
 
 -- An evaluation at p of a text, whose calls are these, later by so many positions.
 pub record Forth (img text : List ℕ) (before : ℕ) (s : Subject) (p : ℕ) (z : Evaluation) (calls : List Pair) : Type 0 where

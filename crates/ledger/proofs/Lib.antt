@@ -1,5 +1,4 @@
 -- The theorems about the ledger and lists of calls.
-pub mod Bools
 pub mod Kept
 pub mod Fresh
 pub mod Inv

@@ -25,7 +25,7 @@ use Rattle.promises.specs.Promises.{OpenPromise, EditPromise, LookUpPromise}
 use Rattle.promises.specs.Run.{answerOf, wordsOf}
 use Rattle.ledger.specs.Ledger.{Evaluations, Call, edit, reading, look-up, listing, Reply, edits, reads, finds, Ledger, openedLedger, replies}
 use Rattle.ledger.specs.Demand.{Loan, loan, Link, edit-link, read-link, look-up-link, nextLength, Trace, done, next, RunsExist}
-use Rattle.ledger.proofs.Bools.{both, joined}
+use Rattle.grammar.proofs.Bools.{both, joined}
 use Rattle.promises.proofs.Asked.{sheet-first, sheet-passed, edit-9, edit-10, look-up-11}
 use Rattle.ledger.proofs.Kept.{open-done, edit-refused, edit-done, look-up-refused, look-up-done}
 use Rattle.promises.proofs.SheetReads.{reads-are}
@@ -108,7 +108,7 @@ module _ (img B : List ℕ) (n : ℕ) (W : List ℕ) (good : First (ofSheet img 
   edit-kept s e r false c t u =
       edit-refused img B n W s e r 9 (omega arith)
       (edit-9 img (length B) n (length W) good s e (length r)
-      (λ q. true≢false (sym (joined (leb s e) (leb e n) (le-leb s e (q .ordered)) (le-leb e n (q .in-text))) ∙ t)))
+      (λ q. true≢false (sym (joined (le-leb s e (q .ordered)) (le-leb e n (q .in-text))) ∙ t)))
   edit-kept s e r true c t u = go c u
     where
       asked : Question9 n s e
@@ -132,7 +132,7 @@ module _ (img B : List ℕ) (n : ℕ) (W : List ℕ) (good : First (ofSheet img 
       (look-up-11 img (length B) n (length W) good rule q
       (λ x.
       true≢false
-      (sym (joined (ltb rule (rules img)) (leb q n) (lt-ltb rule (rules img) (x .rule-in)) (le-leb q n (x .position-in))) ∙ t)))
+      (sym (joined (lt-ltb rule (rules img) (x .rule-in)) (le-leb q n (x .position-in))) ∙ t)))
   look-up-kept rule q true t =
       let b = both (ltb rule (rules img)) (leb q n) t in
       look-up-done img B n W rule q good (record { rule-in = ltb-true rule (rules img) (b .0); position-in = leb-true q n (b .1) }) refl

@@ -32,7 +32,7 @@ use Rattle.promises.specs.Promises.{EditValues, EditPromise}
 use Rattle.ledger.specs.Demand.{nextLength}
 use Rattle.ledger.specs.Ledger.{Evaluations, Ledger, Turn, edit, edits, valueIn, editedText, standing, pairsOf}
 use Rattle.ledger.specs.Ledger.{passes9, passes10, editTurn, turn}
-use Rattle.ledger.proofs.Bools.{both}
+use Rattle.grammar.proofs.Bools.{both}
 use Rattle.promises.proofs.Asked.{edit-9, edit-10, edit-0, edit-one}
 use Rattle.ledger.proofs.Inv.{Inv, held-word, cap-is, short-text, lent, value-of}
 use Rattle.ledger.proofs.Asks.{good, passes-9, fails-9, passes-10, fails-10}

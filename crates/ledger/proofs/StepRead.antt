@@ -36,7 +36,7 @@ use Rattle.promises.specs.Answers.{readNumber, sheetReading}
 use Rattle.promises.specs.Reading.{AnswersWith, SheetRead, ReadPromise}
 use Rattle.ledger.specs.Ledger.{Evaluations, Ledger, Turn, reading, reads, openedLedger, valueIn, reachedIn, pairsOf}
 use Rattle.ledger.specs.Ledger.{passes14, readTurn, turn}
-use Rattle.ledger.proofs.Bools.{either, or-left, or-right}
+use Rattle.grammar.proofs.Bools.{either, or-left, or-right}
 use Rattle.promises.proofs.Asked.{sheet-first, sheet-one}
 use Rattle.promises.proofs.Tables.{lent-table}
 use Rattle.ledger.proofs.Fresh.{same-test}

@@ -1,11 +1,12 @@
 // What a line does to a session.
+use crate::answers;
+use crate::calls;
+use crate::listing;
+use crate::numbers;
+use crate::numbers::Numbers;
 use crate::verbs;
 use crate::verbs::Verb;
 use fields::Decoded;
-use fields::Numbers;
-use reporting::answers;
-use reporting::calls;
-use reporting::listing;
 
 // How much of each buffer is lent to the next call, and the text's length.
 pub struct Session {
@@ -53,7 +54,7 @@ fn lend_line(
     most_words: usize,
 ) -> Session {
     let mut next = session;
-    match fields::two_numbers(rest) {
+    match numbers::two_numbers(rest) {
         Numbers::Are(cap, words) => {
             if most_bytes < cap || most_words < words {
                 answers::too_much_lent(line);

@@ -24,7 +24,11 @@
 // The text's length that a call is lent is the last one that an open or an edit answered, at first 0; buffer and table keep what calls
 // leave in them, also where another image or less of them is lent. A line that is none of these gets a message with its number, as
 // `9: not understood`, changes nothing, and the next line follows. An input of 262,144 bytes or more gets a message and no answer.
+mod answers;
+mod calls;
 mod lines;
+mod listing;
+mod numbers;
 mod verbs;
 
 use lines::Session;
@@ -63,7 +67,7 @@ fn main() {
     let mut input = [0u8; 262144];
     let length = io::read_full(0, &mut input);
     if length == 262144 {
-        reporting::answers::too_much_input();
+        answers::too_much_input();
         return;
     }
     replay_over_buffers(&input[0..length]);

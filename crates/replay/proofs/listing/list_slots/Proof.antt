@@ -1,8 +1,8 @@
 -- `listing::list_slots` meets its contract: the part of the program's slots that is lent has as many as are asked for. Assumes nothing.
 use native.Mathlib.Omega.{arith}
 use borrow.Author.Needs.{needs}
-use Rattle.reporting.proofs.listing.list_slots.Statement.{statement}
-use Rattle.reporting.proofs.listing.list_slots.Tie as tie
+use Rattle.replay.proofs.listing.list_slots.Statement.{statement}
+use Rattle.replay.proofs.listing.list_slots.Tie as tie
 
 sub-list-into : tie.Need-sub-list-into
 sub-list-into c = search needs

@@ -5,7 +5,7 @@ use promises::ListAnswer;
 ghost use Prim.Native.Nat.{_≤_};
 ghost use mathlib.Core.Path.{_≡_};
 ghost use lib.ListN.{length};
-ghost use Rattle.reporting.specs.Calls.{rowsIn, ListsSheet, ListsInto};
+ghost use Rattle.replay.specs.Calls.{rowsIn, ListsSheet, ListsInto};
 
 fn rows_in(answer: ListAnswer) -> usize
     ensures { λ r. ⌜ r ≡ rowsIn answer ⌝ }

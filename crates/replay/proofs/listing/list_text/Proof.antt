@@ -1,9 +1,9 @@
 -- `listing::list_text` meets its contract: the library's promise, for the answer that is printed. Assumes nothing.
 use native.Mathlib.Omega.{arith}
-use Rattle.reporting.proofs.Rows.{rows-lent}
+use Rattle.replay.proofs.Rows.{rows-lent}
 use borrow.Author.Needs.{needs}
-use Rattle.reporting.proofs.listing.list_text.Statement.{statement}
-use Rattle.reporting.proofs.listing.list_text.Tie as tie
+use Rattle.replay.proofs.listing.list_text.Statement.{statement}
+use Rattle.replay.proofs.listing.list_text.Tie as tie
 
 list-sheet-requires : tie.Need-list-sheet-requires
 list-sheet-requires c κs = search needs

@@ -1,11 +1,12 @@
 // The calls but the listing, over what is lent to them. Each prints its answer; those that may change the text give its length afterwards.
 use crate::answers;
+use crate::numbers;
+use crate::numbers::Numbers;
 use fields::Decoded;
-use fields::Numbers;
 use promises::EditAnswer;
 use promises::OpenAnswer;
 ghost use mathlib.Core.Path.{_≡_};
-ghost use Rattle.reporting.specs.Calls.{afterOpen, afterEdit, Opens, Edits, ReadsSheet};
+ghost use Rattle.replay.specs.Calls.{afterOpen, afterEdit, Opens, Edits, ReadsSheet};
 
 fn opened(answer: OpenAnswer, n: usize) -> usize
     ensures { λ r. ⌜ r ≡ afterOpen answer n ⌝ }
@@ -121,7 +122,7 @@ pub fn edit(
 ) -> usize {
     let end = fields::second_end(rest);
     let next = fields::after(rest, end);
-    match fields::two_numbers(&rest[0..end]) {
+    match numbers::two_numbers(&rest[0..end]) {
         Numbers::Are(s, e) => edit_from(&rest[next..], line, n, image, buffer, table, s, e, given),
         Numbers::None => {
             answers::not_understood(line);
@@ -146,7 +147,7 @@ pub fn read(rest: &[u8], line: usize, n: usize, image: &[u8], buffer: &[u8], tab
 }
 
 pub fn look_up(rest: &[u8], line: usize, n: usize, image: &[u8], buffer: &[u8], table: &[u64]) {
-    match fields::two_numbers(rest) {
+    match numbers::two_numbers(rest) {
         Numbers::Are(rule, position) => {
             let answer = sheet::look_up::look_up(image, buffer, n, table, rule, position);
             answers::of_look_up(line, answer);

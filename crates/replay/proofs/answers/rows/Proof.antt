@@ -2,8 +2,8 @@
 use Prim.Native.Nat.{_≤_, _-_}
 use lib.ListN.{length}
 use borrow.Author.Needs.{needs}
-use Rattle.reporting.proofs.answers.rows.Statement.{statement}
-use Rattle.reporting.proofs.answers.rows.Tie as tie
+use Rattle.replay.proofs.answers.rows.Statement.{statement}
+use Rattle.replay.proofs.answers.rows.Tie as tie
 
 abbrev Inv-loop : tie.InvT-loop
 Inv-loop words i₀ t3 i = i ≤ length words
