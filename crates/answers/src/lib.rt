@@ -6,7 +6,7 @@ ghost use Rattle.records.specs.Words.{wordOf, valueOf, nestingOf};
 ghost use Rattle.records.specs.Joinable.{Joinable};
 
 // The word of the empty node's evaluation: matched, nesting 1.
-pub const EMPTY_HERE: u64 = 0xC000_0002_0000_0000;
+pub const EMPTY_HERE: u64 = records::HELD_MATCHED + records::ONE_NESTING;
 
 pub fn larger(a: usize, b: usize) -> usize
     ensures { λ r. ⌜ r ≡ max a b ⌝ }
@@ -19,11 +19,11 @@ pub fn answer(matched: bool, nesting: usize, examined: usize, length: usize) -> 
     requires { ⌜ (nesting < 8192) × (examined < 131072) × (length < 65536) ⌝ }
     ensures { λ r. ⌜ r ≡ wordOf (record { matched = matched; length = length; examined = examined; nesting = nesting }) ⌝ }
 {
-    let fields = nesting * 8589934592 + examined * 65536 + length;
+    let fields = nesting * records::NESTING_UNIT + examined * records::EXAMINED_UNIT + length;
     if matched {
-        0xC000_0000_0000_0000 + fields as u64
+        records::HELD_MATCHED + fields as u64
     } else {
-        0x8000_0000_0000_0000 + fields as u64
+        records::HELD + fields as u64
     }
 }
 
@@ -60,7 +60,7 @@ pub fn taken_over(x: u64) -> u64
     requires { ⌜ (x ≡ wordOf (valueOf x)) × (nestingOf x ≤ 4096) ⌝ }
     ensures { λ r. ⌜ r ≡ wordOf (takenOver (valueOf x)) ⌝ }
 {
-    x + 8589934592
+    x + records::ONE_NESTING
 }
 
 // "else B's outcome and length, examined the larger of both."

@@ -1,5 +1,6 @@
 // The image check: questions 1 to 7 of the paper, asked of any byte string in their order. The crate `lawful` asks 1 to 5, and this
 // one 6 and 7.
+use grammar::numbers;
 use visits::nodes;
 ghost use Rattle.grammar.specs.Questions.{Checked};
 
@@ -20,11 +21,11 @@ pub fn check(image: &[u8]) -> u8
     let words = nodes::node_words(image);
     let known = outcomes::outcome_sets(image, &order, &words);
     if !outcomes::stars_consume(image, &known) {
-        return 6;
+        return numbers::STAR_BODIES;
     }
     let formed = formed::formed_nodes(image, &order, &words, &known);
     if !formed::all_formed(image, &formed) {
-        return 7;
+        return numbers::WELL_FORMED;
     }
     0
 }

@@ -2,6 +2,7 @@
 // function: it would have to copy the order and the nodes' words out for question 7, which costs a tenth of a typical check.
 use crate::order;
 use crate::outcomes;
+use grammar::numbers;
 use visits::nodes;
 ghost use Rattle.checker.specs.Stars.{StarsAsked};
 
@@ -18,7 +19,7 @@ pub fn stars_number(image: &[u8], known: &mut [u8; 1024]) -> u8
     let words = nodes::node_words(image);
     let sets = outcomes::outcome_sets(image, &order, &words);
     if !outcomes::stars_consume(image, &sets) {
-        return 6;
+        return numbers::STAR_BODIES;
     }
     *known = sets;
     0

@@ -3,6 +3,7 @@
 // falls by one from a node to what is evaluated inside it, and not from a rule to its body. An answer is a record word, or the number
 // of a refusal, which is below 16 and so not held. The text is lent as a reference to its slice: one pointer to hand on, where a slice
 // is a pointer and a length that each call copies.
+use grammar::numbers;
 use records::Decoded;
 use records::Record;
 ghost use Prim.Native.Nat.{_+_, _-_, _<_};
@@ -11,6 +12,13 @@ ghost use Rattle.grammar.specs.Image.{sequence, choice, star, not-predicate, ca
 ghost use Rattle.packrat.specs.Model.{pairM};
 ghost use Rattle.packrat.specs.Loaded.{rulesIn, nodeW, wordM, kindW};
 ghost use Rattle.packrat.specs.Gives.{Ready, Gives};
+
+// The numbers of the refusals, as words.
+const WORDS: u64 = numbers::WORDS as u64;
+
+const RECORDS: u64 = numbers::RECORDS as u64;
+
+const NESTING: u64 = numbers::NESTING as u64;
 
 // A node at a position. A byte range is answered here, which saves the call that most visits would end in.
 fn eval_node(
@@ -26,7 +34,7 @@ fn eval_node(
     ensures { λ r. ⌜ Gives (length (now (now (text .entry)))) at left (nodeW (now (words .entry)) (now (now (text .entry))) left node at (now (table .entry)) (now (count .entry))) r (now (table .exit)) (now (count .exit)) ⌝ }
 {
     if left == 0 {
-        return 14;
+        return NESTING;
     }
     let word = words[node];
     let fields = image::node_of(word);
@@ -62,8 +70,8 @@ pub fn eval_word(
         5 => eval_star(words, text, table, count, a, at, left - 1),
         6 => eval_not(words, text, table, count, a, at, left - 1),
         7 => eval_call(words, text, table, count, a, b, at, left - 1),
-        8..=15 => 4,
-        _ => 4,
+        8..=15 => WORDS,
+        _ => WORDS,
     }
 }
 
@@ -82,7 +90,7 @@ fn eval_sequence(
     ensures { λ r. ⌜ Gives (length (now (now (text .entry)))) at (left + 1) (kindW (now (words .entry)) (now (now (text .entry))) left b (sequence a b) at (now (table .entry)) (now (count .entry))) r (now (table .exit)) (now (count .exit)) ⌝ }
 {
     let x = eval_node(words, text, table, count, a, at, left);
-    if x < 16 {
+    if x < numbers::BOUND {
         return x;
     }
     if !records::matched_of(x) {
@@ -97,7 +105,7 @@ fn eval_sequence(
         at + records::length_of(x),
         left,
     );
-    if y < 16 {
+    if y < numbers::BOUND {
         return y;
     }
     answers::in_sequence(x, y)
@@ -118,14 +126,14 @@ fn eval_choice(
     ensures { λ r. ⌜ Gives (length (now (now (text .entry)))) at (left + 1) (kindW (now (words .entry)) (now (now (text .entry))) left b (choice a b) at (now (table .entry)) (now (count .entry))) r (now (table .exit)) (now (count .exit)) ⌝ }
 {
     let x = eval_node(words, text, table, count, a, at, left);
-    if x < 16 {
+    if x < numbers::BOUND {
         return x;
     }
     if records::matched_of(x) {
         return answers::taken_over(x);
     }
     let y = eval_node(words, text, table, count, b, at, left);
-    if y < 16 {
+    if y < numbers::BOUND {
         return y;
     }
     answers::second_choice(x, y)
@@ -145,7 +153,7 @@ fn eval_not(
     ensures { λ r. ⌜ Gives (length (now (now (text .entry)))) at (left + 1) (kindW (now (words .entry)) (now (now (text .entry))) left 0 (not-predicate a) at (now (table .entry)) (now (count .entry))) r (now (table .exit)) (now (count .exit)) ⌝ }
 {
     let x = eval_node(words, text, table, count, a, at, left);
-    if x < 16 {
+    if x < numbers::BOUND {
         return x;
     }
     answers::negated_answer(x)
@@ -169,7 +177,7 @@ fn eval_star(
     let mut deepest = 0usize;
     loop {
         let x = eval_node(words, text, table, count, a, at + consumed, left);
-        if x < 16 {
+        if x < numbers::BOUND {
             return x;
         }
         examined = answers::larger(examined, consumed + records::examined_of(x));
@@ -179,7 +187,7 @@ fn eval_star(
         }
         let length = records::length_of(x);
         if length == 0 {
-            return 12;
+            return RECORDS;
         }
         consumed = consumed + length;
     }
@@ -200,7 +208,7 @@ fn eval_call(
     ensures { λ r. ⌜ Gives (length (now (now (text .entry)))) at (left + 1) (kindW (now (words .entry)) (now (now (text .entry))) left root (call rule) at (now (table .entry)) (now (count .entry))) r (now (table .exit)) (now (count .exit)) ⌝ }
 {
     let x = eval_rule(words, text, table, count, rule, root, at, left);
-    if x < 16 {
+    if x < numbers::BOUND {
         return x;
     }
     answers::taken_over(x)
@@ -224,15 +232,15 @@ pub fn eval_rule(
     let word = memo::look(table, rules, rule, at);
     if records::is_held(word) {
         let Decoded::Possible(held) = Record::from_word(word, at, terminals::end_of(*text)) else {
-            return 12;
+            return RECORDS;
         };
         if left < held.nesting {
-            return 14;
+            return NESTING;
         }
         return held.word();
     }
     let value = eval_node(words, text, table, count, root, at, left);
-    if value < 16 {
+    if value < numbers::BOUND {
         return value;
     }
     memo::put(table, rules, rule, at, value);

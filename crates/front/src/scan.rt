@@ -8,12 +8,14 @@ pub struct Scan {
     pub every: bool,
 }
 
+const EVERY_BIT: u64 = 0xFFFF_FFFF_FFFF_FFFF;
+
 // One less, and every bit for 0: the held bit is set for 0 and for a held word with another bit, and for no other word.
 fn lowered(word: u64) -> u64
     ensures { λ r. ⌜ Lowered word r ⌝ }
 {
     if word == 0 {
-        return 0xFFFF_FFFF_FFFF_FFFF;
+        return EVERY_BIT;
     }
     word - 1
 }
@@ -23,7 +25,7 @@ pub fn scan_words(part: &[u64], limit: usize) -> Scan
     ensures { λ r. ⌜ Scanned (now (part .entry)) limit r ⌝ }
 {
     let mut any: u64 = 0;
-    let mut all: u64 = 0xFFFF_FFFF_FFFF_FFFF;
+    let mut all: u64 = EVERY_BIT;
     let mut held: usize = 0;
     let mut i: usize = 0;
     while i < part.len() {
@@ -33,7 +35,7 @@ pub fn scan_words(part: &[u64], limit: usize) -> Scan
         held = held + words::held_bit(word);
         i += 1;
     }
-    if all < 0x8000_0000_0000_0000 {
+    if all < records::HELD {
         return Scan { held, every: false };
     }
     let every = records::examined_of(any) <= limit;

@@ -1,6 +1,8 @@
 // The language of grammars: what an image holds, which images are accepted, and what Ford's rules say that a node does
 // at a position of a text. This crate has definitions (specs/) and theorems (proofs/) and no code that runs.
 
+pub mod numbers;
+
 // What an evaluation has: "an outcome, a length, an examined length and a nesting".
 pub struct Evaluation {
     pub matched: bool,

@@ -1,4 +1,5 @@
 // Questions 1 to 5: is the image lawful? They ask about the bytes and nothing of what the grammar means.
+use grammar::numbers;
 ghost use Rattle.grammar.specs.Questions.{First, ofLawful};
 
 mod once;
@@ -10,19 +11,19 @@ pub fn lawful_number(image: &[u8]) -> u8
     ensures { λ r. ⌜ First (ofLawful (now (image .entry))) r ⌝ }
 {
     if !questions::edition_is_1(image) {
-        return 1;
+        return numbers::EDITION;
     }
     if !questions::counts_in_range(image) {
-        return 2;
+        return numbers::COUNTS;
     }
     if !questions::size_exact(image) {
-        return 3;
+        return numbers::SIZE;
     }
     if !words::words_lawful(image) {
-        return 4;
+        return numbers::WORDS;
     }
     if !once::each_node_once(image) {
-        return 5;
+        return numbers::OCCURRENCES;
     }
     0
 }

@@ -6,7 +6,7 @@ ghost use Rattle.records.specs.Words.{valueOf};
 ghost use Rattle.listing.specs.Gives.{toldLength};
 
 // A number that no length has.
-pub const FAILED: usize = 65536;
+pub const FAILED: usize = records::LENGTH_VALUES;
 
 // What the word of an evaluation says.
 fn told(word: u64) -> usize

@@ -5,6 +5,7 @@
 use crate::bytes;
 use crate::bytes::FAILED;
 use crate::slots;
+use grammar::numbers;
 use records::Decoded;
 use records::Record;
 ghost use Prim.Native.Nat.{_+_, _<_};
@@ -12,6 +13,13 @@ ghost use lib.ListN.{length};
 ghost use Rattle.grammar.specs.Image.{sequence, choice, star, not-predicate};
 ghost use Rattle.rows.specs.Walk.{partV, nodeV, ruleV, insideV};
 ghost use Rattle.listing.specs.Gives.{Gives, Steady};
+
+// The numbers that end a walk, to add to FAILED.
+const RECORDS: usize = numbers::RECORDS as usize;
+
+const NESTING: usize = numbers::NESTING as usize;
+
+const ROWS: usize = numbers::ROWS as usize;
 
 // A node at a position.
 fn walk_node(
@@ -32,7 +40,7 @@ fn walk_node(
     ensures { λ r. ⌜ Gives (now (count .entry)) (now (rows .entry)) r (now (rows .exit)) (now (count .exit)) (nodeV room (now (words .entry)) (now (now (text .entry))) (now (now (table .entry))) left node at lo hi depth (now (count .entry))) ⌝ }
 {
     if left == 0 {
-        return FAILED + 14;
+        return FAILED + NESTING;
     }
     let fields = image::node_of(words[node]);
     let kind = fields.kind;
@@ -114,8 +122,8 @@ fn walk_node(
             left - 1,
         ),
         // No accepted image has such a kind. A walk is refused with 12, 14 or 15 alone.
-        8..=15 => FAILED + 12,
-        _ => FAILED + 12,
+        8..=15 => FAILED + RECORDS,
+        _ => FAILED + RECORDS,
     }
 }
 
@@ -307,7 +315,7 @@ fn walk_star(
             return before;
         }
         if x == 0 {
-            return FAILED + 12;
+            return FAILED + RECORDS;
         }
         before = before + x;
     }
@@ -389,10 +397,10 @@ pub fn walk_rule(
     let rules = loaded::rules_in(words);
     let word = memo::look(*table, rules, rule, at);
     if !records::is_held(word) {
-        return FAILED + 12;
+        return FAILED + RECORDS;
     }
     let Decoded::Possible(held) = Record::from_word(word, at, terminals::end_of(*text)) else {
-        return FAILED + 12;
+        return FAILED + RECORDS;
     };
     if !held.matched {
         return FAILED;
@@ -402,7 +410,7 @@ pub fn walk_rule(
         return length;
     }
     if room <= *count {
-        return FAILED + 15;
+        return FAILED + ROWS;
     }
     slots::put(rows, *count, slots::row_word(rule, depth, at, length));
     *count = *count + 1;

@@ -1,4 +1,5 @@
 // The plain reading: a reading without records. Its answer depends on the image and the text alone.
+use grammar::numbers;
 use records::Record;
 ghost use Prim.Native.Nat.{_≤_};
 ghost use mathlib.Core.Path.{_≡_};
@@ -88,12 +89,12 @@ pub fn plain_reading(image: &[u8], text: &[u8]) -> PlainAnswer
     if number != 0 {
         return PlainAnswer::Refused(number);
     }
-    if 65535 < text.len() {
-        return PlainAnswer::Refused(8);
+    if records::MAX_CAP < text.len() {
+        return PlainAnswer::Refused(numbers::LOAN);
     }
     let word = start_word(image, text);
-    if word < 16 {
-        return PlainAnswer::Refused(14);
+    if word < numbers::BOUND {
+        return PlainAnswer::Refused(numbers::NESTING);
     }
     PlainAnswer::Read(reading_of(word, text.len()))
 }

@@ -19,11 +19,46 @@ pub enum Decoded {
     Impossible,
 }
 
+// The bits of the word, from the top. A field has so many values, and 1 in it is so much of the word.
+// "held 1"
+pub const HELD: u64 = 1 << 63;
+
+// "matched 1"
+pub const MATCHED: u64 = 1 << 62;
+
+pub const HELD_MATCHED: u64 = HELD + MATCHED;
+
+// "zero 16"
+pub const SPARE_VALUES: usize = 1 << 16;
+
+pub const SPARE_UNIT: usize = 1 << 46;
+
+// "nesting 13"
+pub const NESTING_VALUES: usize = 1 << 13;
+
+pub const NESTING_UNIT: usize = 1 << 33;
+
+// "examined 17"
+pub const EXAMINED_VALUES: usize = 1 << 17;
+
+pub const EXAMINED_UNIT: usize = 1 << 16;
+
+// "length 16"
+pub const LENGTH_VALUES: usize = 1 << 16;
+
+// The units, to add to a word.
+pub const ONE_NESTING: u64 = NESTING_UNIT as u64;
+
+pub const ONE_EXAMINED: u64 = EXAMINED_UNIT as u64;
+
+// The most bytes that a text may have: each length fits in its field.
+pub const MAX_CAP: usize = LENGTH_VALUES - 1;
+
 // Whether a word is held. "a word without its held bit counts as empty"
 pub fn is_held(word: u64) -> bool
     ensures { λ r. ⌜ r ≡ isHeld word ⌝ }
 {
-    0x8000_0000_0000_0000 <= word
+    HELD <= word
 }
 
 fn wide(word: u64) -> usize
@@ -36,31 +71,31 @@ fn wide(word: u64) -> usize
 pub fn matched_of(word: u64) -> bool
     ensures { λ r. ⌜ r ≡ matchedOf word ⌝ }
 {
-    word / 4611686018427387904 % 2 == 1
+    word / MATCHED % 2 == 1
 }
 
 pub fn spare_of(word: u64) -> usize
     ensures { λ r. ⌜ (r ≡ spareOf word) × (r < 65536) ⌝ }
 {
-    wide(word) / 70368744177664 % 65536
+    wide(word) / SPARE_UNIT % SPARE_VALUES
 }
 
 pub fn nesting_of(word: u64) -> usize
     ensures { λ r. ⌜ (r ≡ nestingOf word) × (r < 8192) ⌝ }
 {
-    wide(word) / 8589934592 % 8192
+    wide(word) / NESTING_UNIT % NESTING_VALUES
 }
 
 pub fn examined_of(word: u64) -> usize
     ensures { λ r. ⌜ (r ≡ examinedOf word) × (r < 131072) ⌝ }
 {
-    wide(word) / 65536 % 131072
+    wide(word) / EXAMINED_UNIT % EXAMINED_VALUES
 }
 
 pub fn length_of(word: u64) -> usize
     ensures { λ r. ⌜ (r ≡ lengthOf word) × (r < 65536) ⌝ }
 {
-    wide(word) % 65536
+    wide(word) % LENGTH_VALUES
 }
 
 impl Record {
@@ -122,12 +157,13 @@ impl Record {
     pub fn word(self) -> u64
         ensures { λ r. ⌜ r ≡ recordWord self ⌝ }
     {
-        let low = self.length % 65536 + self.examined % 131072 * 65536;
-        let high = self.nesting % 8192 * 8589934592 + self.spare % 65536 * 70368744177664;
+        let low = self.length % LENGTH_VALUES + self.examined % EXAMINED_VALUES * EXAMINED_UNIT;
+        let high = self.nesting % NESTING_VALUES * NESTING_UNIT
+            + self.spare % SPARE_VALUES * SPARE_UNIT;
         if self.matched {
-            0xC000_0000_0000_0000 + (high + low) as u64
+            HELD_MATCHED + (high + low) as u64
         } else {
-            0x8000_0000_0000_0000 + (high + low) as u64
+            HELD + (high + low) as u64
         }
     }
 }

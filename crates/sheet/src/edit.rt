@@ -1,5 +1,6 @@
 // "Edit (s, e, r), r of k bytes: bytes s to e − 1 give way to r".
 use crate::questions;
+use grammar::numbers;
 use promises::EditAnswer;
 use promises::EditedSheet;
 ghost use Rattle.promises.specs.Promises.{EditPromise};
@@ -23,13 +24,13 @@ pub fn edit(
         return EditAnswer::Refused(number);
     }
     if e < s {
-        return EditAnswer::Refused(9);
+        return EditAnswer::Refused(numbers::EDIT_RANGE);
     }
     if n < e {
-        return EditAnswer::Refused(9);
+        return EditAnswer::Refused(numbers::EDIT_RANGE);
     }
     if cap < n - (e - s) + k {
-        return EditAnswer::Refused(10);
+        return EditAnswer::Refused(numbers::EDIT_ROOM);
     }
     let header = image::header_of(image);
     let standing = table::edit_table(table, header.rules, cap, n, s, e, k);

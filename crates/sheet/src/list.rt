@@ -1,6 +1,7 @@
 // "Listing makes a reading, then writes the calls that made the match, parents first, left to right".
 use crate::answers;
 use crate::questions;
+use grammar::numbers;
 use listing::list::Listed;
 use promises::ListAnswer;
 use promises::SheetListing;
@@ -12,13 +13,16 @@ ghost use Rattle.grammar.specs.Image.{rules};
 ghost use Rattle.promises.specs.Listing.{ListPromise};
 ghost use Rattle.promises.specs.Run.{stoppedWords};
 
+// The number with which rows that do not fit are refused, as the walk has it.
+const ROWS: usize = numbers::ROWS as usize;
+
 // The number with which the walk stopped: 12, 14 or 15. "zeroes the table with 12 and 14"; with 15 the reading's records stay.
 fn stopped(image: &[u8], cap: usize, table: &mut [u64], number: usize) -> u8
     requires { ⌜ Number number × TableLent (rules (now image)) cap (now table) ⌝ }
     ensures { λ r. ⌜ (r ≡ number) × (now (table .exit) ≡ stoppedWords (eqb number 15) (now (image .entry)) cap (now (table .entry))) ⌝ }
 {
-    if number == 15 {
-        return 15;
+    if number == ROWS {
+        return numbers::ROWS;
     }
     answers::zeroed(image, cap, table, number as u64)
 }
@@ -40,7 +44,7 @@ pub fn list_sheet(
     }
     let mut count = 0u64;
     let word = reading::session::start_over(image, &buffer[0..n], table, &mut count);
-    if word < 16 {
+    if word < numbers::BOUND {
         return ListAnswer::Refused(answers::zeroed(image, cap, table, word));
     }
     match listing::start::list_over(image, &buffer[0..n], table, rows) {

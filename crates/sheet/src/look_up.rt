@@ -1,5 +1,6 @@
 // "Look-up: gives the true word of a held pair, else 0. The program gives the slot's word whole."
 use crate::questions;
+use grammar::numbers;
 use promises::LookUpAnswer;
 ghost use Rattle.promises.specs.Promises.{LookUpPromise};
 
@@ -21,10 +22,10 @@ pub fn look_up(
     let header = image::header_of(image);
     let rules = header.rules;
     if rules <= rule {
-        return LookUpAnswer::Refused(11);
+        return LookUpAnswer::Refused(numbers::PAIR);
     }
     if n < position {
-        return LookUpAnswer::Refused(11);
+        return LookUpAnswer::Refused(numbers::PAIR);
     }
     LookUpAnswer::Word(memo::look(table, rules, rule, position))
 }

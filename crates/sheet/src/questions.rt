@@ -1,4 +1,5 @@
 // "Every call checks the image (1 to 7) and the loan (8), then its own."
+use grammar::numbers;
 ghost use Rattle.grammar.specs.Questions.{First};
 ghost use Rattle.promises.specs.Questions.{ofSheet};
 
@@ -10,15 +11,15 @@ pub fn asked(image: &[u8], cap: usize, n: usize, words: usize) -> u8
     if number != 0 {
         return number;
     }
-    if 65535 < cap {
-        return 8;
+    if records::MAX_CAP < cap {
+        return numbers::LOAN;
     }
     if cap < n {
-        return 8;
+        return numbers::LOAN;
     }
     let header = image::header_of(image);
     if words < header.rules * (cap + 1) {
-        return 8;
+        return numbers::LOAN;
     }
     0
 }

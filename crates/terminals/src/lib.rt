@@ -7,9 +7,9 @@ ghost use Rattle.grammar.specs.Terminal.{terminalAt};
 ghost use Rattle.records.specs.Words.{wordOf};
 
 // A match of one byte, and a failure that examined one place.
-const ONE_BYTE: u64 = 0xC000_0002_0001_0001;
+const ONE_BYTE: u64 = records::HELD_MATCHED + records::ONE_NESTING + records::ONE_EXAMINED + 1;
 
-const NO_BYTE: u64 = 0x8000_0002_0001_0000;
+const NO_BYTE: u64 = records::HELD + records::ONE_NESTING + records::ONE_EXAMINED;
 
 // The end of the text: "A text has n bytes, positions 0 to n; position n is the end." Evaluator, walk and terminals ask it here, and the
 // byte at a position below.

@@ -10,7 +10,7 @@ ghost use Rattle.records.specs.Words.{isHeld};
 pub fn held_bit(word: u64) -> usize
     ensures { λ r. ⌜ (r ≡ heldBit word) × (r < 2) ⌝ }
 {
-    (word / 0x8000_0000_0000_0000) as usize
+    (word / records::HELD) as usize
 }
 
 // "a word without its held bit counts as empty"
