@@ -1,5 +1,6 @@
 // The language of grammars: what an image holds, which images are accepted, and what Ford's rules say that a node does
-// at a position of a text. This crate has definitions (specs/) and theorems (proofs/) and no code that runs.
+// at a position of a text. This crate has definitions (specs/) and theorems (proofs/), the refusals' numbers by name, and no code
+// that runs.
 
 pub mod numbers;
 

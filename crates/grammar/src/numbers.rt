@@ -38,7 +38,7 @@ pub const PAIR: u8 = 11;
 // "Reading: is each record met possible .., and no star round of length 0?"
 pub const RECORDS: u8 = 12;
 
-// "Plain reading: did every star round consume?"
+// "Plain reading: did every star round consume?" Under an accepted image every round does, so no call answers with this number.
 pub const STAR_ROUNDS: u8 = 13;
 
 // "Is the start pair's nesting at most 4,096?"
@@ -47,5 +47,5 @@ pub const NESTING: u8 = 14;
 // "Rows: do the rows fit?"
 pub const ROWS: u8 = 15;
 
-// A reading answers with a word: below this bound it is the number of a refusal, and no held word is.
+// The evaluator answers with a word: the number of a refusal is below this bound, and a held word is not.
 pub const BOUND: u64 = 16;
