@@ -9,7 +9,7 @@ use Rattle.promises.specs.declared.ListAnswer.{ListAnswer}
 use Rattle.promises.specs.declared.SheetReading.{SheetReading}
 use Rattle.promises.specs.Answers.{listNumber}
 use Rattle.promises.specs.Listing.{EndsAs, listed, no-slots, zeroed, ThenListed, SheetListed, ListPromise}
-use Rattle.replay.specs.Calls.{rowsIn}
+use Rattle.answered.specs.After.{rowsIn}
 
 ended :
     {img : List ℕ} {cap : ℕ} {x : SheetReading} {words R : List ℕ} {a : ListAnswer} {W′ R′ : List ℕ}

@@ -8,17 +8,10 @@ use Rattle.promises.specs.declared.OpenAnswer.{OpenAnswer}
 use Rattle.promises.specs.declared.EditAnswer.{EditAnswer}
 use Rattle.promises.specs.declared.ReadAnswer.{ReadAnswer}
 use Rattle.promises.specs.declared.ListAnswer.{ListAnswer}
+use Rattle.answered.specs.After.{afterOpen, afterEdit, rowsIn}
 use Rattle.promises.specs.Promises.{OpenPromise, EditPromise}
 use Rattle.promises.specs.Reading.{ReadPromise}
 use Rattle.promises.specs.Listing.{ListPromise}
-
-abbrev pub afterOpen : OpenAnswer → ℕ → ℕ
-afterOpen (OpenAnswer.Opened k) n = k
-afterOpen (OpenAnswer.Refused q) n = n
-
-abbrev pub afterEdit : EditAnswer → ℕ → ℕ
-afterEdit (EditAnswer.Edited x) n = x .length
-afterEdit (EditAnswer.Refused q) n = n
 
 pub record Opens (img text B W : List ℕ) (n next : ℕ) (B′ W′ : List ℕ) : Type 0 where
   pub answer : OpenAnswer
@@ -33,11 +26,6 @@ pub record Edits (img B : List ℕ) (n : ℕ) (W : List ℕ) (s e : ℕ) (r : Li
 pub record ReadsSheet (img B : List ℕ) (n : ℕ) (W W′ : List ℕ) : Type 0 where
   pub answer : ReadAnswer
   pub keeps : ReadPromise img B n W answer W′
-
--- The rows of an answer, none where the listing is refused.
-abbrev pub rowsIn : ListAnswer → ℕ
-rowsIn (ListAnswer.Listed x) = x .rows
-rowsIn (ListAnswer.Refused q) = 0
 
 pub record ListsSheet (img B : List ℕ) (n : ℕ) (W R : List ℕ) (count : ℕ) (W′ R′ : List ℕ) : Type 0 where
   pub answer : ListAnswer

@@ -3,28 +3,7 @@ use crate::answers;
 use crate::numbers;
 use crate::numbers::Numbers;
 use fields::Decoded;
-use promises::EditAnswer;
-use promises::OpenAnswer;
-ghost use mathlib.Core.Path.{_≡_};
-ghost use Rattle.replay.specs.Calls.{afterOpen, afterEdit, Opens, Edits, ReadsSheet};
-
-fn opened(answer: OpenAnswer, n: usize) -> usize
-    ensures { λ r. ⌜ r ≡ afterOpen answer n ⌝ }
-{
-    match answer {
-        OpenAnswer::Opened(length) => length,
-        OpenAnswer::Refused(_) => n,
-    }
-}
-
-fn edited(answer: EditAnswer, n: usize) -> usize
-    ensures { λ r. ⌜ r ≡ afterEdit answer n ⌝ }
-{
-    match answer {
-        EditAnswer::Edited(sheet) => sheet.length,
-        EditAnswer::Refused(_) => n,
-    }
-}
+ghost use Rattle.replay.specs.Calls.{Opens, Edits, ReadsSheet};
 
 fn open_text(
     line: usize,
@@ -38,7 +17,7 @@ fn open_text(
 {
     let answer = sheet::open::open(image, text, buffer, table);
     answers::of_open(line, answer);
-    opened(answer, n)
+    answered::opened(answer, n)
 }
 
 pub fn open(
@@ -80,7 +59,7 @@ fn edit_text(
 {
     let answer = sheet::edit::edit(image, buffer, n, table, s, e, replacement);
     answers::of_edit(line, answer);
-    edited(answer, n)
+    answered::edited(answer, n)
 }
 
 // An edit whose two numbers are read and whose replacement is still digits.

@@ -1,20 +1,9 @@
 // The listing, over what is lent to it: prints its answer and the rows that it wrote. The row slots are the program's own.
 use crate::answers;
 use fields::Number;
-use promises::ListAnswer;
 ghost use Prim.Native.Nat.{_≤_};
-ghost use mathlib.Core.Path.{_≡_};
 ghost use lib.ListN.{length};
-ghost use Rattle.replay.specs.Calls.{rowsIn, ListsSheet, ListsInto};
-
-fn rows_in(answer: ListAnswer) -> usize
-    ensures { λ r. ⌜ r ≡ rowsIn answer ⌝ }
-{
-    match answer {
-        ListAnswer::Listed(listing) => listing.rows,
-        ListAnswer::Refused(_) => 0,
-    }
-}
+ghost use Rattle.replay.specs.Calls.{ListsSheet, ListsInto};
 
 // The number of rows that the listing wrote into the slots.
 fn list_text(
@@ -30,7 +19,7 @@ fn list_text(
 {
     let answer = sheet::list::list_sheet(image, buffer, n, table, rows);
     answers::of_list(line, answer);
-    rows_in(answer)
+    answered::rows_in(answer)
 }
 
 // Prints the rows behind the answer.

@@ -1,0 +1,2 @@
+-- What a caller takes over from an answer.
+pub mod After
