@@ -29,9 +29,13 @@ fills-the-buffer cap n s e k h = record { room = omega (arith, h) }
 pub looks-at-the-end : (img : List ℕ) (n rule : ℕ) → rule < rules img → Question11 img n rule n
 looks-at-the-end img n rule h = record { rule-in = h; position-in = omega arith }
 
--- "The program gives the slot's word whole": a word without its held bit too.
-pub word-whole : (img W : List ℕ) (rule position w : ℕ) → LookUpValues img W rule position (LookUpAnswer.Word w) → w ≡ wordAt img W rule position
-word-whole img W rule position w v = v
+-- "The program gives the slot's word whole": also one without its held bit, as 5.
+pub unheld-word-given :
+    (img W : List ℕ) (rule position w : ℕ)
+    → wordAt img W rule position ≡ 5
+    → LookUpValues img W rule position (LookUpAnswer.Word w)
+    → w ≡ 5
+unheld-word-given img W rule position w e v = v ∙ e
 
 -- "words after it are never touched", by an opening.
 pub opening-keeps-the-rest :

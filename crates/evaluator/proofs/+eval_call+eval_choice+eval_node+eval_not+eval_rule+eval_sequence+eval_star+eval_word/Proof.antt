@@ -616,7 +616,7 @@ eval-sequence-eval-node-requires-2 t c κs =
     let after-eval-node : eval-sequence-place eval-sequence-lts.After-eval-node t = search in
     let start : eval-sequence-place eval-sequence-lts.Start t = search in
     let pre = start .pre in
-    (omega (arith, pre .0), (record { short = pre .1 .0 .short; here = omega (arith, length-within (pre .1 .0 .short) (omega (arith, pre .1 .0 .most)) (after-eval-node .eval-node .ensures) (else1 .if1 .left), c .length-of .ensures .0); most = omega (arith, pre .1 .0 .most) }, pre .1 .2))
+    (omega (arith, pre .0), (record { short = pre .1 .0 .short; here = omega (arith, length-within (pre .1 .0 .short) (omega (arith, pre .1 .0 .most)) (after-eval-node .eval-node .ensures) (else1 .if1 .left), c .length-of .ensures .0); most = omega (arith, pre .1 .0 .most) }, omega (arith, pre .1 .1, pre .1 .2)))
 
 eval-sequence-same-length-3 : (t : ℕ) → eval-sequence-lts.Need-same-length-3 (eval-sequence-claims t) (eval-sequence-at t) eval-sequence.Post
 eval-sequence-same-length-3 t c = search needs
