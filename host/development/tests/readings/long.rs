@@ -1,0 +1,61 @@
+//! Texts at and above the greatest length.
+
+use super::subject::Subject;
+use super::tally::Tally;
+use bannelgo_development::expr::{byte, not, or_else, star, then, Expr, Grammar};
+use bannelgo_development::numbering::{image_of, Numbering};
+use bannelgo_development::sheet::sheet;
+use bannelgo_development::sheet_text::long_sheet;
+use Expr::{AnyByte, Bytes, Call, Empty};
+
+const LENGTHS: [usize; 9] = [
+    65_533, 65_534, 65_535, 65_536, 65_537, 65_600, 70_000, 131_071, 131_072,
+];
+
+/// Each body with texts of each length.
+pub fn lengths() -> Tally {
+    let mut tally = Tally::listed("65,533 to 131,072 bytes").up_to(1_000_000);
+    let subjects: Vec<Subject> = bodies().map(with_letter_rule).into();
+    for length in LENGTHS {
+        for text in texts(length) {
+            for subject in &subjects {
+                tally.compare(subject, &text);
+            }
+        }
+        let subject = Subject::new(image_of(&sheet(), Numbering::Preorder));
+        tally.compare(&subject, &long_sheet(length));
+    }
+    tally
+}
+
+/// Rule 0 is the body, rule 1 a letter.
+fn with_letter_rule(body: Expr) -> Subject {
+    let rules = vec![body, Bytes(b'a', b'b')];
+    Subject::of(&Grammar { start: 0, rules }, Numbering::Preorder)
+}
+
+fn texts(length: usize) -> [Vec<u8>; 3] {
+    let same = vec![b'a'; length];
+    let mut last_differs = same.clone();
+    last_differs[length - 1] = b'x';
+    let in_turn = (0..length).map(|place| b"ab"[place % 2]).collect();
+    [same, last_differs, in_turn]
+}
+
+fn bodies() -> [Expr; 12] {
+    let all = || star(AnyByte);
+    [
+        Empty,
+        AnyByte,
+        all(),
+        then(all(), not(AnyByte)),
+        not(all()),
+        not(not(then(all(), not(AnyByte)))),
+        or_else(then(all(), byte(b'x')), AnyByte),
+        star(byte(b'a')),
+        then(Call(1), star(Call(1))),
+        then(star(Call(1)), byte(b'x')),
+        star(then(byte(b'a'), star(byte(b'b')))),
+        then(AnyByte, star(then(AnyByte, AnyByte))),
+    ]
+}

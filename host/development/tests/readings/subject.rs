@@ -1,0 +1,34 @@
+//! An image together with what the reference makes of it, so that many texts share one check.
+
+use bannelgo_development::expr::Grammar;
+use bannelgo_development::numbering::{image_of, Numbering};
+use bannelgo_development::plain_reading::Reading;
+use bannelgo_development::reference::{accepted_grammar, read};
+
+pub struct Subject {
+    pub image: Vec<u8>,
+    grammar: Result<Grammar, u64>,
+}
+
+impl Subject {
+    pub fn new(image: Vec<u8>) -> Subject {
+        let grammar = accepted_grammar(&image);
+        Subject { image, grammar }
+    }
+
+    pub fn of(grammar: &Grammar, numbering: Numbering) -> Subject {
+        Subject::new(image_of(grammar, numbering))
+    }
+
+    pub fn accepted(&self) -> bool {
+        self.grammar.is_ok()
+    }
+
+    /// The reference's answer; nothing where a reading without records has more than `most_work`.
+    pub fn read(&self, text: &[u8], most_work: u64) -> Option<Result<Reading, u64>> {
+        match &self.grammar {
+            Ok(grammar) => read(grammar, text, most_work),
+            Err(number) => Some(Err(*number)),
+        }
+    }
+}

@@ -1,0 +1,58 @@
+//! Sheets of gaps with 16 rules: keys that are typed, taken back and typed elsewhere.
+
+use super::session::Session;
+use super::tally::Tally;
+use bannelgo_development::calls::Call;
+use bannelgo_development::expr::Grammar;
+use bannelgo_development::generate::damage;
+use bannelgo_development::rng::Rng;
+use bannelgo_development::sheet::{sheet, sheet_of_days, sheet_of_lines};
+use bannelgo_development::sheet_text::{keys, long_sheet, long_sheet_of_days, PLANNERS_SHEET};
+
+pub fn sheets(seed: u64) -> Tally {
+    let mut tally = Tally::drawn("planners' sheets", seed);
+    let rng = &mut Rng::new(seed);
+    let grammars = [sheet(), sheet_of_lines(), sheet_of_days()];
+    for _ in 0..200 {
+        let mut text = match rng.below(3) {
+            0 => PLANNERS_SHEET.into(),
+            1 => long_sheet(rng.between(15, 600)),
+            _ => long_sheet_of_days(rng.between(15, 600)),
+        };
+        if rng.one_in(4) {
+            damage(rng, &mut text);
+        }
+        typing(&mut tally, rng, &grammars, &text);
+    }
+    tally
+}
+
+/// Types up to 40 keys, with a reading or listing after each and now and then a key that deletes.
+fn typing(tally: &mut Tally, rng: &mut Rng, grammars: &[Grammar], text: &[u8]) {
+    let cap = text.len() + rng.between(0, 50);
+    let grammar = rng.pick(grammars);
+    let mut session = Session::open(tally, rng, grammar, cap, text);
+    session.call(Call::Read);
+    let mut cursor = rng.below(text.len() + 1);
+    for key in keys().skip(rng.below(80)).take(rng.between(1, 40)) {
+        let full = session.ledger.text().len() == cap;
+        if cursor > 0 && (full || rng.one_in(8)) {
+            session.edit(cursor - 1, cursor, b"");
+            cursor -= 1;
+        } else {
+            let refused = session.edit(cursor, cursor, &[key]).number != 0;
+            cursor += usize::from(!refused);
+        }
+        match rng.one_in(4) {
+            true => session.list(rng),
+            false => drop(session.call(Call::Read)),
+        }
+        if rng.one_in(20) {
+            cursor = rng.below(session.ledger.text().len() + 1);
+        }
+        session.call(Call::LookUp {
+            rule: rng.below(16),
+            position: cursor,
+        });
+    }
+}

@@ -1,0 +1,119 @@
+//! Compares the two checkers image by image and counts the numbers.
+
+use bannelgo_development::expr::Grammar;
+use bannelgo_development::image_check::check_image;
+use bannelgo_development::numbering::{image_of, Numbering};
+use bannelgo_development::reference;
+use bannelgo_development::rng::Rng;
+use std::io::Write;
+
+/// The counts of one family of images.
+pub struct Tally {
+    name: &'static str,
+    seed: Option<u64>,
+    counts: [u64; 8],
+    mismatches: u64,
+    first_mismatch: Option<String>,
+}
+
+impl Tally {
+    /// A family without draws.
+    pub fn listed(name: &'static str) -> Tally {
+        Tally {
+            name,
+            seed: None,
+            counts: [0; 8],
+            mismatches: 0,
+            first_mismatch: None,
+        }
+    }
+
+    /// A family drawn with a seed.
+    pub fn drawn(name: &'static str, seed: u64) -> Tally {
+        Tally {
+            seed: Some(seed),
+            ..Tally::listed(name)
+        }
+    }
+
+    /// Asks both checkers about an image and returns the reference's number.
+    pub fn compare(&mut self, image: &[u8]) -> u64 {
+        let ours = check_image(image).number();
+        let reference = reference::check(image);
+        self.counts[reference as usize] += 1;
+        if ours != reference {
+            self.mismatches += 1;
+            self.first_mismatch
+                .get_or_insert_with(|| mismatch(image, ours, reference));
+        }
+        reference
+    }
+
+    /// Compares a grammar's image in each order of its nodes, the last one drawn.
+    pub fn compare_orders(&mut self, grammar: &Grammar, rng: &mut Rng) {
+        for numbering in [
+            Numbering::Preorder,
+            Numbering::LastRuleFirst,
+            Numbering::Interleaved,
+            Numbering::Shuffled(rng.draw()),
+        ] {
+            self.compare(&image_of(grammar, numbering));
+        }
+    }
+}
+
+fn mismatch(image: &[u8], ours: u64, reference: u64) -> String {
+    let hex: Vec<String> = image.iter().map(|byte| format!("{byte:02x}")).collect();
+    format!(
+        "ours {ours}, reference {reference}, {} bytes: {}",
+        image.len(),
+        hex.join(" ")
+    )
+}
+
+/// Prints a table of the families, then fails if an answer differs or a number is rare.
+pub fn settle(tallies: &[Tally]) {
+    let mut total = Tally::listed("total");
+    for tally in tallies {
+        for (sum, count) in total.counts.iter_mut().zip(tally.counts) {
+            *sum += count;
+        }
+        total.mismatches += tally.mismatches;
+    }
+    print_table(tallies, &total);
+    let failures: Vec<String> = tallies.iter().filter_map(failure).collect();
+    assert!(failures.is_empty(), "{}", failures.join("\n"));
+    let images: u64 = total.counts.iter().sum();
+    assert!(images >= 200_000, "only {images} images");
+    for (number, count) in total.counts.iter().enumerate() {
+        assert!(
+            *count >= 1_000,
+            "number {number} came up only {count} times"
+        );
+    }
+}
+
+fn failure(tally: &Tally) -> Option<String> {
+    let first = tally.first_mismatch.as_ref()?;
+    let Tally {
+        name, mismatches, ..
+    } = tally;
+    Some(format!("{name}: {mismatches} differ, the first: {first}"))
+}
+
+/// Writes to the standard output itself, which the test harness shows also for a passed test.
+fn print_table(tallies: &[Tally], total: &Tally) {
+    let mut text = format!("\n{:<32}{:>8}{:>8}", "family", "seed", "images");
+    for number in 0..8 {
+        text += &format!("{number:>8}");
+    }
+    for tally in tallies.iter().chain([total]) {
+        let seed = tally.seed.map_or("-".to_string(), |seed| seed.to_string());
+        let images: u64 = tally.counts.iter().sum();
+        text += &format!("\n{:<32}{seed:>8}{images:>8}", tally.name);
+        for count in tally.counts {
+            text += &format!("{count:>8}");
+        }
+    }
+    writeln!(std::io::stdout(), "{text}").expect("the standard output can be written");
+}
