@@ -9,7 +9,7 @@ use Rattle.promises.specs.declared.ReadAnswer.{ReadAnswer}
 use Rattle.promises.specs.declared.SheetReading.{SheetReading}
 use Rattle.promises.specs.declared.LookUpAnswer.{LookUpAnswer}
 use Rattle.promises.specs.declared.ListAnswer.{ListAnswer}
-use Rattle.bridge.specs.declared.fields.Fields.{Fields}
+use Rattle.bannelgo.specs.declared.fields.Fields.{Fields}
 
 -- A refusal has its number alone.
 abbrev pub refusal : ℕ → Fields

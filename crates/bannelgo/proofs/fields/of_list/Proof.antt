@@ -1,8 +1,8 @@
 use mathlib.Core.Path.{sym, ap, _∙_}
-use Rattle.bridge.specs.Fields.{readingFields, listFields}
+use Rattle.bannelgo.specs.Fields.{readingFields, listFields}
 use borrow.Author.Needs.{needs}
-use Rattle.bridge.proofs.fields.of_list.Statement.{statement}
-use Rattle.bridge.proofs.fields.of_list.Tie as tie
+use Rattle.bannelgo.proofs.fields.of_list.Statement.{statement}
+use Rattle.bannelgo.proofs.fields.of_list.Tie as tie
 
 enum-known-answer : tie.Need-enum-known-answer
 enum-known-answer c = search needs

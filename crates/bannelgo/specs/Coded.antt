@@ -1,4 +1,4 @@
--- What the functions that Rust calls promise: the fields of an answer that keeps the call's promise.
+-- What the sheet's exported calls promise: the fields of an answer that keeps the call's promise.
 use Prim.Native.Nat.{ℕ}
 use mathlib.Core.Path.{_≡_}
 use mathlib.Core.List.{List}
@@ -10,8 +10,8 @@ use Rattle.promises.specs.declared.ListAnswer.{ListAnswer}
 use Rattle.promises.specs.Promises.{OpenPromise, EditPromise, LookUpPromise}
 use Rattle.promises.specs.Reading.{ReadPromise}
 use Rattle.promises.specs.Listing.{ListPromise}
-use Rattle.bridge.specs.declared.fields.Fields.{Fields}
-use Rattle.bridge.specs.Fields.{openFields, editFields, readFields, lookUpFields, listFields}
+use Rattle.bannelgo.specs.declared.fields.Fields.{Fields}
+use Rattle.bannelgo.specs.Fields.{openFields, editFields, readFields, lookUpFields, listFields}
 
 pub record CodedOpen (img text B W : List ℕ) (f : Fields) (B′ W′ : List ℕ) : Type 0 where
   pub answer : OpenAnswer

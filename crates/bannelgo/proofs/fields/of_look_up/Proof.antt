@@ -1,12 +1,9 @@
 use borrow.Author.Needs.{needs}
-use Rattle.bridge.proofs.fields.of_open.Statement.{statement}
-use Rattle.bridge.proofs.fields.of_open.Tie as tie
+use Rattle.bannelgo.proofs.fields.of_look_up.Statement.{statement}
+use Rattle.bannelgo.proofs.fields.of_look_up.Tie as tie
 
 enum-known-answer : tie.Need-enum-known-answer
 enum-known-answer c = search needs
-
-wide-requires : tie.Need-wide-requires
-wide-requires c κs = search needs
 
 answered-requires : tie.Need-answered-requires
 answered-requires c κs = search needs
@@ -23,12 +20,11 @@ returns c = cc
 returns-2 : tie.Need-returns-2
 returns-2 c = cc
 
-pub of-open-spec : {M : Type 1} → statement M
-of-open-spec =
+pub of-look-up-spec : {M : Type 1} → statement M
+of-look-up-spec =
     tie.close
     (tie.spec
     enum-known-answer
-    wide-requires
     answered-requires
     enum-known-answer-2
     refused-requires

@@ -1,6 +1,6 @@
 use borrow.Author.Needs.{needs}
-use Rattle.bridge.proofs.fields.of_reading.Statement.{statement}
-use Rattle.bridge.proofs.fields.of_reading.Tie as tie
+use Rattle.bannelgo.proofs.fields.of_reading.Statement.{statement}
+use Rattle.bannelgo.proofs.fields.of_reading.Tie as tie
 
 outcome-number-requires : tie.Need-outcome-number-requires
 outcome-number-requires c κs = search needs

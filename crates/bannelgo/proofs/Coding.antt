@@ -10,8 +10,8 @@ use Rattle.promises.specs.declared.ReadAnswer.{ReadAnswer}
 use Rattle.promises.specs.declared.SheetReading.{SheetReading}
 use Rattle.promises.specs.declared.LookUpAnswer.{LookUpAnswer}
 use Rattle.promises.specs.declared.ListAnswer.{ListAnswer}
-use Rattle.bridge.specs.declared.fields.Fields.{Fields}
-use Rattle.bridge.specs.Fields.{openFields, editFields, readingFields, readFields, lookUpFields, listFields, outcomeNumber}
+use Rattle.bannelgo.specs.declared.fields.Fields.{Fields}
+use Rattle.bannelgo.specs.Fields.{openFields, editFields, readingFields, readFields, lookUpFields, listFields, outcomeNumber}
 
 -- Two codes with the same number.
 same-number : {a b : Fields} → a ≡ b → a .number ≡ b .number

@@ -1,8 +1,8 @@
 use mathlib.Core.Path.{ap}
-use Rattle.bridge.specs.Fields.{refusal}
+use Rattle.bannelgo.specs.Fields.{refusal}
 use borrow.Author.Needs.{needs}
-use Rattle.bridge.proofs.fields.refused.Statement.{statement}
-use Rattle.bridge.proofs.fields.refused.Tie as tie
+use Rattle.bannelgo.proofs.fields.refused.Statement.{statement}
+use Rattle.bannelgo.proofs.fields.refused.Tie as tie
 
 wide-byte-requires : tie.Need-wide-byte-requires
 wide-byte-requires c κs = search needs

@@ -7,7 +7,7 @@ use promises::ReadAnswer;
 use promises::SheetReading;
 use reading::plain::Outcome;
 ghost use mathlib.Core.Path.{_≡_};
-ghost use Rattle.bridge.specs.Fields.{refusal, openFields, editFields, readingFields, readFields, lookUpFields, listFields, outcomeNumber};
+ghost use Rattle.bannelgo.specs.Fields.{refusal, openFields, editFields, readingFields, readFields, lookUpFields, listFields, outcomeNumber};
 
 #[repr(C)]
 pub struct Fields {
