@@ -1,1 +1,69 @@
-//! Bannelgo.
+//! A formally verified, incremental reader for parsing expression grammars.
+//!
+//! A [`Sheet`] is a text that is being typed. It is read by a [`Grammar`], and what a rule gave at a
+//! position is kept as a record, so that the reading after a key evaluates only what the key changed.
+//! Each function behind these types is proved to give exactly what Ford's rules give.
+//!
+//! ```
+//! use bannelgo::grammar::{call, range, sequence, star, Grammar};
+//! use bannelgo::{Outcome, Sheet};
+//!
+//! # fn main() -> Result<(), Box<dyn std::error::Error>> {
+//! let grammar = Grammar::builder()
+//!     .rule("Number", sequence([call("Digit"), star(call("Digit"))]))
+//!     .rule("Digit", range(b'0', b'9'))
+//!     .build()?;
+//!
+//! let mut sheet = Sheet::open(&grammar, "12a", 16)?; // room for 16 bytes
+//! let first = sheet.read()?;
+//! assert_eq!(first.reading.outcome, Outcome::Part);
+//! assert_eq!(first.evaluations, 4);
+//!
+//! sheet.edit(2..3, "3")?; // the letter gives way to a digit
+//! let after = sheet.read()?;
+//! assert_eq!(after.reading.outcome, Outcome::Whole);
+//! assert_eq!(after.evaluations, 3);
+//!
+//! print!("{}", sheet.tree()?);
+//! # Ok(())
+//! # }
+//! ```
+//!
+//! - [`grammar`]: writing a grammar, rule by rule; or [`Grammar::from_image`] for one that is there as
+//!   bytes.
+//! - [`Sheet`]: open, edit, read, look up, list.
+//! - [`Tree`]: the calls that made a match, with rule names and texts.
+//! - [`check_image`] and [`plain_reading`]: single calls without records.
+//! - [`lending`]: the sheet's calls over buffers of your own.
+//! - [`Refusal`]: why there is no answer. No argument makes a call panic.
+//!
+//! A reading, a plain reading or a listing of great nesting needs up to 2 MiB of the thread's stack,
+//! which is what Rust gives a thread by default.
+
+#![deny(missing_docs, missing_debug_implementations)]
+
+pub mod grammar;
+mod image;
+pub mod lending;
+mod place;
+mod plain;
+#[doc(hidden)]
+pub mod raw;
+mod reading;
+mod record;
+mod refusal;
+mod rows;
+mod sheet;
+
+pub use grammar::Grammar;
+pub use image::{check_image, Fault};
+pub use place::Place;
+pub use plain::plain_reading;
+pub use reading::{Edited, Outcome, Reading, SheetReading};
+pub use record::Record;
+pub use refusal::{LoanFault, Refusal};
+pub use rows::{Children, DownTo, Listing, Node, Row, Tree};
+pub use sheet::{Sheet, MOST_ROWS};
+
+/// The most bytes that a text, and the room for it, can have.
+pub const MOST_BYTES: usize = 65_535;

@@ -1,6 +1,7 @@
 //! The calls over an open sheet and what they answer, as data.
 
-use crate::plain_reading::Reading;
+use bannelgo::raw::Fields;
+use bannelgo::{Edited, Grammar, Listing, Refusal, Sheet, SheetReading};
 use std::fmt;
 
 /// A call with what it itself brings.
@@ -21,41 +22,6 @@ pub enum Call {
     List {
         slots: usize,
     },
-}
-
-/// What an edit answers.
-#[derive(Clone, Copy, Debug, PartialEq, Eq)]
-pub struct Edited {
-    /// The new length of the text.
-    pub length: usize,
-    /// The number of pairs that stand.
-    pub standing: usize,
-}
-
-/// What a reading of a sheet answers.
-#[derive(Clone, Copy, Debug, PartialEq, Eq)]
-pub struct SheetReading {
-    pub reading: Reading,
-    /// The number of pairs whose body was evaluated.
-    pub evaluations: usize,
-}
-
-/// A call that made the match.
-#[derive(Clone, Copy, Debug, PartialEq, Eq)]
-pub struct Row {
-    pub rule: u8,
-    /// The number of rows of the calls around it.
-    pub depth: usize,
-    pub start: usize,
-    pub length: usize,
-}
-
-/// What a listing answers.
-#[derive(Clone, Debug, PartialEq, Eq)]
-pub struct Listing {
-    pub read: SheetReading,
-    /// Parents first, left to right.
-    pub rows: Vec<Row>,
 }
 
 /// What a call answers where it is not refused.
@@ -86,22 +52,47 @@ impl fmt::Display for Call {
     }
 }
 
-impl fmt::Display for SheetReading {
-    fn fmt(&self, out: &mut fmt::Formatter<'_>) -> fmt::Result {
-        let SheetReading {
-            reading,
-            evaluations,
-        } = self;
-        write!(out, "{reading}, evaluations {evaluations}")
+/// Opens a sheet by the grammar in an image; a refusal is one of 1 to 8.
+pub fn open_image(image: &[u8], text: &[u8], room: usize) -> Result<Sheet, Refusal> {
+    Sheet::open(&Grammar::from_image(image)?, text, room)
+}
+
+/// Makes any of these calls; where it is refused, its number.
+pub fn ask(sheet: &mut Sheet, call: &Call) -> Result<Answer, u64> {
+    let answer = match call {
+        Call::Edit {
+            start,
+            end,
+            replacement,
+        } => sheet.edit(*start..*end, replacement).map(Answer::Edited),
+        Call::Read => sheet.read().map(Answer::Reading),
+        Call::LookUp { rule, position } => sheet.word(*rule, *position).map(Answer::Word),
+        Call::List { slots } => sheet.list(*slots).map(Answer::Listing),
+    };
+    answer.map_err(|refusal| number_of(&refusal))
+}
+
+/// The number of a refusal. What the proved library never answers is above every number.
+pub fn number_of(refusal: &Refusal) -> u64 {
+    refusal.number().map_or(u64::MAX, u64::from)
+}
+
+impl Answer {
+    /// The numbers that stand for it.
+    pub fn fields(&self) -> Fields {
+        match self {
+            Answer::Edited(edited) => Fields::of_edit(*edited),
+            Answer::Reading(read) => Fields::of_reading(*read),
+            Answer::Word(word) => Fields::of_word(*word),
+            Answer::Listing(listing) => Fields::of_listing(listing.read, listing.rows.len()),
+        }
     }
 }
 
 impl fmt::Display for Answer {
     fn fmt(&self, out: &mut fmt::Formatter<'_>) -> fmt::Result {
         match self {
-            Answer::Edited(Edited { length, standing }) => {
-                write!(out, "length {length}, {standing} stand")
-            }
+            Answer::Edited(edited) => write!(out, "{edited}"),
             Answer::Reading(read) => write!(out, "{read}"),
             Answer::Word(word) => write!(out, "word {word:#018x}"),
             Answer::Listing(Listing { read, rows }) => write!(out, "{read}, {} rows", rows.len()),

@@ -2,12 +2,12 @@
 
 use bannelgo_development::big_images::{blocks, relay};
 use bannelgo_development::expr::{star, then, Expr, Grammar};
+use bannelgo_development::gap_sheet::sheet;
 use bannelgo_development::generate::{guarded, wild, TASTES};
 use bannelgo_development::numbering::{image_of, words_of, Numbering};
 use bannelgo_development::reference::read_grammar;
 use bannelgo_development::rng::Rng;
 use bannelgo_development::samples::D2;
-use bannelgo_development::sheet::sheet;
 
 const ORDERS: [Numbering; 4] = [
     Numbering::Preorder,

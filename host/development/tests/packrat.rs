@@ -1,12 +1,12 @@
 //! The benchmark's packrat parser and its sheets: the parser reads what the reference reads, and every
 //! key leaves a sheet that is read whole.
 
+use bannelgo_development::gap_sheet::{sheet, sheet_of_days, sheet_of_lines};
+use bannelgo_development::gap_text::{keys, long_sheet, long_sheet_of_days, typing_places};
 use bannelgo_development::generate::{damage, guarded, small_grammar, text_of};
 use bannelgo_development::packrat::Packrat;
 use bannelgo_development::reference::machine::evaluate_start;
 use bannelgo_development::rng::Rng;
-use bannelgo_development::sheet::{sheet, sheet_of_days, sheet_of_lines};
-use bannelgo_development::sheet_text::{keys, long_sheet, long_sheet_of_days, typing_places};
 
 #[test]
 fn packrat_and_reference_agree() {

@@ -1,6 +1,7 @@
 //! The word that the library gives for a plain reading, bit by bit.
 
-use bannelgo_development::plain_reading::{Outcome, Reading, Refusal};
+use bannelgo::raw::Unanswered;
+use bannelgo::{Outcome, Reading};
 
 const ANSWERED: u64 = 1 << 63;
 const MATCHED: u64 = 1 << 62;
@@ -63,7 +64,7 @@ fn whole_is_the_length_of_the_text() {
 
 fn expect_unknown(word: u64, n: usize) {
     let read = Reading::from_word(word, n);
-    assert_eq!(read, Err(Refusal::UnknownWord(word)), "{word:#x}");
+    assert_eq!(read, Err(Unanswered::Unknown(vec![word])), "{word:#x}");
 }
 
 #[test]
@@ -83,11 +84,11 @@ fn other_words_are_unknown() {
 
 #[test]
 fn refusals_are_numbers_of_questions() {
-    let known = [1, 2, 3, 4, 5, 6, 7, 8, 13, 14];
+    let known = [1, 2, 3, 4, 5, 6, 7, 8, 14];
     for number in 0..100 {
         let expected = match known.contains(&number) {
-            true => Refusal::Question(number),
-            false => Refusal::UnknownWord(number),
+            true => Unanswered::Number(number as u8),
+            false => Unanswered::Unknown(vec![number]),
         };
         assert_eq!(Reading::from_word(number, 0), Err(expected));
     }

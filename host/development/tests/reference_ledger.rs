@@ -1,9 +1,10 @@
 //! The ledger by hand-worked cases, and against the definitions over any lent words.
 
-use bannelgo_development::calls::{Answer, Call, Edited, SheetReading};
+use bannelgo::{Edited, SheetReading};
+use bannelgo::{Outcome, Reading};
+use bannelgo_development::calls::{Answer, Call};
 use bannelgo_development::expr::{then, Expr, Grammar};
 use bannelgo_development::generate::{small_grammar, text_of, Typist};
-use bannelgo_development::plain_reading::{Outcome, Reading};
 use bannelgo_development::reference::ledger::Ledger;
 use bannelgo_development::reference::lent::Loan;
 use bannelgo_development::reference::record::Fields;

@@ -1,6 +1,6 @@
 //! The rows written apart: cases worked out by hand, and a plain recursion over small grammars.
 
-use bannelgo_development::calls::Row;
+use bannelgo::Row;
 use bannelgo_development::expr::{byte, not, or_else, sequence, star, then, Expr, Grammar};
 use bannelgo_development::generate::{small_grammar, some_letters, text_of};
 use bannelgo_development::reference::pair_map::PairMap;
@@ -9,7 +9,7 @@ use bannelgo_development::rng::Rng;
 use Expr::{AnyByte, Call, Empty};
 
 /// Rule, depth, start, length.
-type Fields = (u8, usize, usize, usize);
+type Fields = (usize, usize, usize, usize);
 
 fn row((rule, depth, start, length): Fields) -> Row {
     Row {

@@ -1,13 +1,14 @@
 //! Readings that are worked out by hand, made by the library and by both readers of the reference.
 
+use bannelgo::Outcome::{self, Nothing, Part, Whole};
+use bannelgo::{plain_reading, Reading};
+use bannelgo_development::calls::number_of;
 use bannelgo_development::expr::{byte, not, or_else, sequence, star, then, Expr, Grammar};
+use bannelgo_development::gap_sheet::sheet;
+use bannelgo_development::gap_text::{long_sheet, PLANNERS_SHEET};
 use bannelgo_development::numbering::{image_of, Numbering};
-use bannelgo_development::plain_reading::Outcome::{self, Nothing, Part, Whole};
-use bannelgo_development::plain_reading::{plain_reading, Reading, Refusal};
 use bannelgo_development::reference::{self, recursive};
 use bannelgo_development::samples::{D2, M10};
-use bannelgo_development::sheet::sheet;
-use bannelgo_development::sheet_text::{long_sheet, PLANNERS_SHEET};
 use bannelgo_development::small_stack::{on_small_stack, on_stack_of};
 use Expr::{AnyByte, Bytes, Call, Empty};
 
@@ -15,8 +16,9 @@ use Expr::{AnyByte, Bytes, Call, Empty};
 fn expect(image: &[u8], text: &[u8], expected: Result<Reading, u64>) {
     let (lent_image, lent_text) = (image.to_vec(), text.to_vec());
     let ours = on_small_stack(move || plain_reading(&lent_image, &lent_text));
+    let ours = ours.map_err(|refusal| number_of(&refusal));
     let shown = String::from_utf8_lossy(&text[..text.len().min(40)]);
-    assert_eq!(ours, expected.map_err(Refusal::Question), "ours, {shown:?}");
+    assert_eq!(ours, expected, "ours, {shown:?}");
 
     let grammar = reference::accepted_grammar(image).expect("the image is accepted");
     let machine = reference::read(&grammar, text, u64::MAX);

@@ -1,15 +1,15 @@
 //! Listings by the safe `Sheet`: the paper's M6, deep brackets, rows past counting, and rows in words.
 
-use bannelgo_development::bridge::{AnswerFields, Refusal, Sheet};
-use bannelgo_development::calls::{Listing, Row};
+use bannelgo::Outcome::{Nothing, Whole};
+use bannelgo::{Listing, Refusal, Row, Sheet, MOST_ROWS};
+use bannelgo_development::calls::open_image;
 use bannelgo_development::expr::{byte, or_else, then, Expr, Grammar};
 use bannelgo_development::numbering::{image_of, Numbering};
-use bannelgo_development::plain_reading::Outcome::{Nothing, Whole};
 use bannelgo_development::samples::{D2, M10};
 use bannelgo_development::small_stack::on_small_stack;
 
 /// Rule, depth, start, length.
-fn row((rule, depth, start, length): (u8, usize, usize, usize)) -> Row {
+fn row((rule, depth, start, length): (usize, usize, usize, usize)) -> Row {
     Row {
         rule,
         depth,
@@ -19,7 +19,7 @@ fn row((rule, depth, start, length): (u8, usize, usize, usize)) -> Row {
 }
 
 fn open(image: &[u8], text: &str) -> Sheet {
-    Sheet::open(image, text.as_bytes(), text.len()).expect("the sheet is opened")
+    open_image(image, text.as_bytes(), text.len()).expect("the sheet is opened")
 }
 
 #[test]
@@ -33,15 +33,15 @@ fn marked_6() {
     };
     expect(sheet.list(3).expect("3 rows"), 4);
     expect(sheet.list(100).expect("3 rows"), 0);
-    assert_eq!(sheet.list(2), Err(Refusal::Question(15)));
+    assert_eq!(sheet.list(2), Err(Refusal::Rows { slots: 2 }));
 }
 
 #[test]
 fn too_many_rows_leave_the_records() {
     let mut sheet = open(&D2, "12");
-    assert_eq!(sheet.look_up(0, 0), Ok(0));
-    assert_eq!(sheet.list(2), Err(Refusal::Question(15)));
-    assert_eq!(sheet.look_up(0, 0), Ok(0xC000_0008_0003_0002));
+    assert_eq!(sheet.word(0, 0), Ok(0));
+    assert_eq!(sheet.list(2), Err(Refusal::Rows { slots: 2 }));
+    assert_eq!(sheet.word(0, 0), Ok(0xC000_0008_0003_0002));
     assert_eq!(sheet.read().expect("a reading").evaluations, 0);
 }
 
@@ -62,7 +62,7 @@ fn brackets_under(rule_0: Expr) -> Vec<u8> {
 }
 
 /// A row for each bracket and one behind the last, each inside the one before.
-fn nested(rule: u8, depth: usize) -> impl Iterator<Item = Row> {
+fn nested(rule: usize, depth: usize) -> impl Iterator<Item = Row> {
     let starts = 0..=BRACKETS;
     starts.map(move |start| row((rule, depth + start, start, BRACKETS - start)))
 }
@@ -84,7 +84,7 @@ fn marked_10_and_its_neighbours() {
             .eq([outer].into_iter().chain(nested(1, 1))));
 
         let too_deep = brackets_under(then(Expr::Empty, Expr::Call(1)));
-        assert_eq!(list(&too_deep), Err(Refusal::Question(14)));
+        assert_eq!(list(&too_deep), Err(Refusal::Nesting));
     });
 }
 
@@ -95,28 +95,8 @@ fn counting_ends_at_the_first_row_too_many() {
     let rules = (1..64).map(twice).chain([Expr::Empty]).collect();
     let image = image_of(&Grammar { start: 0, rules }, Numbering::Preorder);
     let mut sheet = open(&image, "");
-    for slots in [0, 1, 63, 64, 65_536, 1_000_000] {
-        assert_eq!(sheet.list(slots), Err(Refusal::Question(15)));
+    for slots in [0, 1, 63, 64, 1_024, 1_025, 65_536, 1_000_000] {
+        assert_eq!(sheet.list(slots), Err(Refusal::Rows { slots }));
     }
     assert_eq!(sheet.read().expect("a reading").evaluations, 0);
-}
-
-#[test]
-fn other_rows_are_unknown() {
-    let unknown = |fields| Err(Refusal::UnknownFields(fields));
-    let mut fields = AnswerFields::of_number(0);
-    fields.outcome = 2;
-    fields.value = 1;
-    assert_eq!(fields.listed(&[]), unknown(fields));
-    let listed = fields.listed(&[0x3F00_0FFF_FFFE_0001, 1 << 48]);
-    let rows = vec![row((63, 4_095, 65_534, 1))];
-    assert_eq!(listed.expect("a listing").rows, rows);
-    for bit in 48..56 {
-        let word = 1 << bit;
-        assert_eq!(fields.listed(&[word]), Err(Refusal::UnknownRow(word)));
-    }
-    fields.number = 15;
-    assert_eq!(fields.listed(&[0]), unknown(fields));
-    fields = AnswerFields::of_number(15);
-    assert_eq!(fields.listed(&[0]), Err(Refusal::Question(15)));
 }

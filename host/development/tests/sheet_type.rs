@@ -1,19 +1,19 @@
 //! The safe `Sheet`: the paper's marked cases, lists of calls, and refusals in words.
 
+use bannelgo::Outcome::{self, Nothing, Part, Whole};
+use bannelgo::Reading;
+use bannelgo::{Edited, SheetReading};
 use bannelgo_development::bridge::{AnswerFields, Refusal, Sheet};
-use bannelgo_development::calls::{Call, Edited, SheetReading};
+use bannelgo_development::calls::Call;
 use bannelgo_development::generate::{small_grammar, text_of, Typist};
 use bannelgo_development::numbering::{image_of, Numbering};
-use bannelgo_development::plain_reading::Outcome::{self, Nothing, Part, Whole};
-use bannelgo_development::plain_reading::Reading;
-use bannelgo_development::questions::question_in_words;
 use bannelgo_development::reference::ledger::Ledger;
 use bannelgo_development::rng::Rng;
-use bannelgo_development::samples::{D2, M10, SAMPLES};
+use bannelgo_development::samples::{D2, M10};
 use bannelgo_development::small_stack::on_small_stack;
 
 fn open(image: &[u8], text: &str) -> Sheet {
-    Sheet::open(image, text.as_bytes(), text.len() + 5).expect("the sheet is opened")
+    open_image(image, text.as_bytes(), text.len() + 5).expect("the sheet is opened")
 }
 
 fn edited(length: usize, standing: usize) -> Result<Edited, Refusal> {
@@ -47,19 +47,19 @@ fn m1() -> Sheet {
 #[test]
 fn marked_1() {
     let sheet = m1();
-    assert_eq!(sheet.look_up(0, 0), Ok(0xC000_0008_0003_0002));
-    assert_eq!(sheet.look_up(1, 2), Ok(0x8000_0002_0001_0000));
-    assert_eq!(sheet.look_up(0, 1), Ok(0));
+    assert_eq!(sheet.word(0, 0), Ok(0xC000_0008_0003_0002));
+    assert_eq!(sheet.word(1, 2), Ok(0x8000_0002_0001_0000));
+    assert_eq!(sheet.word(0, 1), Ok(0));
     assert_eq!(sheet.text(), b"12a");
-    assert_eq!(sheet.cap(), 8);
+    assert_eq!(sheet.room(), 8);
 }
 
 #[test]
 fn marked_2_and_3() {
     let mut sheet = m1();
-    assert_eq!(sheet.edit(2, 3, b""), edited(2, 2));
+    assert_eq!(sheet.edit(2..3, b""), edited(2, 2));
     assert_eq!(sheet.read(), read((Whole, 2, 3, 4, 2)));
-    assert_eq!(sheet.edit(0, 0, b"7"), edited(3, 4));
+    assert_eq!(sheet.edit(0..0, b"7"), edited(3, 4));
     assert_eq!(sheet.read(), read((Whole, 3, 4, 4, 2)));
     assert_eq!(sheet.text(), b"712");
 }
@@ -67,7 +67,7 @@ fn marked_2_and_3() {
 #[test]
 fn marked_4() {
     let mut sheet = m1();
-    assert_eq!(sheet.edit(2, 2, b""), edited(3, 3));
+    assert_eq!(sheet.edit(2..2, b""), edited(3, 3));
     assert_eq!(sheet.read(), read((Part, 2, 3, 4, 1)));
 }
 
@@ -81,7 +81,7 @@ fn marked_5() {
 #[test]
 fn the_tempting_drop_by_length() {
     let mut sheet = m1();
-    assert_eq!(sheet.edit(2, 3, b"3"), edited(3, 2));
+    assert_eq!(sheet.edit(2..3, b"3"), edited(3, 2));
     assert_eq!(sheet.read(), read((Whole, 3, 4, 4, 3)));
 }
 
@@ -90,10 +90,10 @@ fn marked_10() {
     on_small_stack(|| {
         let mut sheet = open(&M10, &"(".repeat(1_364));
         assert_eq!(sheet.read(), read((Whole, 1_364, 1_365, 4_095, 1_365)));
-        assert_eq!(sheet.edit(0, 0, b"("), edited(1_365, 1_365));
-        assert_eq!(sheet.read(), Err(Refusal::Question(14)));
-        assert_eq!(sheet.look_up(0, 1_365), Ok(0));
-        assert_eq!(sheet.edit(0, 1, b""), edited(1_364, 0));
+        assert_eq!(sheet.edit(0..0, b"("), edited(1_365, 1_365));
+        assert_eq!(sheet.read(), Err(Refusal::Nesting));
+        assert_eq!(sheet.word(0, 1_365), Ok(0));
+        assert_eq!(sheet.edit(0..1, b""), edited(1_364, 0));
         assert_eq!(sheet.read(), read((Whole, 1_364, 1_365, 4_095, 1_365)));
     });
 }
@@ -108,7 +108,7 @@ fn sheet_and_ledger_answer_the_same() {
         let text = text_of(rng, &grammar, 20);
         let cap = text.len() + rng.below(8);
         let mut ledger = Ledger::open(&grammar, cap, &text);
-        let mut sheet = Sheet::open(&image, &text, cap).expect("the sheet is opened");
+        let mut sheet = open_image(&image, &text, cap).expect("the sheet is opened");
         let mut typist = Typist::default();
         for _ in 0..10 {
             let slots = rng.below(30);
@@ -116,57 +116,9 @@ fn sheet_and_ledger_answer_the_same() {
                 0 => Call::List { slots },
                 _ => typist.call(rng, &grammar, ledger.text(), cap),
             };
-            let expected = ledger.call(&call).map_err(Refusal::Question);
-            assert_eq!(sheet.call(&call), expected, "{call}, {grammar:?}");
+            let expected = ledger.call(&call);
+            assert_eq!(ask(&mut sheet, &call), expected, "{call}, {grammar:?}");
             assert_eq!(sheet.text(), ledger.text(), "{call}, {grammar:?}");
         }
     }
-}
-
-#[test]
-fn refusals_have_numbers_and_words() {
-    let refused = |number, refusal: Refusal| {
-        assert_eq!(refusal, Refusal::Question(number));
-        assert_eq!(refusal.in_words(), question_in_words(number));
-        assert_eq!(refusal.to_string(), format!("refused with {number}"));
-    };
-    let mut sheet = m1();
-    refused(9, sheet.edit(1, 0, b"").unwrap_err());
-    refused(9, sheet.edit(0, 4, b"").unwrap_err());
-    refused(10, sheet.edit(3, 3, b"456789").unwrap_err());
-    refused(11, sheet.look_up(2, 0).unwrap_err());
-    refused(11, sheet.look_up(0, 4).unwrap_err());
-    refused(15, sheet.list(2).unwrap_err());
-    assert_eq!(sheet.text(), b"12a");
-    assert_eq!(sheet.read(), read((Part, 2, 3, 4, 0)));
-
-    let opening = |image: &[u8], text: &str, cap| Sheet::open(image, text.as_bytes(), cap).err();
-    for sample in SAMPLES.iter().filter(|sample| sample.number != 0) {
-        refused(sample.number, opening(sample.image, "", 9).unwrap());
-    }
-    refused(1, opening(&[], "", 9).unwrap());
-    refused(3, opening(&D2[..5], "", 9).unwrap());
-    refused(8, opening(&D2, "123", 2).unwrap());
-    refused(8, opening(&D2, "123", 65_536).unwrap());
-    refused(8, opening(&D2, "123", usize::MAX).unwrap());
-    assert!(opening(&D2, "123", 3).is_none());
-    assert!(opening(&D2, "123", 65_535).is_none());
-    assert!(opening(&D2, "", 0).is_none());
-}
-
-#[test]
-fn other_fields_are_unknown() {
-    let unknown = |fields: AnswerFields| Err(Refusal::UnknownFields(fields));
-    let mut fields = AnswerFields::of_number(13);
-    assert_eq!(fields.word(), unknown(fields));
-    fields = AnswerFields::of_number(14);
-    assert_eq!(fields.word(), Err(Refusal::Question(14)));
-    fields.length = 1;
-    assert_eq!(fields.word(), unknown(fields));
-    fields.number = 0;
-    assert_eq!(fields.word(), unknown(fields));
-    assert_eq!(fields.opened(), Ok(1));
-    fields.outcome = 3;
-    assert_eq!(fields.read(), Err(Refusal::UnknownFields(fields)));
-    assert_eq!(fields.listed(&[]), Err(Refusal::UnknownFields(fields)));
 }

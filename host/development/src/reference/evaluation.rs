@@ -1,6 +1,6 @@
 //! An evaluation and the ways to combine evaluations, by the paper's sentences one after the other.
 
-use crate::plain_reading::{Outcome, Reading};
+use bannelgo::{Outcome, Reading};
 
 /// "An evaluation has an outcome, a length, an examined length and a nesting."
 #[derive(Clone, Copy, Debug, PartialEq, Eq)]

@@ -9,8 +9,9 @@ use super::reading::{of_start, MOST_NESTING};
 use super::record::true_word;
 use super::rows::rows;
 use super::Refusal;
-use crate::calls::{Answer, Call, Edited, Listing, Row, SheetReading};
+use crate::calls::{Answer, Call};
 use crate::expr::Grammar;
+use bannelgo::{Edited, Listing, Row, SheetReading};
 use std::collections::BTreeSet;
 
 pub struct Ledger<'g> {

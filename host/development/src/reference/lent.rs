@@ -5,8 +5,9 @@
 
 use super::record::Fields;
 use super::Refusal;
-use crate::calls::{Call, Edited};
+use crate::calls::Call;
 use crate::expr::Grammar;
+use bannelgo::Edited;
 
 /// What a call over a sheet is lent.
 #[derive(Clone, Debug, PartialEq, Eq)]

@@ -9,8 +9,9 @@ use super::pair_map::PairMap;
 use super::reading::MOST_NESTING;
 use super::record::{true_word, Fields};
 use super::Refusal;
-use crate::calls::{Answer, Call, Listing};
+use crate::calls::{Answer, Call};
 use crate::expr::Grammar;
+use bannelgo::Listing;
 
 /// What a listing answers; nothing where the paper leaves it free. The loan fails no question.
 pub fn list(grammar: &Grammar, loan: &mut Loan, slots: usize) -> Option<Result<Listing, Refusal>> {

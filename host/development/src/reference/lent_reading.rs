@@ -13,8 +13,8 @@ use super::pair_map::PairMap;
 use super::reading::MOST_NESTING;
 use super::record::Fields;
 use super::Refusal;
-use crate::calls::SheetReading;
 use crate::expr::{Expr, Grammar};
+use bannelgo::SheetReading;
 
 /// What a reading answers; nothing where the paper leaves it free. The loan fails no question.
 pub fn read(grammar: &Grammar, loan: &mut Loan) -> Option<Result<SheetReading, Refusal>> {

@@ -3,7 +3,7 @@
 use super::machine::{evaluate_start, Found};
 use super::Refusal;
 use crate::expr::Grammar;
-use crate::plain_reading::{Outcome, Reading};
+use bannelgo::{Outcome, Reading};
 
 /// The longest text that is read. Question 8 of a plain reading.
 pub const LONGEST_TEXT: usize = 65_535;

@@ -6,7 +6,7 @@ use super::evaluation::{Evaluation, Rounds};
 use super::reading::{LONGEST_TEXT, MOST_NESTING};
 use super::Refusal;
 use crate::expr::{Expr, Grammar};
-use crate::plain_reading::Reading;
+use bannelgo::Reading;
 
 /// Reads `text` by an accepted grammar: a reading, or 8 or 14.
 pub fn read(grammar: &Grammar, text: &[u8]) -> Result<Reading, Refusal> {

@@ -6,8 +6,8 @@
 
 use super::machine::{evaluate_pair, Found, Pair};
 use super::pair_map::PairMap;
-use crate::calls::Row;
 use crate::expr::{Expr, Grammar};
+use bannelgo::Row;
 
 /// The rows of a text; nothing where there are more than `most`. `kept` is as in `evaluate_pair`.
 pub fn rows(
@@ -27,7 +27,7 @@ pub fn rows(
         }
         let length = end - start;
         rows.push(Row {
-            rule,
+            rule: usize::from(rule),
             depth,
             start,
             length,
@@ -113,7 +113,7 @@ impl Body<'_> {
 
 /// "A row is 64 bits: rule 8, zero 8, depth 16 (rows of the calls around it), start 16, length 16."
 pub fn word(row: &Row) -> u64 {
-    let rule_and_zero = usize::from(row.rule) << 8;
+    let rule_and_zero = row.rule << 8;
     let quarters = [rule_and_zero, row.depth, row.start, row.length];
     quarters.into_iter().fold(0, |word, quarter| {
         let quarter = u16::try_from(quarter).expect("a field fits its width");

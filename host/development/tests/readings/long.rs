@@ -3,9 +3,9 @@
 use super::subject::Subject;
 use super::tally::Tally;
 use bannelgo_development::expr::{byte, not, or_else, star, then, Expr, Grammar};
+use bannelgo_development::gap_sheet::sheet;
+use bannelgo_development::gap_text::long_sheet;
 use bannelgo_development::numbering::{image_of, Numbering};
-use bannelgo_development::sheet::sheet;
-use bannelgo_development::sheet_text::long_sheet;
 use Expr::{AnyByte, Bytes, Call, Empty};
 
 const LENGTHS: [usize; 9] = [

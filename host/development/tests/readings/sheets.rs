@@ -2,11 +2,11 @@
 
 use super::subject::Subject;
 use super::tally::Tally;
+use bannelgo_development::gap_sheet::sheet;
+use bannelgo_development::gap_text::{long_sheet, PLANNERS_SHEET};
 use bannelgo_development::generate::damage;
 use bannelgo_development::numbering::Numbering;
 use bannelgo_development::rng::Rng;
-use bannelgo_development::sheet::sheet;
-use bannelgo_development::sheet_text::{long_sheet, PLANNERS_SHEET};
 
 pub fn sheets(seed: u64) -> Tally {
     let mut tally = Tally::drawn("sheets, cut and damaged", seed).up_to(100_000);

@@ -1,8 +1,8 @@
 //! An image together with what the reference makes of it, so that many texts share one check.
 
+use bannelgo::Reading;
 use bannelgo_development::expr::Grammar;
 use bannelgo_development::numbering::{image_of, Numbering};
-use bannelgo_development::plain_reading::Reading;
 use bannelgo_development::reference::{accepted_grammar, read};
 
 pub struct Subject {

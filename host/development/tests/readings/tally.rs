@@ -1,7 +1,8 @@
 //! Compares the two readings pair by pair and counts the answers.
 
 use super::subject::Subject;
-use bannelgo_development::plain_reading::{plain_reading, Outcome, Reading, Refusal};
+use bannelgo::{plain_reading, Outcome, Reading};
+use bannelgo_development::calls::number_of;
 use std::io::Write;
 
 /// A pair on which a reading without records makes more evaluations than this is skipped.
@@ -83,11 +84,10 @@ impl Tally {
             return;
         };
         self.counts[place(reference)] += 1;
-        let expected = reference.map_err(Refusal::Question);
-        let ours = plain_reading(&subject.image, text);
-        if ours != expected {
+        let ours = plain_reading(&subject.image, text).map_err(|refusal| number_of(&refusal));
+        if ours != reference {
             let (name, seed, pair) = (self.name, self.seed(), self.pairs());
-            let shown = mismatch(&subject.image, text, ours, expected);
+            let shown = mismatch(&subject.image, text, ours, reference);
             panic!("{name}, seed {seed}, pair {pair}\n{shown}");
         }
     }
@@ -97,7 +97,7 @@ impl Tally {
     }
 }
 
-type Answer = Result<Reading, Refusal>;
+type Answer = Result<Reading, u64>;
 
 fn mismatch(image: &[u8], text: &[u8], ours: Answer, reference: Answer) -> String {
     [
@@ -112,7 +112,7 @@ fn mismatch(image: &[u8], text: &[u8], ours: Answer, reference: Answer) -> Strin
 fn in_words(answer: Answer) -> String {
     match answer {
         Ok(reading) => reading.to_string(),
-        Err(refusal) => refusal.to_string(),
+        Err(number) => format!("refused with {number}"),
     }
 }
 

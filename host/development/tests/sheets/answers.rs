@@ -1,6 +1,6 @@
 //! What stands for an answer of the ledger: fields and the words of rows. Also numbers of row slots.
 
-use bannelgo_development::bridge::AnswerFields;
+use bannelgo::raw::Fields;
 use bannelgo_development::calls::Answer;
 use bannelgo_development::reference::rows::word;
 use bannelgo_development::reference::Refusal;
@@ -10,10 +10,10 @@ use bannelgo_development::rng::Rng;
 pub const MOST_SLOTS: usize = 5_000;
 
 /// The fields that stand for the ledger's answer or number.
-pub fn fields_of(answer: &Result<Answer, Refusal>) -> AnswerFields {
+pub fn fields_of(answer: &Result<Answer, Refusal>) -> Fields {
     match answer {
-        Ok(answer) => AnswerFields::of_answer(answer),
-        Err(number) => AnswerFields::of_number(*number),
+        Ok(answer) => answer.fields(),
+        Err(number) => Fields::of_number(*number),
     }
 }
 

@@ -1,7 +1,7 @@
 //! What holds of a reading or a listing that the paper leaves free.
 
 use super::lent::Lent;
-use bannelgo_development::bridge::AnswerFields;
+use bannelgo::raw::Fields;
 use bannelgo_development::calls::Call;
 use bannelgo_development::expr::Grammar;
 use bannelgo_development::reference::lent::Loan;
@@ -12,7 +12,7 @@ pub fn table_frame(
     before: &Loan,
     left: &Loan,
     call: &Call,
-    fields: AnswerFields,
+    fields: Fields,
 ) -> Result<(), &'static str> {
     let table = before.table_length(grammar);
     if left.buffer != before.buffer || left.n != before.n {
@@ -25,7 +25,7 @@ pub fn table_frame(
     match fields.number {
         0 if fields.length > before.n as u64 => Err("the length is above n"),
         0 => Ok(()),
-        12 | 14 | 15 if fields != AnswerFields::of_number(fields.number) => {
+        12 | 14 | 15 if fields != Fields::of_number(fields.number) => {
             Err("a refusal has other fields")
         }
         12 | 14 if left.words[..table].iter().any(|&word| word != 0) => {
@@ -39,7 +39,7 @@ pub fn table_frame(
 
 /// "Changes only the table and, if answered, the lent row slots." The fields and rows are an answer's,
 /// and rows past the last written stay.
-pub fn row_frame(lent: &Lent, call: &Call, fields: AnswerFields) -> Result<(), &'static str> {
+pub fn row_frame(lent: &Lent, call: &Call, fields: Fields) -> Result<(), &'static str> {
     let rows = lent.rows();
     let coded = match call {
         Call::List { .. } => fields.listed(rows).is_ok(),

@@ -1,7 +1,7 @@
 //! Buffers that are lent to the library call after call.
 
 use super::fence::Fenced;
-use bannelgo_development::bridge::{lending, AnswerFields};
+use bannelgo::raw::{self, Fields};
 use bannelgo_development::calls::Call;
 use bannelgo_development::reference::lent::Loan;
 
@@ -26,8 +26,8 @@ impl Lent {
     }
 
     /// Lends the buffers to an open.
-    pub fn open(&mut self, image: &[u8], text: &[u8]) -> AnswerFields {
-        let fields = lending::open(image, text, self.buffer.lent(), self.words.lent());
+    pub fn open(&mut self, image: &[u8], text: &[u8]) -> Fields {
+        let fields = raw::open(image, text, self.buffer.lent(), self.words.lent());
         if fields.number == 0 {
             self.n = fields.length as usize;
         }
@@ -35,7 +35,7 @@ impl Lent {
     }
 
     /// Lends the buffers to a call, with the length that the last open or edit gave.
-    pub fn call(&mut self, image: &[u8], call: &Call) -> AnswerFields {
+    pub fn call(&mut self, image: &[u8], call: &Call) -> Fields {
         let words = self.words.content().len();
         let fields = self.call_with(image, self.n, words, call);
         if matches!(call, Call::Edit { .. }) && fields.number == 0 {
@@ -46,7 +46,7 @@ impl Lent {
 
     /// Lends the text buffer, any length of the text and the first so many words; to a listing also
     /// row slots that are full of junk.
-    pub fn call_with(&mut self, image: &[u8], n: usize, words: usize, call: &Call) -> AnswerFields {
+    pub fn call_with(&mut self, image: &[u8], n: usize, words: usize, call: &Call) -> Fields {
         self.rows = Fenced::new(&junk(slots_of(call)), POST);
         let words = &mut self.words.lent()[..words];
         let buffer = self.buffer.lent();
@@ -55,12 +55,12 @@ impl Lent {
                 start,
                 end,
                 replacement,
-            } => lending::edit(image, buffer, n, words, (*start, *end, replacement)),
-            Call::Read => lending::read(image, buffer, n, words),
+            } => raw::edit(image, buffer, n, words, *start..*end, replacement),
+            Call::Read => raw::read(image, buffer, n, words),
             Call::LookUp { rule, position } => {
-                lending::look_up(image, buffer, n, words, (*rule, *position))
+                raw::look_up(image, buffer, n, words, *rule, *position)
             }
-            Call::List { .. } => lending::list(image, buffer, n, words, self.rows.lent()),
+            Call::List { .. } => raw::list(image, buffer, n, words, self.rows.lent()),
         }
     }
 

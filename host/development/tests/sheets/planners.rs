@@ -4,10 +4,10 @@ use super::session::Session;
 use super::tally::Tally;
 use bannelgo_development::calls::Call;
 use bannelgo_development::expr::Grammar;
+use bannelgo_development::gap_sheet::{sheet, sheet_of_days, sheet_of_lines};
+use bannelgo_development::gap_text::{keys, long_sheet, long_sheet_of_days, PLANNERS_SHEET};
 use bannelgo_development::generate::damage;
 use bannelgo_development::rng::Rng;
-use bannelgo_development::sheet::{sheet, sheet_of_days, sheet_of_lines};
-use bannelgo_development::sheet_text::{keys, long_sheet, long_sheet_of_days, PLANNERS_SHEET};
 
 pub fn sheets(seed: u64) -> Tally {
     let mut tally = Tally::drawn("planners' sheets", seed);

@@ -8,7 +8,7 @@
 use super::answers::{fields_of, row_words, some_slots, MOST_SLOTS};
 use super::lent::Lent;
 use super::tally::Tally;
-use bannelgo_development::bridge::AnswerFields;
+use bannelgo::raw::Fields;
 use bannelgo_development::calls::Call;
 use bannelgo_development::expr::Grammar;
 use bannelgo_development::generate::letter;
@@ -59,12 +59,12 @@ impl<'a> Session<'a> {
         session.tally.count_list();
         let fields = session.lent.open(&session.image, text);
         session.tally.count_open(fields);
-        session.compare("open", fields, AnswerFields::of_open(text.len()), &[]);
+        session.compare("open", fields, Fields::of_open(text.len()), &[]);
         session
     }
 
     /// Makes a call in both ways.
-    pub fn call(&mut self, call: Call) -> AnswerFields {
+    pub fn call(&mut self, call: Call) -> Fields {
         let fields = self.lent.call(&self.image, &call);
         let answer = self.ledger.call(&call);
         let expected = fields_of(&answer);
@@ -86,7 +86,7 @@ impl<'a> Session<'a> {
         rows.map_or(MOST_SLOTS, |rows| rows.len())
     }
 
-    pub fn edit(&mut self, start: usize, end: usize, replacement: &[u8]) -> AnswerFields {
+    pub fn edit(&mut self, start: usize, end: usize, replacement: &[u8]) -> Fields {
         self.call(Call::Edit {
             start,
             end,
@@ -95,13 +95,13 @@ impl<'a> Session<'a> {
     }
 
     /// A call that is lent something else and is refused; it must change nothing.
-    pub fn count_refused(&mut self, what: &str, fields: AnswerFields, number: u64) {
-        let expected = AnswerFields::of_number(number);
+    pub fn count_refused(&mut self, what: &str, fields: Fields, number: u64) {
+        let expected = Fields::of_number(number);
         self.tally.count_open(expected);
         self.compare(what, fields, expected, &[]);
     }
 
-    fn compare(&mut self, what: &str, fields: AnswerFields, expected: AnswerFields, rows: &[u64]) {
+    fn compare(&mut self, what: &str, fields: Fields, expected: Fields, rows: &[u64]) {
         let (buffer, table) = (self.ledger.buffer(), self.ledger.table());
         let n = self.ledger.text().len();
         if fields != expected {

@@ -1,6 +1,6 @@
 //! Counts lists, calls and answers.
 
-use bannelgo_development::bridge::AnswerFields;
+use bannelgo::raw::Fields;
 use bannelgo_development::calls::Call;
 use std::io::Write;
 
@@ -47,7 +47,7 @@ impl Tally {
         self.lists += 1;
     }
 
-    pub fn count_open(&mut self, fields: AnswerFields) {
+    pub fn count_open(&mut self, fields: Fields) {
         self.count(if fields.number == 0 {
             0
         } else {
@@ -55,7 +55,7 @@ impl Tally {
         });
     }
 
-    pub fn count_call(&mut self, call: &Call, fields: AnswerFields) {
+    pub fn count_call(&mut self, call: &Call, fields: Fields) {
         let place = match (fields.number, call, fields.outcome) {
             (0, Call::Edit { .. }, _) => 1,
             (0, Call::LookUp { .. }, _) => 2,

@@ -7,7 +7,7 @@
 use super::answers::{fields_of, row_words, some_slots, MOST_SLOTS};
 use super::lent::Lent;
 use super::tally::Tally;
-use bannelgo_development::bridge::AnswerFields;
+use bannelgo::raw::Fields;
 use bannelgo_development::calls::{Answer, Call};
 use bannelgo_development::expr::Grammar;
 use bannelgo_development::generate::{brackets_of_nesting, small_grammar, some_letters};
@@ -124,14 +124,14 @@ fn read_without_records(
     text: &[u8],
     held: &PairMap<Found>,
     loan: &mut Loan,
-) -> AnswerFields {
+) -> Fields {
     // A ledger that has read this text once holds the reached pairs.
     let mut ledger = Ledger::open(grammar, loan.buffer.len(), text);
     let answer = match ledger.call(&Call::Read) {
-        Ok(answer) => AnswerFields::of_answer(&answer),
+        Ok(answer) => answer.fields(),
         Err(number) => {
             loan.clear_table(grammar);
-            return AnswerFields::of_number(number);
+            return Fields::of_number(number);
         }
     };
     let table = ledger.table();
@@ -143,7 +143,7 @@ fn read_without_records(
             evaluations += 1;
         }
     }
-    AnswerFields {
+    Fields {
         evaluations,
         ..answer
     }

@@ -3,9 +3,9 @@
 use super::tally::Tally;
 use bannelgo_development::big_images::{blocks, relay};
 use bannelgo_development::expr::{byte, not, or_else, star, then, Expr, Grammar};
+use bannelgo_development::gap_sheet::sheet;
 use bannelgo_development::numbering::{image_of, Numbering};
 use bannelgo_development::rng::Rng;
-use bannelgo_development::sheet::sheet;
 
 /// Rings of 1 to 60 rules. A call stands behind a part that may match nothing long, or must consume.
 pub fn rings(seed: u64) -> Tally {

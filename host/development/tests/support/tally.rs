@@ -1,7 +1,7 @@
 //! Compares the two checkers image by image and counts the numbers.
 
+use bannelgo::raw::check_image;
 use bannelgo_development::expr::Grammar;
-use bannelgo_development::image_check::check_image;
 use bannelgo_development::numbering::{image_of, Numbering};
 use bannelgo_development::reference;
 use bannelgo_development::rng::Rng;
@@ -38,7 +38,7 @@ impl Tally {
 
     /// Asks both checkers about an image and returns the reference's number.
     pub fn compare(&mut self, image: &[u8]) -> u64 {
-        let ours = check_image(image).number();
+        let ours = check_image(image);
         let reference = reference::check(image);
         self.counts[reference as usize] += 1;
         if ours != reference {

@@ -3,12 +3,12 @@
 //! Images and texts lie in memory and are lent unchanged; there are no buffers to be cleared.
 
 use crate::timing::{medians, BATCHES};
+use bannelgo::raw::check_image;
 use bannelgo_development::big_images::{blocks, relay};
 use bannelgo_development::expr::Grammar;
-use bannelgo_development::image_check::check_image;
+use bannelgo_development::gap_sheet::sheet;
 use bannelgo_development::numbering::{image_of, Numbering};
 use bannelgo_development::reference;
-use bannelgo_development::sheet::sheet;
 use std::hint::black_box;
 
 pub fn print() {
@@ -28,7 +28,7 @@ pub fn print() {
 
 fn compare_checks(name: &str, grammar: &Grammar, numbering: Numbering) {
     let image = image_of(grammar, numbering);
-    let ours = || check_image(black_box(&image)).number();
+    let ours = || check_image(black_box(&image));
     let rust = || reference::check(black_box(&image));
     assert_eq!((ours(), rust()), (0, 0), "the image is accepted by both");
     let (ours, rust) = medians(&ours, &rust);

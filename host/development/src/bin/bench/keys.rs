@@ -2,12 +2,12 @@
 
 use crate::timing::{low, median, micros};
 use crate::typing::{grammars, Times, KEYS, ROOM};
-use bannelgo_development::bridge::lending;
+use bannelgo::raw;
+use bannelgo::Outcome;
 use bannelgo_development::expr::Grammar;
+use bannelgo_development::gap_text::{long_sheet_of_days, typing_places};
 use bannelgo_development::numbering::{image_of, Numbering};
 use bannelgo_development::packrat::Packrat;
-use bannelgo_development::plain_reading::Outcome;
-use bannelgo_development::sheet_text::{long_sheet_of_days, typing_places};
 use std::hint::black_box;
 use std::time::Instant;
 
@@ -73,9 +73,9 @@ fn print_first_reading(name: &str, grammar: &Grammar, text: &[u8]) {
     let (mut open, mut reading, mut whole) = (vec![], vec![], vec![]);
     for _ in 0..FIRST_READINGS {
         let begin = Instant::now();
-        let opened = lending::open(&image, text, &mut buffer, &mut table);
+        let opened = raw::open(&image, text, &mut buffer, &mut table);
         let between = Instant::now();
-        let read = lending::read(&image, &buffer, text.len(), &mut table);
+        let read = raw::read(&image, &buffer, text.len(), &mut table);
         let end = Instant::now();
         let length = packrat.read(black_box(text));
         whole.push(micros(end.elapsed()));

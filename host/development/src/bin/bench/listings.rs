@@ -2,11 +2,11 @@
 
 use crate::timing::{median, micros};
 use crate::typing::grammars;
-use bannelgo_development::bridge::lending;
+use bannelgo::raw;
 use bannelgo_development::expr::Grammar;
+use bannelgo_development::gap_text::long_sheet_of_days;
 use bannelgo_development::numbering::{image_of, Numbering};
 use bannelgo_development::packrat::Packrat;
-use bannelgo_development::sheet_text::long_sheet_of_days;
 use std::hint::black_box;
 use std::time::Instant;
 
@@ -33,21 +33,17 @@ fn print_listing(name: &str, grammar: &Grammar, text: &[u8]) {
     let mut buffer = vec![0; text.len()];
     let mut table = vec![0; grammar.rules.len() * (text.len() + 1)];
     let mut slots = vec![0; SLOTS];
-    let opened = lending::open(&image, text, &mut buffer, &mut table).opened();
+    let opened = raw::open(&image, text, &mut buffer, &mut table).opened();
     assert_eq!(opened, Ok(text.len()));
-    let first = lending::list(&image, &buffer, text.len(), &mut table, &mut slots);
-    let rows = first
-        .listed(&slots)
-        .expect("the sheet is listed")
-        .rows
-        .len();
+    let first = raw::list(&image, &buffer, text.len(), &mut table, &mut slots);
+    let (_, rows) = first.listed(SLOTS).expect("the sheet is listed");
     let mut packrat = Packrat::new(grammar);
     let (mut reading, mut listing, mut whole) = (vec![], vec![], vec![]);
     for _ in 0..LISTINGS {
         let begin = Instant::now();
-        let read = lending::read(&image, &buffer, text.len(), &mut table);
+        let read = raw::read(&image, &buffer, text.len(), &mut table);
         let between = Instant::now();
-        let list = lending::list(&image, &buffer, text.len(), &mut table, &mut slots);
+        let list = raw::list(&image, &buffer, text.len(), &mut table, &mut slots);
         let end = Instant::now();
         let length = packrat.read(black_box(text));
         whole.push(micros(end.elapsed()));

@@ -3,11 +3,11 @@
 //! Images and texts lie in memory and are lent unchanged; there are no buffers to be cleared.
 
 use crate::timing::{medians, BATCHES};
+use bannelgo::{plain_reading, Outcome};
+use bannelgo_development::gap_sheet::sheet;
+use bannelgo_development::gap_text::long_sheet;
 use bannelgo_development::numbering::{image_of, Numbering};
-use bannelgo_development::plain_reading::{plain_reading, Outcome};
 use bannelgo_development::reference::recursive;
-use bannelgo_development::sheet::sheet;
-use bannelgo_development::sheet_text::long_sheet;
 use std::hint::black_box;
 
 pub fn print() {

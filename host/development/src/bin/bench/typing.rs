@@ -5,13 +5,14 @@
 //! There is one sheet at a time, and every reading is whole.
 
 use crate::timing::micros;
-use bannelgo_development::bridge::Sheet;
+use bannelgo::Outcome;
+use bannelgo::Sheet;
+use bannelgo_development::calls::open_image;
 use bannelgo_development::expr::Grammar;
+use bannelgo_development::gap_sheet::{sheet_of_days, sheet_of_lines};
+use bannelgo_development::gap_text::keys;
 use bannelgo_development::numbering::{image_of, Numbering};
 use bannelgo_development::packrat::Packrat;
-use bannelgo_development::plain_reading::Outcome;
-use bannelgo_development::sheet::{sheet_of_days, sheet_of_lines};
-use bannelgo_development::sheet_text::keys;
 use std::hint::black_box;
 use std::time::Instant;
 
@@ -43,7 +44,7 @@ impl Times {
     /// Opens and reads a text, and types so many keys, at most `KEYS`.
     pub fn of(grammar: &Grammar, text: &[u8], cursor: usize, count: usize) -> Times {
         let image = image_of(grammar, Numbering::Preorder);
-        let opened = Sheet::open(&image, text, text.len() + ROOM);
+        let opened = open_image(&image, text, text.len() + ROOM);
         let mut sheet = opened.expect("the sheet is opened");
         sheet.read().expect("the sheet is read");
         let mut packrat = Packrat::new(grammar);
@@ -67,7 +68,7 @@ impl Times {
 
     fn type_key(&mut self, sheet: &mut Sheet, at: usize, key: u8) {
         let begin = Instant::now();
-        let edited = sheet.edit(at, at, &[key]);
+        let edited = sheet.edit(at..at, [key]);
         let between = Instant::now();
         let read = sheet.read();
         let end = Instant::now();

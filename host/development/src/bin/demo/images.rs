@@ -1,7 +1,7 @@
 //! The image check of the paper's sample images.
 
 use crate::lines::{print_line, print_lines};
-use bannelgo_development::image_check::check_image;
+use bannelgo::raw::check_image;
 use bannelgo_development::questions::question_in_words;
 use bannelgo_development::reference::read_grammar;
 use bannelgo_development::samples::{Sample, SAMPLES};

@@ -1,12 +1,12 @@
 //! Plain readings of sample texts.
 
 use crate::lines::{print_line, print_lines};
+use bannelgo::{plain_reading, Reading, Refusal};
+use bannelgo_development::gap_sheet::sheet;
+use bannelgo_development::gap_text::PLANNERS_SHEET;
 use bannelgo_development::numbering::{image_of, Numbering};
-use bannelgo_development::plain_reading::{plain_reading, Reading, Refusal};
 use bannelgo_development::reference;
 use bannelgo_development::samples::{D2, M10};
-use bannelgo_development::sheet::sheet;
-use bannelgo_development::sheet_text::PLANNERS_SHEET;
 
 /// Prints the texts and answers how many got another reading than the reference's.
 pub fn print() -> usize {

@@ -1,11 +1,11 @@
 //! The rows of the planner's sheet: the calls that made the match.
 
+use bannelgo::Row;
 use bannelgo_development::bridge::{Refusal, Sheet};
-use bannelgo_development::calls::Row;
+use bannelgo_development::gap_sheet::sheet;
+use bannelgo_development::gap_text::PLANNERS_SHEET;
 use bannelgo_development::numbering::{image_of, Numbering};
 use bannelgo_development::reference::ledger::Ledger;
-use bannelgo_development::sheet::sheet;
-use bannelgo_development::sheet_text::PLANNERS_SHEET;
 
 const SLOTS: usize = 1_000;
 

@@ -3,10 +3,10 @@
 use crate::lines::print_lines;
 use bannelgo_development::bridge::{Refusal, Sheet};
 use bannelgo_development::calls::{Answer, Call};
+use bannelgo_development::gap_sheet::sheet;
+use bannelgo_development::gap_text::PLANNERS_SHEET;
 use bannelgo_development::numbering::{image_of, Numbering};
 use bannelgo_development::reference::ledger::Ledger;
-use bannelgo_development::sheet::sheet;
-use bannelgo_development::sheet_text::PLANNERS_SHEET;
 
 /// A line that is typed behind the third gap, with a slip that is taken back.
 const TYPED: &str = "red;  14:000\u{8}:00 / 14:15:00;  7.5\n";

@@ -1,9 +1,10 @@
 //! What the program must print: the answers of the checker and the ledger written apart.
 
 use crate::line::Line;
-use bannelgo_development::calls::{Answer, Call, Edited, Listing, SheetReading};
+use bannelgo::Outcome;
+use bannelgo::{Edited, Listing, SheetReading};
+use bannelgo_development::calls::{Answer, Call};
 use bannelgo_development::expr::Grammar;
-use bannelgo_development::plain_reading::Outcome;
 use bannelgo_development::reference::ledger::Ledger;
 use bannelgo_development::reference::lent::lent_wholly;
 use bannelgo_development::reference::rows::word;

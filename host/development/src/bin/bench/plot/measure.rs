@@ -6,7 +6,7 @@
 use crate::timing::median;
 use crate::typing::{Times, TURN};
 use bannelgo_development::expr::Grammar;
-use bannelgo_development::sheet_text::{end_of_line, long_sheet_of_days};
+use bannelgo_development::gap_text::{end_of_line, long_sheet_of_days};
 
 const SIZES: [usize; 8] = [3_000, 6_000, 12_000, 20_000, 30_000, 40_000, 50_000, 60_000];
 

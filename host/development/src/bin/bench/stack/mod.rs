@@ -2,11 +2,12 @@
 
 mod painted;
 
-use bannelgo_development::bridge::{lending, Sheet};
+use bannelgo::plain_reading;
+use bannelgo::raw;
+use bannelgo_development::calls::open_image;
 use bannelgo_development::expr::{then, Expr, Grammar};
 use bannelgo_development::generate::Levels;
 use bannelgo_development::numbering::{image_of, Numbering};
-use bannelgo_development::plain_reading::plain_reading;
 use painted::bytes_written;
 
 const MOST: usize = 4_096;
@@ -40,7 +41,7 @@ fn stacks(levels: &Levels, nesting: usize) -> [usize; 3] {
     let (grammar, brackets) = levels.with_nesting(nesting);
     let image = image_of(&grammar, Numbering::Preorder);
     let text = vec![b'('; brackets];
-    let open = || Sheet::open(&image, &text, brackets).expect("the text is opened");
+    let open = || open_image(&image, &text, brackets).expect("the text is opened");
     let plain = bytes_written(|| {
         let read = plain_reading(&image, &text).expect("the text is read");
         assert_eq!(read.nesting, nesting);
@@ -66,7 +67,7 @@ fn ring_stack() -> usize {
     let mut table = [[MATCHED_NOTHING; 64], [0; 64]].concat();
     let mut slots = vec![0; SLOTS];
     bytes_written(|| {
-        let listed = lending::list(&image, b"a", 1, &mut table, &mut slots);
+        let listed = raw::list(&image, b"a", 1, &mut table, &mut slots);
         assert_eq!(listed.number, 14);
     })
 }

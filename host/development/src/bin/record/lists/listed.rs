@@ -2,9 +2,9 @@
 
 use super::*;
 use bannelgo_development::expr::{byte, not, or_else, sequence, star, then, Expr};
+use bannelgo_development::gap_sheet::sheet;
+use bannelgo_development::gap_text::PLANNERS_SHEET;
 use bannelgo_development::samples::{D2, M10};
-use bannelgo_development::sheet::sheet;
-use bannelgo_development::sheet_text::PLANNERS_SHEET;
 use Expr::{AnyByte, Call as Rule, Empty};
 
 pub fn digits() -> Vec<Line> {

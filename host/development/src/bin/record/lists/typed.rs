@@ -1,8 +1,8 @@
 //! A sheet that is typed into.
 
 use super::*;
-use bannelgo_development::sheet::{sheet, sheet_of_lines};
-use bannelgo_development::sheet_text::{end_of_line, keys, PLANNERS_SHEET};
+use bannelgo_development::gap_sheet::{sheet, sheet_of_lines};
+use bannelgo_development::gap_text::{end_of_line, keys, PLANNERS_SHEET};
 
 pub fn typed() -> Vec<Line> {
     let mut lines = vec![comment("A planner's sheet, 16 rules, and changes to it.")];

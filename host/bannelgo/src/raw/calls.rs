@@ -1,14 +1,27 @@
-//! The five calls over lent buffers. Every loan and every number has an answer.
-//!
-//! Where the nesting comes near 4,096 a reading and a listing need a stack of up to 2 MiB.
+//! The library's functions over slices. Every loan and every number has an answer.
 
-use super::raw::{self, AnswerFields};
+use super::{symbols, Fields};
+use std::ops::Range;
 
-/// Opens `text`: it is copied to `buffer`, whose rest becomes 0, and so does the table.
-pub fn open(image: &[u8], text: &[u8], buffer: &mut [u8], table: &mut [u64]) -> AnswerFields {
+/// The number of the first question that the image fails, 0 where it passes all.
+pub fn check_image(image: &[u8]) -> u64 {
+    // SAFETY: pointer and length are those of one slice, which is lent for the whole call.
+    unsafe { symbols::bannelgo_check_image(image.as_ptr(), image.len()) }
+}
+
+/// The word of a plain reading, or the number of a refusal.
+pub fn plain_reading(image: &[u8], text: &[u8]) -> u64 {
     // SAFETY: each pointer and length are those of one slice, which is lent for the whole call.
     unsafe {
-        raw::bannelgo_open(
+        symbols::bannelgo_plain_reading(image.as_ptr(), image.len(), text.as_ptr(), text.len())
+    }
+}
+
+/// Opens `text`: it is copied to `buffer`, whose rest becomes 0, and so does the table.
+pub fn open(image: &[u8], text: &[u8], buffer: &mut [u8], table: &mut [u64]) -> Fields {
+    // SAFETY: each pointer and length are those of one slice, which is lent for the whole call.
+    unsafe {
+        symbols::bannelgo_open(
             image.as_ptr(),
             image.len(),
             text.as_ptr(),
@@ -21,17 +34,18 @@ pub fn open(image: &[u8], text: &[u8], buffer: &mut [u8], table: &mut [u64]) -> 
     }
 }
 
-/// Bytes `start` to `end` − 1 of the text, which has `n` bytes, give way to `replacement`.
+/// These bytes of the text, which has `n`, give way to `replacement`.
 pub fn edit(
     image: &[u8],
     buffer: &mut [u8],
     n: usize,
     table: &mut [u64],
-    (start, end, replacement): (usize, usize, &[u8]),
-) -> AnswerFields {
+    bytes: Range<usize>,
+    replacement: &[u8],
+) -> Fields {
     // SAFETY: each pointer and length are those of one slice, which is lent for the whole call.
     unsafe {
-        raw::bannelgo_edit(
+        symbols::bannelgo_edit(
             image.as_ptr(),
             image.len(),
             buffer.as_mut_ptr(),
@@ -39,8 +53,8 @@ pub fn edit(
             n,
             table.as_mut_ptr(),
             table.len(),
-            start,
-            end,
+            bytes.start,
+            bytes.end,
             replacement.as_ptr(),
             replacement.len(),
         )
@@ -48,10 +62,10 @@ pub fn edit(
 }
 
 /// Reads the first `n` bytes of `buffer`.
-pub fn read(image: &[u8], buffer: &[u8], n: usize, table: &mut [u64]) -> AnswerFields {
+pub fn read(image: &[u8], buffer: &[u8], n: usize, table: &mut [u64]) -> Fields {
     // SAFETY: each pointer and length are those of one slice, which is lent for the whole call.
     unsafe {
-        raw::bannelgo_read(
+        symbols::bannelgo_read(
             image.as_ptr(),
             image.len(),
             buffer.as_ptr(),
@@ -69,11 +83,12 @@ pub fn look_up(
     buffer: &[u8],
     n: usize,
     table: &[u64],
-    (rule, position): (usize, usize),
-) -> AnswerFields {
+    rule: usize,
+    position: usize,
+) -> Fields {
     // SAFETY: each pointer and length are those of one slice, which is lent for the whole call.
     unsafe {
-        raw::bannelgo_look_up(
+        symbols::bannelgo_look_up(
             image.as_ptr(),
             image.len(),
             buffer.as_ptr(),
@@ -88,16 +103,10 @@ pub fn look_up(
 }
 
 /// Reads the first `n` bytes of `buffer` and writes the rows to `rows`, each a word.
-pub fn list(
-    image: &[u8],
-    buffer: &[u8],
-    n: usize,
-    table: &mut [u64],
-    rows: &mut [u64],
-) -> AnswerFields {
+pub fn list(image: &[u8], buffer: &[u8], n: usize, table: &mut [u64], rows: &mut [u64]) -> Fields {
     // SAFETY: each pointer and length are those of one slice, which is lent for the whole call.
     unsafe {
-        raw::bannelgo_list(
+        symbols::bannelgo_list(
             image.as_ptr(),
             image.len(),
             buffer.as_ptr(),

@@ -1,22 +1,17 @@
-//! The C symbols of the library `bridge`, as they are. Safe calls are in `lending`.
+//! The C symbols of the proved library, as include/bannelgo.h has them.
 
-/// What each function returns. Fields that a call doesn't use are 0.
-#[repr(C)]
-#[derive(Clone, Copy, Debug, Default, PartialEq, Eq)]
-pub struct AnswerFields {
-    /// 0 where the call is answered, else the number of the question that it fails.
-    pub number: u64,
-    /// 0 nothing, 1 part, 2 whole.
-    pub outcome: u64,
-    pub length: u64,
-    pub examined: u64,
-    pub nesting: u64,
-    pub evaluations: u64,
-    /// The pairs that stand after an edit; the word that was looked up; the number of rows.
-    pub value: u64,
-}
+use super::Fields;
 
 extern "C" {
+    pub fn bannelgo_check_image(image: *const u8, image_length: usize) -> u64;
+
+    pub fn bannelgo_plain_reading(
+        image: *const u8,
+        image_length: usize,
+        text: *const u8,
+        text_length: usize,
+    ) -> u64;
+
     pub fn bannelgo_open(
         image: *const u8,
         image_length: usize,
@@ -26,7 +21,7 @@ extern "C" {
         buffer_length: usize,
         table: *mut u64,
         table_length: usize,
-    ) -> AnswerFields;
+    ) -> Fields;
 
     pub fn bannelgo_edit(
         image: *const u8,
@@ -40,7 +35,7 @@ extern "C" {
         end: usize,
         replacement: *const u8,
         replacement_length: usize,
-    ) -> AnswerFields;
+    ) -> Fields;
 
     pub fn bannelgo_read(
         image: *const u8,
@@ -50,7 +45,7 @@ extern "C" {
         n: usize,
         table: *mut u64,
         table_length: usize,
-    ) -> AnswerFields;
+    ) -> Fields;
 
     pub fn bannelgo_look_up(
         image: *const u8,
@@ -62,7 +57,7 @@ extern "C" {
         table_length: usize,
         rule: usize,
         position: usize,
-    ) -> AnswerFields;
+    ) -> Fields;
 
     pub fn bannelgo_list(
         image: *const u8,
@@ -74,5 +69,5 @@ extern "C" {
         table_length: usize,
         rows: *mut u64,
         rows_length: usize,
-    ) -> AnswerFields;
+    ) -> Fields;
 }

@@ -1,0 +1,112 @@
+//! What calls answer.
+
+use crate::place::Place;
+use std::fmt;
+
+/// How much of the text a reading matched.
+#[derive(Clone, Copy, Debug, PartialEq, Eq, Hash)]
+pub enum Outcome {
+    /// Matched, and the length is the text's.
+    Whole,
+    /// Matched, and the length is shorter.
+    Part,
+    /// Not matched.
+    Nothing,
+}
+
+/// What a reading found: the start rule's evaluation at the text's first byte.
+#[derive(Clone, Copy, Debug, PartialEq, Eq, Hash)]
+pub struct Reading {
+    /// How much of the text matched.
+    pub outcome: Outcome,
+    /// The length of the match in bytes; 0 where nothing matched.
+    pub length: usize,
+    /// How many bytes from the first one on were looked at; one more than the text has where its end
+    /// was looked at.
+    pub examined: usize,
+    /// How many evaluations lay inside each other.
+    pub nesting: usize,
+}
+
+/// What a sheet's reading answers.
+#[derive(Clone, Copy, Debug, PartialEq, Eq, Hash)]
+pub struct SheetReading {
+    /// What was found, the same as without records.
+    pub reading: Reading,
+    /// The number of pairs, a rule at a position, that had no record and were evaluated.
+    pub evaluations: usize,
+}
+
+/// What an edit answers.
+#[derive(Clone, Copy, Debug, PartialEq, Eq, Hash)]
+pub struct Edited {
+    /// The new length of the text in bytes.
+    pub length: usize,
+    /// The number of pairs that stand: whose record the edit leaves true.
+    pub standing: usize,
+}
+
+impl Reading {
+    /// Whether the whole text matched.
+    pub fn is_whole(&self) -> bool {
+        self.outcome == Outcome::Whole
+    }
+
+    /// The last place that the reading looked at, as line and column of the text that was read.
+    ///
+    /// Where a text does not match as a whole, this is how far it could be followed.
+    ///
+    /// ```
+    /// use bannelgo::grammar::{any, literal, not, sequence, star, Grammar};
+    ///
+    /// let line = sequence([literal("red"), literal("\n")]);
+    /// let grammar = Grammar::builder()
+    ///     .rule("Lines", sequence([star(line), not(any())]))
+    ///     .build()?;
+    /// let text = "red\nrod\n";
+    /// let reading = grammar.read(text)?;
+    /// assert!(!reading.is_whole());
+    /// assert_eq!(reading.reached(text).to_string(), "line 2, column 2");
+    /// # Ok::<(), Box<dyn std::error::Error>>(())
+    /// ```
+    pub fn reached(&self, text: impl AsRef<[u8]>) -> Place {
+        Place::of(text.as_ref(), self.examined.saturating_sub(1))
+    }
+}
+
+impl fmt::Display for Outcome {
+    fn fmt(&self, out: &mut fmt::Formatter<'_>) -> fmt::Result {
+        out.pad(match self {
+            Outcome::Whole => "whole",
+            Outcome::Part => "part",
+            Outcome::Nothing => "none",
+        })
+    }
+}
+
+impl fmt::Display for Reading {
+    fn fmt(&self, out: &mut fmt::Formatter<'_>) -> fmt::Result {
+        let Reading {
+            outcome,
+            length,
+            examined,
+            nesting,
+        } = self;
+        write!(
+            out,
+            "{outcome}, length {length}, examined {examined}, nesting {nesting}"
+        )
+    }
+}
+
+impl fmt::Display for SheetReading {
+    fn fmt(&self, out: &mut fmt::Formatter<'_>) -> fmt::Result {
+        write!(out, "{}, evaluations {}", self.reading, self.evaluations)
+    }
+}
+
+impl fmt::Display for Edited {
+    fn fmt(&self, out: &mut fmt::Formatter<'_>) -> fmt::Result {
+        write!(out, "length {}, {} stand", self.length, self.standing)
+    }
+}

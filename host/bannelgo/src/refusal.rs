@@ -1,0 +1,195 @@
+//! Why a call has no answer.
+
+use crate::image::Fault;
+use crate::raw::Unanswered;
+use std::fmt;
+
+/// Why a call has no answer. Each has a number, which the C header and the README list too.
+#[derive(Clone, Debug, PartialEq, Eq)]
+#[non_exhaustive]
+pub enum Refusal {
+    /// 1 to 7: the image is not that of a lawful, well-formed grammar.
+    Image {
+        /// The number that the proved check gave.
+        number: u8,
+        /// Where the image is wrong, looked for after the check.
+        fault: Option<Fault>,
+    },
+    /// 8: what is lent is too long or too short.
+    Loan(LoanFault),
+    /// 9: the edit's bytes are not in the text.
+    EditRange {
+        /// The edit's first byte.
+        start: usize,
+        /// The byte after the edit's last one.
+        end: usize,
+        /// The text's length.
+        length: usize,
+    },
+    /// 10: the text would be longer than its room.
+    EditRoom {
+        /// The bytes that the edit takes out.
+        removed: usize,
+        /// The bytes that it puts in.
+        inserted: usize,
+        /// The text's length.
+        length: usize,
+        /// The room for the text.
+        room: usize,
+    },
+    /// 11: the grammar has no such rule, or the text no such position.
+    Pair {
+        /// The rule that was asked for.
+        rule: usize,
+        /// The position that was asked for.
+        position: usize,
+        /// The grammar's rules.
+        rules: usize,
+        /// The text's length, which is its last position.
+        length: usize,
+    },
+    /// 12: the lent table holds a word that no reading leaves there. The table is all 0 afterwards.
+    Records,
+    /// 14: more than 4,096 evaluations lie inside each other. The table is all 0 afterwards.
+    Nesting,
+    /// 15: there are more rows than slots. The records of the reading are kept.
+    Rows {
+        /// The slots that were there.
+        slots: usize,
+    },
+    /// No answer of the proved library: another one is linked. These are its words.
+    Unknown(Vec<u64>),
+}
+
+/// Which condition of number 8 a loan fails.
+#[derive(Clone, Copy, Debug, PartialEq, Eq)]
+#[non_exhaustive]
+pub enum LoanFault {
+    /// The room for text is above 65,535 bytes.
+    Room {
+        /// The room in bytes.
+        room: usize,
+    },
+    /// The text is longer than its room.
+    Text {
+        /// The text's length.
+        length: usize,
+        /// The room for it.
+        room: usize,
+    },
+    /// The table has fewer words than rules × (room + 1).
+    Table {
+        /// The words that are lent.
+        words: usize,
+        /// The words that are needed.
+        needed: usize,
+    },
+}
+
+impl Refusal {
+    /// The number of the first question that the call fails; nothing for [`Refusal::Unknown`].
+    pub fn number(&self) -> Option<u8> {
+        match self {
+            Refusal::Image { number, .. } => Some(*number),
+            Refusal::Loan(_) => Some(8),
+            Refusal::EditRange { .. } => Some(9),
+            Refusal::EditRoom { .. } => Some(10),
+            Refusal::Pair { .. } => Some(11),
+            Refusal::Records => Some(12),
+            Refusal::Nesting => Some(14),
+            Refusal::Rows { .. } => Some(15),
+            Refusal::Unknown(_) => None,
+        }
+    }
+
+    pub(crate) fn unknown(unanswered: Unanswered) -> Refusal {
+        Refusal::Unknown(match unanswered {
+            Unanswered::Number(number) => vec![u64::from(number)],
+            Unanswered::Unknown(words) => words,
+        })
+    }
+}
+
+impl std::error::Error for Refusal {}
+
+impl fmt::Display for Refusal {
+    fn fmt(&self, out: &mut fmt::Formatter<'_>) -> fmt::Result {
+        match self {
+            Refusal::Image {
+                fault: Some(fault), ..
+            } => write!(out, "{fault}"),
+            Refusal::Image { number, .. } => out.write_str(image_in_words(*number)),
+            Refusal::Loan(fault) => write!(out, "{fault}"),
+            Refusal::EditRange { start, end, length } if end < start => write!(
+                out,
+                "the edit ends at byte {end}, before its start at byte {start} (the text has {length})"
+            ),
+            Refusal::EditRange { start, end, length } => write!(
+                out,
+                "the edit of bytes {start} to {end} ends behind the text, which has {length} bytes"
+            ),
+            Refusal::EditRoom {
+                removed,
+                inserted,
+                length,
+                room,
+            } => write!(
+                out,
+                "the text of {length} bytes would lose {removed} and gain {inserted}, and there is room for {room}"
+            ),
+            Refusal::Pair { rule, rules, .. } if rule >= rules => {
+                write!(out, "there is no rule {rule}: the grammar has {rules} rules")
+            }
+            Refusal::Pair {
+                position, length, ..
+            } => write!(
+                out,
+                "there is no position {position}: the text has {length} bytes"
+            ),
+            Refusal::Records => {
+                out.write_str("the lent table held a word that no reading of this text leaves there")
+            }
+            Refusal::Nesting => {
+                out.write_str("the text nests too deep: more than 4,096 evaluations inside each other")
+            }
+            Refusal::Rows { slots } => write!(out, "the match has more than {slots} rows"),
+            Refusal::Unknown(words) => write!(
+                out,
+                "the linked library is not the proved one: it answered {words:x?}"
+            ),
+        }
+    }
+}
+
+/// What an image with this number is, where nothing nearer is known.
+fn image_in_words(number: u8) -> &'static str {
+    match number {
+        1 => "the image is not of edition 1",
+        2 => "the image's counts are out of their limits",
+        3 => "the image's length is not the one that its header asks for",
+        4 => "a word of the image is not lawful",
+        5 => "a node of the image is not just once a root or a child",
+        6 => "a rule repeats something that can match without consuming",
+        _ => "a rule is called from itself without consuming",
+    }
+}
+
+impl fmt::Display for LoanFault {
+    fn fmt(&self, out: &mut fmt::Formatter<'_>) -> fmt::Result {
+        match self {
+            LoanFault::Room { room } => write!(
+                out,
+                "there is room for {room} bytes of text, and at most 65,535 are allowed"
+            ),
+            LoanFault::Text { length, room } => {
+                write!(
+                    out,
+                    "the text has {length} bytes, and there is room for {room}"
+                )
+            }
+            LoanFault::Table { words, needed } => {
+                write!(out, "the table has {words} words, and {needed} are needed")
+            }
+        }
+    }
+}

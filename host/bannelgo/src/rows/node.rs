@@ -1,0 +1,92 @@
+//! A call in a tree.
+
+use super::{Row, Tree};
+use std::fmt;
+use std::ops::Range;
+
+/// A call that made the match, in its [`Tree`].
+#[derive(Clone, Copy)]
+pub struct Node<'t> {
+    pub(super) tree: &'t Tree,
+    pub(super) place: usize,
+}
+
+impl<'t> Node<'t> {
+    /// Rule, depth, start and length.
+    pub fn row(&self) -> Row {
+        self.tree.rows[self.place]
+    }
+
+    /// The number of the rule that was called.
+    pub fn rule(&self) -> usize {
+        self.row().rule
+    }
+
+    /// The name of the rule that was called.
+    pub fn name(&self) -> &'t str {
+        self.tree.grammar.name(self.rule()).unwrap_or("")
+    }
+
+    /// The number of calls around it.
+    pub fn depth(&self) -> usize {
+        self.row().depth
+    }
+
+    /// The bytes that it matched.
+    pub fn range(&self) -> Range<usize> {
+        self.row().range()
+    }
+
+    /// The text that it matched.
+    pub fn text(&self) -> &'t [u8] {
+        self.tree.text.get(self.range()).unwrap_or(&[])
+    }
+
+    /// The call that it was made in; nothing for the start rule's.
+    pub fn parent(&self) -> Option<Node<'t>> {
+        let parent = self.tree.links[self.place].parent?;
+        self.tree.node(parent)
+    }
+
+    /// The calls that were made in it, left to right.
+    pub fn children(&self) -> Children<'t> {
+        Children {
+            tree: self.tree,
+            next: self.place + 1,
+            behind: self.tree.links[self.place].behind,
+        }
+    }
+}
+
+/// The calls made in a call, left to right: what [`Node::children`] gives.
+#[derive(Clone)]
+pub struct Children<'t> {
+    tree: &'t Tree,
+    next: usize,
+    behind: usize,
+}
+
+impl<'t> Iterator for Children<'t> {
+    type Item = Node<'t>;
+
+    fn next(&mut self) -> Option<Node<'t>> {
+        let place = self.next;
+        if place >= self.behind {
+            return None;
+        }
+        self.next = self.tree.links[place].behind;
+        self.tree.node(place)
+    }
+}
+
+impl fmt::Debug for Node<'_> {
+    fn fmt(&self, out: &mut fmt::Formatter<'_>) -> fmt::Result {
+        write!(out, "Node({self})")
+    }
+}
+
+impl fmt::Debug for Children<'_> {
+    fn fmt(&self, out: &mut fmt::Formatter<'_>) -> fmt::Result {
+        out.debug_list().entries(self.clone()).finish()
+    }
+}

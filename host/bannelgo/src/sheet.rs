@@ -1,0 +1,218 @@
+//! An open sheet that owns its buffers.
+
+use crate::grammar::Grammar;
+use crate::lending;
+use crate::reading::{Edited, SheetReading};
+use crate::record::Record;
+use crate::refusal::Refusal;
+use crate::rows::{Listing, Row, Tree};
+use crate::MOST_BYTES;
+use std::fmt;
+use std::ops::Range;
+
+/// A text that is being typed, with its records and the grammar that it is read by.
+///
+/// ```
+/// use bannelgo::grammar::{call, range, sequence, star, Grammar};
+/// use bannelgo::Sheet;
+///
+/// let grammar = Grammar::builder()
+///     .rule("Number", sequence([call("Digit"), star(call("Digit"))]))
+///     .rule("Digit", range(b'0', b'9'))
+///     .build()?;
+/// let mut sheet = Sheet::open(&grammar, "12", 16)?;
+/// assert_eq!(sheet.read()?.evaluations, 4);
+/// sheet.edit(0..0, "7")?; // typed in front
+/// assert_eq!(sheet.read()?.evaluations, 2);
+/// assert_eq!(sheet.text(), b"712");
+/// # Ok::<(), Box<dyn std::error::Error>>(())
+/// ```
+#[derive(Clone)]
+pub struct Sheet {
+    grammar: Grammar,
+    buffer: Vec<u8>,
+    length: usize,
+    table: Vec<u64>,
+}
+
+/// The most rows that a listing of a [`Sheet`] gives. A listing with more slots of its own is
+/// [`lending::list`].
+pub const MOST_ROWS: usize = 1 << 24;
+
+/// The slots that a listing begins with where it grows them by itself.
+const FIRST_SLOTS: usize = 1 << 10;
+
+impl Sheet {
+    /// Opens a text with room for so many bytes, at most [`MOST_BYTES`]. A refusal has number 8.
+    pub fn open(grammar: &Grammar, text: impl AsRef<[u8]>, room: usize) -> Result<Sheet, Refusal> {
+        let image = grammar.image();
+        // One byte more than there may be is enough for the library to refuse it.
+        let lent = room.min(MOST_BYTES + 1);
+        let mut buffer = vec![0; lent];
+        let mut table = vec![0; lending::table_words(image, lent)];
+        let opened = lending::open(image, text.as_ref(), &mut buffer, &mut table);
+        let length = opened.map_err(|refusal| with_room(refusal, room))?;
+        Ok(Sheet {
+            grammar: grammar.clone(),
+            buffer,
+            length,
+            table,
+        })
+    }
+
+    /// These bytes give way to `replacement`. A refusal has number 9 or 10 and changes nothing.
+    ///
+    /// Typing at a cursor is `edit(cursor..cursor, key)`, a backspace `edit(cursor - 1..cursor, "")`.
+    pub fn edit(
+        &mut self,
+        bytes: Range<usize>,
+        replacement: impl AsRef<[u8]>,
+    ) -> Result<Edited, Refusal> {
+        let edited = lending::edit(
+            self.grammar.image(),
+            &mut self.buffer,
+            self.length,
+            &mut self.table,
+            bytes,
+            replacement.as_ref(),
+        )?;
+        self.length = edited.length;
+        Ok(edited)
+    }
+
+    /// Reads the text by the grammar's start rule. A refusal has number 14.
+    ///
+    /// Near that limit it needs up to 2 MiB of the thread's stack.
+    pub fn read(&mut self) -> Result<SheetReading, Refusal> {
+        lending::read(
+            self.grammar.image(),
+            &self.buffer,
+            self.length,
+            &mut self.table,
+        )
+    }
+
+    /// The record of a rule at a position; nothing where none is held. A refusal has number 11.
+    ///
+    /// ```
+    /// # use bannelgo::grammar::{range, Grammar};
+    /// # let grammar = Grammar::builder().rule("Digit", range(b'0', b'9')).build()?;
+    /// let mut sheet = bannelgo::Sheet::open(&grammar, "7", 7)?;
+    /// assert_eq!(sheet.look_up(0, 0)?, None);
+    /// sheet.read()?;
+    /// let record = sheet.look_up(0, 0)?.expect("the start rule was read here");
+    /// assert_eq!(record.length, 1);
+    /// # Ok::<(), Box<dyn std::error::Error>>(())
+    /// ```
+    pub fn look_up(&self, rule: usize, position: usize) -> Result<Option<Record>, Refusal> {
+        self.word(rule, position).map(Record::from_word)
+    }
+
+    /// The word behind [`look_up`](Sheet::look_up), 0 where no record is held.
+    #[doc(hidden)]
+    pub fn word(&self, rule: usize, position: usize) -> Result<u64, Refusal> {
+        lending::look_up(
+            self.grammar.image(),
+            &self.buffer,
+            self.length,
+            &self.table,
+            rule,
+            position,
+        )
+    }
+
+    /// Reads the text and lists the calls that made the match, if there are at most `most` of them, and
+    /// at most [`MOST_ROWS`]. A refusal has number 14, or 15 where there are more; after 15 the records
+    /// of the reading are kept.
+    ///
+    /// Slots for the rows are lent as they are needed: a great `most` takes no memory by itself.
+    pub fn list(&mut self, most: usize) -> Result<Listing, Refusal> {
+        let most = most.min(MOST_ROWS);
+        if most <= FIRST_SLOTS {
+            return self.list_in(most);
+        }
+        // A listing that is refused with 15 keeps its records: the first reading has counted them.
+        let read = self.read()?;
+        let mut slots = FIRST_SLOTS;
+        loop {
+            match self.list_in(slots) {
+                Err(Refusal::Rows { .. }) if slots < most => slots = most.min(4 * slots),
+                listing => return listing.map(|Listing { rows, .. }| Listing { read, rows }),
+            }
+        }
+    }
+
+    /// Reads the text and gives the calls that made the match as a tree. A refusal has number 14, or 15
+    /// where there are more than [`MOST_ROWS`].
+    ///
+    /// ```
+    /// # use bannelgo::grammar::{call, range, sequence, star, Grammar};
+    /// # let grammar = Grammar::builder()
+    /// #     .rule("Number", sequence([call("Digit"), star(call("Digit"))]))
+    /// #     .rule("Digit", range(b'0', b'9'))
+    /// #     .build()?;
+    /// let mut sheet = bannelgo::Sheet::open(&grammar, "12", 2)?;
+    /// let tree = sheet.tree()?;
+    /// let number = tree.root().expect("the text matched");
+    /// let digits: Vec<&[u8]> = number.children().map(|digit| digit.text()).collect();
+    /// assert_eq!(digits, [b"1", b"2"]);
+    /// # Ok::<(), Box<dyn std::error::Error>>(())
+    /// ```
+    pub fn tree(&mut self) -> Result<Tree, Refusal> {
+        let Listing { read, rows } = self.list(MOST_ROWS)?;
+        Ok(Tree::of(&self.grammar, self.text(), read, rows))
+    }
+
+    /// One listing in so many slots.
+    fn list_in(&mut self, slots: usize) -> Result<Listing, Refusal> {
+        let mut words = vec![0; slots];
+        let (read, rows) = lending::list(
+            self.grammar.image(),
+            &self.buffer,
+            self.length,
+            &mut self.table,
+            &mut words,
+        )?;
+        let rows = words[..rows].iter().map(|&word| Row::from_word(word));
+        Ok(Listing {
+            read,
+            rows: rows.collect(),
+        })
+    }
+
+    /// The text.
+    pub fn text(&self) -> &[u8] {
+        &self.buffer[..self.length]
+    }
+
+    /// The room for text in bytes.
+    pub fn room(&self) -> usize {
+        self.buffer.len()
+    }
+
+    /// The grammar that the text is read by.
+    pub fn grammar(&self) -> &Grammar {
+        &self.grammar
+    }
+}
+
+/// The refusal of an opening, with the room that was asked for.
+fn with_room(refusal: Refusal, asked: usize) -> Refusal {
+    use crate::LoanFault::Room;
+    match refusal {
+        Refusal::Loan(Room { .. }) => Refusal::Loan(Room { room: asked }),
+        other => other,
+    }
+}
+
+impl fmt::Debug for Sheet {
+    fn fmt(&self, out: &mut fmt::Formatter<'_>) -> fmt::Result {
+        let held = self.table.iter().filter(|&&word| word >> 63 == 1);
+        out.debug_struct("Sheet")
+            .field("grammar", &self.grammar)
+            .field("text", &String::from_utf8_lossy(self.text()))
+            .field("room", &self.room())
+            .field("held", &held.count())
+            .finish()
+    }
+}
