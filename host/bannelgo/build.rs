@@ -1,6 +1,6 @@
-// Links the static libraries `exports` and `bridge`, which hold the proved functions.
+// Links the proved library: the static archives `exports` and `bridge`.
 // BANNELGO_LIB names their folder, absolute or relative to this package; the default is ../../target/staticlib.
-// The test of the C program links the same ones: it reads the folder's name from BANNELGO_LIB_FOLDER.
+// A package that depends on this one finds the folder's name in DEP_BANNELGO_FOLDER when it is built.
 
 use std::path::{Path, PathBuf};
 
@@ -14,7 +14,7 @@ fn main() {
 
     println!("cargo:rerun-if-env-changed=BANNELGO_LIB");
     println!("cargo:rustc-link-search=native={}", folder.display());
-    println!("cargo:rustc-env=BANNELGO_LIB_FOLDER={}", folder.display());
+    println!("cargo:folder={}", folder.display());
     for name in ["exports", "bridge"] {
         let library = folder.join(format!("lib{name}.a"));
         println!("cargo:rerun-if-changed={}", library.display());
