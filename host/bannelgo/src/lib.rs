@@ -67,3 +67,8 @@ pub use sheet::{Sheet, MOST_ROWS};
 
 /// The most bytes that a text, and the room for it, can have.
 pub const MOST_BYTES: usize = 65_535;
+
+/// The README's programs, as doc tests.
+#[cfg(doctest)]
+#[doc = include_str!("../../../README.md")]
+struct Readme;

@@ -126,7 +126,8 @@ impl fmt::Display for Refusal {
             ),
             Refusal::EditRange { start, end, length } => write!(
                 out,
-                "the edit of bytes {start} to {end} ends behind the text, which has {length} bytes"
+                "the edit of bytes {start} to {end} ends behind the text, which has {}",
+                counted(*length, "byte")
             ),
             Refusal::EditRoom {
                 removed,
@@ -135,16 +136,19 @@ impl fmt::Display for Refusal {
                 room,
             } => write!(
                 out,
-                "the text of {length} bytes would lose {removed} and gain {inserted}, and there is room for {room}"
+                "the text of {} would lose {removed} and gain {inserted}, and there is room for {room}",
+                counted(*length, "byte")
             ),
             Refusal::Pair { rule, rules, .. } if rule >= rules => {
-                write!(out, "there is no rule {rule}: the grammar has {rules} rules")
+                let rules = counted(*rules, "rule");
+                write!(out, "there is no rule {rule}: the grammar has {rules}")
             }
             Refusal::Pair {
                 position, length, ..
             } => write!(
                 out,
-                "there is no position {position}: the text has {length} bytes"
+                "there is no position {position}: the text has {}",
+                counted(*length, "byte")
             ),
             Refusal::Records => {
                 out.write_str("the lent table held a word that no reading of this text leaves there")
@@ -152,12 +156,22 @@ impl fmt::Display for Refusal {
             Refusal::Nesting => {
                 out.write_str("the text nests too deep: more than 4,096 evaluations inside each other")
             }
-            Refusal::Rows { slots } => write!(out, "the match has more than {slots} rows"),
+            Refusal::Rows { slots } => {
+                write!(out, "the match has more than {}", counted(*slots, "row"))
+            },
             Refusal::Unknown(words) => write!(
                 out,
                 "the linked library is not the proved one: it answered {words:x?}"
             ),
         }
+    }
+}
+
+/// A number of things in words.
+pub(crate) fn counted(number: usize, thing: &str) -> String {
+    match number {
+        1 => format!("1 {thing}"),
+        _ => format!("{number} {thing}s"),
     }
 }
 
@@ -179,16 +193,19 @@ impl fmt::Display for LoanFault {
         match self {
             LoanFault::Room { room } => write!(
                 out,
-                "there is room for {room} bytes of text, and at most 65,535 are allowed"
+                "there is room for {} of text, and at most 65,535 are allowed",
+                counted(*room, "byte")
             ),
             LoanFault::Text { length, room } => {
                 write!(
                     out,
-                    "the text has {length} bytes, and there is room for {room}"
+                    "the text has {}, and there is room for {room}",
+                    counted(*length, "byte")
                 )
             }
             LoanFault::Table { words, needed } => {
-                write!(out, "the table has {words} words, and {needed} are needed")
+                let words = counted(*words, "word");
+                write!(out, "the table has {words}, and {needed} are needed")
             }
         }
     }
