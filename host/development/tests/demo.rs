@@ -4,14 +4,23 @@
 mod demonstration;
 
 use demonstration::output::{heading, output};
+use demonstration::typed::KEYS;
 
 #[test]
 fn it_ends_well() {
     let output = output();
     assert_eq!(output.stderr, "");
     assert_eq!(output.status.code(), Some(0));
-    let last = output.stdout.lines().last().unwrap_or("");
+}
+
+/// For each key at least edit, text and reading in both sheets, and a first reading.
+#[test]
+fn its_answers_are_compared() {
+    let last = output().stdout.lines().last().unwrap_or("");
     assert!(last.ends_with(": none differs."), "{last}");
+    let answers = last.split(' ').next().map(str::parse::<usize>);
+    let answers = answers.and_then(Result::ok);
+    assert!(answers > Some(7 * KEYS.len()), "{last}");
 }
 
 #[test]

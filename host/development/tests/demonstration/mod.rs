@@ -6,4 +6,4 @@ mod keys;
 pub mod output;
 mod refusals;
 mod sheet;
-mod typed;
+pub mod typed;

@@ -30,6 +30,7 @@ impl Compared {
         )?;
         match self.wrong {
             0 => writeln!(out, "none differs.")?,
+            1 => writeln!(out, "1 differs.")?,
             wrong => writeln!(out, "{} differ.", grouped(wrong))?,
         }
         Ok(())

@@ -3,7 +3,8 @@
 use crate::compared::Compared;
 use crate::layout::heading;
 use crate::Shown;
-use bannelgo::{Row, Sheet, Tree};
+use bannelgo::{Listing, Sheet, Tree, MOST_ROWS};
+use bannelgo_development::calls::{Answer, Call};
 use bannelgo_development::gap_sheet::{named_sheet, tree_of};
 use bannelgo_development::gap_text::PLANNERS_SHEET;
 use bannelgo_development::reference::ledger::Ledger;
@@ -12,9 +13,6 @@ use std::io::Write;
 /// Rows of a greater depth are counted and not printed.
 const DEEPEST: usize = 2;
 
-/// More rows than the sheet has.
-const SLOTS: usize = 1_000;
-
 /// The entry that is shown with the calls inside it.
 const SHOWN_ENTRY: &str = "red;";
 
@@ -22,10 +20,10 @@ pub fn show(out: &mut impl Write, compared: &mut Compared) -> Shown {
     let grammar = named_sheet();
     let text = PLANNERS_SHEET.as_bytes();
     let tree = Sheet::open(&grammar, text, text.len())?.tree()?;
-    let rows: Vec<Row> = tree.nodes().map(|node| node.row()).collect();
     let written_apart = tree_of(&grammar);
-    let expected = Ledger::open(&written_apart, text.len(), text).rows(SLOTS);
-    compared.compare("rows of the sheet", &Some(rows), &expected);
+    let mut ledger = Ledger::open(&written_apart, text.len(), text);
+    let expected = ledger.call(&Call::List { slots: MOST_ROWS });
+    compared.compare("the rows of the sheet", &listed(&tree), &expected);
 
     heading(out, "The rows")?;
     writeln!(
@@ -35,6 +33,14 @@ pub fn show(out: &mut impl Write, compared: &mut Compared) -> Shown {
     )?;
     write!(out, "{}", tree.down_to(DEEPEST))?;
     show_entry(out, &tree)
+}
+
+/// The tree as the listing that it was made from.
+fn listed(tree: &Tree) -> Result<Answer, u64> {
+    Ok(Answer::Listing(Listing {
+        read: tree.read(),
+        rows: tree.nodes().map(|node| node.row()).collect(),
+    }))
 }
 
 fn show_entry(out: &mut impl Write, tree: &Tree) -> Shown {

@@ -97,8 +97,17 @@ impl Step {
         };
         let edited = Ok(Answer::Edited(self.edited));
         let read = Ok(Answer::Reading(self.read));
-        compared.compare(&edit.to_string(), &edited, &ledger.call(&edit));
-        compared.compare("the text behind it", &&self.text[..], &ledger.text());
-        compared.compare("the reading behind it", &read, &ledger.call(&Call::Read));
+        let escaped = |text: &[u8]| text.escape_ascii().to_string();
+        compared.compare(&format!("{edit}"), &edited, &ledger.call(&edit));
+        compared.compare(
+            &format!("the text after {edit}"),
+            &escaped(&self.text),
+            &escaped(ledger.text()),
+        );
+        compared.compare(
+            &format!("the reading after {edit}"),
+            &read,
+            &ledger.call(&Call::Read),
+        );
     }
 }
