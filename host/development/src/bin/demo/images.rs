@@ -1,52 +1,36 @@
-//! The image check of the paper's sample images.
+//! The image check of the paper's marked images.
 
-use crate::lines::{print_line, print_lines};
-use bannelgo::raw::check_image;
-use bannelgo_development::questions::question_in_words;
-use bannelgo_development::reference::read_grammar;
+use crate::compared::Compared;
+use crate::layout::heading;
+use crate::Shown;
+use bannelgo::check_image;
+use bannelgo_development::calls::number_of;
+use bannelgo_development::reference;
 use bannelgo_development::samples::{Sample, SAMPLES};
+use std::io::Write;
 
-/// Prints the samples and answers how many got another number than the paper's.
-pub fn print() -> usize {
-    println!("Bannelgo's gap-sheet reader: the image check");
+pub fn show(out: &mut impl Write, compared: &mut Compared) -> Shown {
+    heading(out, "The marked images")?;
+    writeln!(
+        out,
+        "The library reads a grammar from bytes, its image, and checks it first. The paper marks five\n\
+         images with the number that the check gives; 0 is accepted.\n"
+    )?;
     for sample in &SAMPLES {
-        print_sample(sample);
+        show_sample(out, sample, compared)?;
     }
-    let wrong = SAMPLES
-        .iter()
-        .filter(|sample| check_image(sample.image).number() != sample.number);
-    wrong.count()
+    Ok(())
 }
 
-fn print_sample(sample: &Sample) {
-    let answer = check_image(sample.image);
-    println!();
-    print_line(sample.name, "about", sample.about);
-    print_line("", "bytes", &sample.image.len().to_string());
-    let grammar = grammar_lines(sample.image);
-    print_lines("", "grammar", grammar.iter().map(String::as_str));
-    print_line("", "number", &answer.number().to_string());
-    let label = if answer.accepted() {
-        "accepted"
-    } else {
-        "fails"
-    };
-    print_line("", label, answer.in_words());
-    if answer.number() != sample.number {
-        let expected = format!("{}: {}", sample.number, question_in_words(sample.number));
-        print_line("", "expected", &expected);
-    }
-}
-
-/// A line for each rule. The grammar is read from the image's own bytes.
-fn grammar_lines(image: &[u8]) -> Vec<String> {
-    match read_grammar(image) {
-        Err(number) => vec![format!("none can be read: {}", question_in_words(number))],
-        Ok(grammar) => {
-            let rules = grammar.rules.iter().enumerate();
-            rules
-                .map(|(rule, body)| format!("rule {rule} = {body}"))
-                .collect()
-        }
-    }
+fn show_sample(out: &mut impl Write, sample: &Sample, compared: &mut Compared) -> Shown {
+    let Sample {
+        name, about, image, ..
+    } = sample;
+    let checked = check_image(image);
+    let number = checked.as_ref().map_or_else(number_of, |()| 0);
+    compared.compare(name, &number, &sample.number);
+    compared.compare(name, &number, &reference::check(image));
+    let words = checked.map_or_else(|refusal| refusal.to_string(), |()| "accepted".to_string());
+    writeln!(out, "{name:<5}{about:<29}{number}  {words}")?;
+    Ok(())
 }

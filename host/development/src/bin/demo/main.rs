@@ -1,20 +1,55 @@
-//! Checks the paper's sample images, reads sample texts, lists the rows of a sheet and types into it
-//! with the proved libraries, and prints what they say.
+//! What Bannelgo does, for somebody who sees it for the first time: a sheet, its rows, keys that are
+//! typed into it, refusals and the paper's marked images.
+//!
+//! Every answer is compared with that of a ledger or a checker written apart. The exit status is 1
+//! where one of them differs.
 
+mod compared;
+mod cost;
+mod first;
 mod images;
-mod lines;
-mod readings;
+mod keys;
+mod layout;
+mod planner;
+mod refusals;
 mod rows;
+mod stopped;
+mod summary;
 mod typing;
 
+use compared::Compared;
+use std::error::Error;
+use std::io::{stdout, Write};
 use std::process::ExitCode;
 
+/// A part writes what it shows, or could not go on.
+type Shown = Result<(), Box<dyn Error>>;
+
 fn main() -> ExitCode {
-    match images::print() + readings::print() + rows::print() + typing::print() {
-        0 => ExitCode::SUCCESS,
-        count => {
-            eprintln!("{count} answers are other than expected");
+    let mut compared = Compared::default();
+    match show(&mut stdout().lock(), &mut compared) {
+        Ok(()) if compared.wrong == 0 => ExitCode::SUCCESS,
+        Ok(()) => ExitCode::FAILURE,
+        Err(error) => {
+            eprintln!("the demonstration stopped: {error}");
             ExitCode::FAILURE
         }
     }
+}
+
+fn show(out: &mut impl Write, compared: &mut Compared) -> Shown {
+    writeln!(
+        out,
+        "Bannelgo reads a text by a grammar. What a rule gave at a position is kept, so that after a\n\
+         key only what the key changed is evaluated. The functions that do this are proved."
+    )?;
+    planner::show(out, compared)?;
+    rows::show(out, compared)?;
+    let line = keys::typed_line(compared)?;
+    keys::show(out, &line)?;
+    stopped::show(out, &line)?;
+    summary::show(out, &line, compared)?;
+    refusals::show(out, compared)?;
+    images::show(out, compared)?;
+    compared.show(out)
 }

@@ -1,65 +1,57 @@
-//! The rows of the planner's sheet: the calls that made the match.
+//! The rows of the planner's sheet as a tree: the calls that made the match.
 
-use bannelgo::Row;
-use bannelgo_development::bridge::{Refusal, Sheet};
-use bannelgo_development::gap_sheet::sheet;
+use crate::compared::Compared;
+use crate::layout::heading;
+use crate::Shown;
+use bannelgo::{Listing, Sheet, Tree, MOST_ROWS};
+use bannelgo_development::calls::{Answer, Call};
+use bannelgo_development::gap_sheet::{named_sheet, tree_of};
 use bannelgo_development::gap_text::PLANNERS_SHEET;
-use bannelgo_development::numbering::{image_of, Numbering};
 use bannelgo_development::reference::ledger::Ledger;
-
-const SLOTS: usize = 1_000;
+use std::io::Write;
 
 /// Rows of a greater depth are counted and not printed.
-const DEEPEST: usize = 3;
+const DEEPEST: usize = 2;
 
-/// Of a longer text only so many bytes are printed.
-const MOST_SHOWN: usize = 24;
+/// The entry that is shown with the calls inside it.
+const SHOWN_ENTRY: &str = "red;";
 
-/// Prints the rows and answers 1 where they are other than the ledger's.
-pub fn print() -> usize {
-    println!("\nBannelgo's gap-sheet reader: the rows of the sheet, down to depth {DEEPEST}\n");
-    let grammar = sheet();
+pub fn show(out: &mut impl Write, compared: &mut Compared) -> Shown {
+    let grammar = named_sheet();
     let text = PLANNERS_SHEET.as_bytes();
-    let image = image_of(&grammar, Numbering::Preorder);
-    let rows = listed(&image, text);
-    match &rows {
-        Ok(rows) => print_rows(rows),
-        Err(refusal) => println!("{refusal}: {}", refusal.in_words()),
+    let tree = Sheet::open(&grammar, text, text.len())?.tree()?;
+    let written_apart = tree_of(&grammar);
+    let mut ledger = Ledger::open(&written_apart, text.len(), text);
+    let expected = ledger.call(&Call::List { slots: MOST_ROWS });
+    compared.compare("the rows of the sheet", &listed(&tree), &expected);
+
+    heading(out, "The rows")?;
+    writeln!(
+        out,
+        "The calls that made the match: rule, bytes and text, each below the call that it was made\n\
+         in. Down to depth {DEEPEST}:\n"
+    )?;
+    write!(out, "{}", tree.down_to(DEEPEST))?;
+    show_entry(out, &tree)
+}
+
+/// The tree as the listing that it was made from.
+fn listed(tree: &Tree) -> Result<Answer, u64> {
+    Ok(Answer::Listing(Listing {
+        read: tree.read(),
+        rows: tree.nodes().map(|node| node.row()).collect(),
+    }))
+}
+
+fn show_entry(out: &mut impl Write, tree: &Tree) -> Shown {
+    let mut nodes = tree.nodes();
+    let shown = nodes
+        .find(|node| node.name() == "Entry" && node.text().starts_with(SHOWN_ENTRY.as_bytes()));
+    if let Some(entry) = shown {
+        writeln!(out, "\nOne entry with the calls made in it:\n\n{entry}")?;
+        for child in entry.children() {
+            writeln!(out, "  {child}")?;
+        }
     }
-    let expected = Ledger::open(&grammar, text.len(), text).rows(SLOTS);
-    usize::from(rows.ok() != expected)
-}
-
-fn listed(image: &[u8], text: &[u8]) -> Result<Vec<Row>, Refusal> {
-    let listing = Sheet::open(image, text, text.len())?.list(SLOTS)?;
-    Ok(listing.rows)
-}
-
-fn print_rows(rows: &[Row]) {
-    let printed = rows.iter().filter(|row| row.depth <= DEEPEST);
-    for row in printed.clone() {
-        println!("{}", line(row));
-    }
-    let deeper = rows.len() - printed.count();
-    println!("\n{} rows, {deeper} of them deeper", rows.len());
-}
-
-/// Rule, start and length, indented by the depth, and the beginning of the text that it matched.
-fn line(row: &Row) -> String {
-    let Row {
-        rule,
-        depth,
-        start,
-        length,
-    } = row;
-    let fields = format!("rule {rule}, start {start}, length {length}");
-    let matched = &PLANNERS_SHEET[*start..start + length];
-    let shown = matched[..matched.len().min(MOST_SHOWN)].escape_default();
-    let more = if matched.len() > MOST_SHOWN {
-        " .."
-    } else {
-        ""
-    };
-    let indented = format!("{:indent$}{fields}", "", indent = 2 * depth);
-    format!("{indented:<38}\"{shown}\"{more}")
+    Ok(())
 }

@@ -1,118 +1,113 @@
-//! Keys typed into the planner's sheet, one by one.
+//! A line that is typed into a sheet, key by key.
 
-use crate::lines::print_lines;
-use bannelgo_development::bridge::{Refusal, Sheet};
+use crate::compared::Compared;
+use bannelgo::{Edited, Grammar, Refusal, Sheet, SheetReading};
 use bannelgo_development::calls::{Answer, Call};
-use bannelgo_development::gap_sheet::sheet;
-use bannelgo_development::gap_text::PLANNERS_SHEET;
-use bannelgo_development::numbering::{image_of, Numbering};
+use bannelgo_development::gap_sheet::tree_of;
 use bannelgo_development::reference::ledger::Ledger;
+use std::time::{Duration, Instant};
 
-/// A line that is typed behind the third gap, with a slip that is taken back.
-const TYPED: &str = "red;  14:000\u{8}:00 / 14:15:00;  7.5\n";
+/// An entry with a slip that is taken back.
+pub const TYPED: &str = "red;  14:000\u{8}:00 / 14:15:00;  7.5\n";
 
 /// What deletes the byte before the cursor.
-const BACKSPACE: u8 = 8;
+pub const BACKSPACE: u8 = 8;
 
-/// Types the keys and answers how many steps got another answer than the ledger's.
-pub fn print() -> usize {
-    println!("\nBannelgo's gap-sheet reader: keys, each with an edit and a reading\n");
-    print_lines("sheet", "text", PLANNERS_SHEET.lines());
-    println!(
-        "\n{:<12}{:>6}{:>7}{:>9}{:>8}{:>13}",
-        "key", "bytes", "stand", "reading", "length", "evaluations"
-    );
-    let grammar = sheet();
-    let image = image_of(&grammar, Numbering::Preorder);
-    let cap = PLANNERS_SHEET.len() + TYPED.len();
-    let opened = Sheet::open(&image, PLANNERS_SHEET.as_bytes(), cap);
-    let mut both = Both {
-        sheet: opened.expect("the sheet is opened"),
-        ledger: Ledger::open(&grammar, cap, PLANNERS_SHEET.as_bytes()),
-        wrong: 0,
-    };
-    print_step(
-        "opened",
-        both.sheet.text().len(),
-        None,
-        both.ask(Call::Read),
-    );
+/// What a key did to the sheet.
+pub struct Step {
+    pub key: u8,
+    cursor: usize,
+    edited: Edited,
+    pub read: SheetReading,
+    /// The text that the edit left.
+    pub text: Vec<u8>,
+    /// The time of edit and reading together.
+    pub time: Duration,
+}
 
-    let third_gap = PLANNERS_SHEET.find("\n\n").expect("a blank line follows");
-    let mut cursor = third_gap + 1;
+/// The place behind a line that a blank line follows, the first one at or after `from`.
+pub fn before_blank_line(text: &[u8], from: usize) -> usize {
+    let blank = text[from..].windows(2).position(|two| two == b"\n\n");
+    from + blank.expect("the sample sheets have blank lines") + 1
+}
+
+/// Opens and reads a text and types the line at a cursor, with a reading after each key. The ledger
+/// is asked the same afterwards, so that it takes no part in the times.
+pub fn type_line(
+    grammar: &Grammar,
+    text: &[u8],
+    mut cursor: usize,
+    compared: &mut Compared,
+) -> Result<Vec<Step>, Refusal> {
+    let room = text.len() + TYPED.len();
+    let mut sheet = Sheet::open(grammar, text, room)?;
+    let opened = sheet.read()?;
+    let mut steps = vec![];
     for key in TYPED.bytes() {
-        cursor = both.type_key(cursor, key);
-    }
-    both.wrong
-}
-
-type Said = Result<Answer, Refusal>;
-
-/// The sheet, and the ledger that is asked the same.
-struct Both<'g> {
-    sheet: Sheet,
-    ledger: Ledger<'g>,
-    wrong: usize,
-}
-
-impl Both<'_> {
-    /// Types a key, prints the step and answers where the cursor is then.
-    fn type_key(&mut self, cursor: usize, key: u8) -> usize {
-        let (start, replacement) = match key {
-            BACKSPACE => (cursor - 1, vec![]),
-            key => (cursor, vec![key]),
-        };
-        let after = start + replacement.len();
-        let edited = self.ask(Call::Edit {
-            start,
-            end: cursor,
-            replacement,
-        });
-        let read = self.ask(Call::Read);
-        print_step(&key_name(key), self.sheet.text().len(), Some(edited), read);
-        after
+        steps.push(Step::of(&mut sheet, cursor, key)?);
+        cursor = cursor_after(cursor, key);
     }
 
-    fn ask(&mut self, call: Call) -> Said {
-        let expected = self.ledger.call(&call).map_err(Refusal::Question);
-        let said = self.sheet.call(&call);
-        if said != expected {
-            eprintln!("the sheet says {said:?}, the ledger {expected:?}");
-            self.wrong += 1;
-        }
-        said
+    let written_apart = tree_of(grammar);
+    let mut ledger = Ledger::open(&written_apart, room, text);
+    let read = Ok(Answer::Reading(opened));
+    compared.compare("first reading", &read, &ledger.call(&Call::Read));
+    for step in &steps {
+        step.compare(&mut ledger, compared);
     }
+    Ok(steps)
 }
 
-fn print_step(key: &str, bytes: usize, edited: Option<Said>, read: Said) {
-    let stand = match edited {
-        Some(Ok(Answer::Edited(edited))) => edited.standing.to_string(),
-        Some(other) => in_words(other),
-        None => String::new(),
-    };
-    match read {
-        Ok(Answer::Reading(read)) => println!(
-            "{key:<12}{bytes:>6}{stand:>7}{:>9}{:>8}{:>13}",
-            read.reading.outcome.to_string(),
-            read.reading.length,
-            read.evaluations
-        ),
-        other => println!("{key:<12}{bytes:>6}{stand:>7}  {}", in_words(other)),
-    }
-}
-
-fn in_words(said: Said) -> String {
-    match said {
-        Ok(answer) => answer.to_string(),
-        Err(refusal) => format!("{refusal}: {}", refusal.in_words()),
-    }
-}
-
-fn key_name(key: u8) -> String {
+/// The edit that a key is: the bytes from the first place to the second give way to the replacement.
+fn edit_of(cursor: usize, key: u8) -> (usize, usize, Vec<u8>) {
     match key {
-        BACKSPACE => "backspace".to_string(),
-        b'\n' => "new line".to_string(),
-        b' ' => "space".to_string(),
-        key => char::from(key).to_string(),
+        BACKSPACE => (cursor - 1, cursor, vec![]),
+        key => (cursor, cursor, vec![key]),
+    }
+}
+
+fn cursor_after(cursor: usize, key: u8) -> usize {
+    let (start, _, replacement) = edit_of(cursor, key);
+    start + replacement.len()
+}
+
+impl Step {
+    fn of(sheet: &mut Sheet, cursor: usize, key: u8) -> Result<Step, Refusal> {
+        let (start, end, replacement) = edit_of(cursor, key);
+        let begin = Instant::now();
+        let edited = sheet.edit(start..end, &replacement);
+        let read = sheet.read();
+        let time = begin.elapsed();
+        Ok(Step {
+            key,
+            cursor,
+            edited: edited?,
+            read: read?,
+            text: sheet.text().to_vec(),
+            time,
+        })
+    }
+
+    fn compare(&self, ledger: &mut Ledger<'_>, compared: &mut Compared) {
+        let (start, end, replacement) = edit_of(self.cursor, self.key);
+        let edit = Call::Edit {
+            start,
+            end,
+            replacement,
+        };
+        let edited = Ok(Answer::Edited(self.edited));
+        let read = Ok(Answer::Reading(self.read));
+        let escaped = |text: &[u8]| text.escape_ascii().to_string();
+        compared.compare(&format!("{edit}"), &edited, &ledger.call(&edit));
+        compared.compare(
+            &format!("the text after {edit}"),
+            &escaped(&self.text),
+            &escaped(ledger.text()),
+        );
+        compared.compare(
+            &format!("the reading after {edit}"),
+            &read,
+            &ledger.call(&Call::Read),
+        );
     }
 }

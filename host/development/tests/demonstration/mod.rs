@@ -1,0 +1,9 @@
+//! What the demonstration printed, part by part, beside what the ledger says.
+
+mod costs;
+mod images;
+mod keys;
+pub mod output;
+mod refusals;
+mod sheet;
+pub mod typed;

@@ -1,0 +1,74 @@
+//! What the ledger says to the keys that the demonstration types.
+
+use bannelgo::{Outcome, SheetReading};
+use bannelgo_development::calls::{Answer, Call};
+use bannelgo_development::expr::Grammar;
+use bannelgo_development::reference::ledger::Ledger;
+
+/// The keys: an entry with a slip that is taken back.
+pub const KEYS: &str = "red;  14:000\u{8}:00 / 14:15:00;  7.5\n";
+
+/// A key, the text behind it and its reading.
+pub struct Typed {
+    pub key: char,
+    pub text: Vec<u8>,
+    pub read: SheetReading,
+}
+
+/// Types the keys in front of the first blank line at or after a place.
+pub fn typed(grammar: &Grammar, text: &str, from: usize) -> Vec<Typed> {
+    let blank = text[from..].find("\n\n").expect("there is a blank line");
+    let mut cursor = from + blank + 1;
+    let room = text.len() + KEYS.len();
+    let mut ledger = Ledger::open(grammar, room, text.as_bytes());
+    read(&mut ledger);
+    let mut keys = vec![];
+    for key in KEYS.chars() {
+        let (start, replacement) = match key {
+            '\u{8}' => (cursor - 1, String::new()),
+            key => (cursor, key.to_string()),
+        };
+        let edit = Call::Edit {
+            start,
+            end: cursor,
+            replacement: replacement.clone().into_bytes(),
+        };
+        ledger.call(&edit).expect("the edit is not refused");
+        cursor = start + replacement.len();
+        let read = read(&mut ledger);
+        let text = ledger.text().to_vec();
+        keys.push(Typed { key, text, read });
+    }
+    keys
+}
+
+pub fn first_reading(grammar: &Grammar, text: &[u8]) -> SheetReading {
+    read(&mut Ledger::open(grammar, text.len(), text))
+}
+
+fn read(ledger: &mut Ledger<'_>) -> SheetReading {
+    match ledger.call(&Call::Read) {
+        Ok(Answer::Reading(read)) => read,
+        other => panic!("the ledger says {other:?}"),
+    }
+}
+
+impl Typed {
+    pub fn name(&self) -> String {
+        match self.key {
+            '\u{8}' => "backspace".into(),
+            '\n' => "enter".into(),
+            ' ' => "space".into(),
+            key => key.into(),
+        }
+    }
+
+    /// Line and column of the last byte that was examined, from 1 on; nothing where all matched.
+    pub fn stopped(&self) -> Option<(usize, usize)> {
+        let reading = self.read.reading;
+        let before = &self.text[..reading.examined - 1];
+        let lines: Vec<&[u8]> = before.split(|&byte| byte == b'\n').collect();
+        let column = lines.last().map_or(0, |line| line.len()) + 1;
+        (reading.outcome != Outcome::Whole).then_some((lines.len(), column))
+    }
+}
