@@ -1,13 +1,12 @@
-//! The calls that are counted. All that touches the proved libraries is in this file.
+//! The calls that are counted. All that touches the proved library is in this file.
 
+use bannelgo::raw::check_image;
+use bannelgo::{lending, plain_reading};
 use bannelgo_development::big_images::{blocks, relay};
-use bannelgo_development::bridge::Sheet;
 use bannelgo_development::expr::Grammar;
-use bannelgo_development::image_check::check_image;
+use bannelgo_development::gap_sheet::{sheet, sheet_of_days, sheet_of_lines};
+use bannelgo_development::gap_text::{keys, long_sheet, long_sheet_of_days, typing_places};
 use bannelgo_development::numbering::{image_of, Numbering};
-use bannelgo_development::plain_reading::{plain_reading, Outcome};
-use bannelgo_development::sheet::{sheet, sheet_of_days, sheet_of_lines};
-use bannelgo_development::sheet_text::{keys, long_sheet, long_sheet_of_days, typing_places};
 
 /// A call with what goes before it.
 pub struct Counted {
@@ -66,7 +65,7 @@ fn checks() -> Vec<Counted> {
         symbol: "bannelgo_check_image",
         work: Box::new(move || {
             let image = image_of(&grammar(), numbering);
-            assert!(check_image(&image).accepted());
+            assert_eq!(check_image(&image), 0);
         }),
     });
     counted.into()
@@ -79,7 +78,7 @@ fn plain((size, bytes): (&str, usize)) -> Counted {
         work: Box::new(move || {
             let image = image_of(&sheet(), Numbering::Preorder);
             let read = plain_reading(&image, &long_sheet(bytes));
-            assert!(read.is_ok_and(|read| read.outcome == Outcome::Whole));
+            assert!(read.is_ok_and(|read| read.is_whole()));
         }),
     }
 }
@@ -89,7 +88,7 @@ fn opening((size, bytes): (&str, usize)) -> Counted {
         name: format!("open, {size}"),
         symbol: "bannelgo_open",
         work: Box::new(move || {
-            open(sheet_of_lines, &long_sheet_of_days(bytes));
+            Lent::open(sheet_of_lines, &long_sheet_of_days(bytes));
         }),
     }
 }
@@ -99,8 +98,7 @@ fn first_reading((name, grammar): (&str, GrammarOf), (size, bytes): (&str, usize
         name: format!("first reading, {name}, {size}"),
         symbol: "bannelgo_read",
         work: Box::new(move || {
-            let mut sheet = open(grammar, &long_sheet_of_days(bytes));
-            read(&mut sheet);
+            Lent::open(grammar, &long_sheet_of_days(bytes)).read();
         }),
     }
 }
@@ -110,9 +108,9 @@ fn listing((name, grammar): (&str, GrammarOf), (size, bytes): (&str, usize)) -> 
         name: format!("listing, {name}, {size}"),
         symbol: "bannelgo_list",
         work: Box::new(move || {
-            let mut sheet = open(grammar, &long_sheet_of_days(bytes));
-            read(&mut sheet);
-            list(&mut sheet);
+            let mut sheet = Lent::open(grammar, &long_sheet_of_days(bytes));
+            sheet.read();
+            sheet.list();
         }),
     }
 }
@@ -149,27 +147,63 @@ fn type_key(grammar: GrammarOf, bytes: usize, place: &str, and_read: bool) {
     let mut keys = keys();
     text.splice(at..at, keys.by_ref().take(TYPED));
     let at = at + TYPED;
-    let mut sheet = open(grammar, &text);
-    list(&mut sheet);
-    let key = keys.next().expect("keys have no end");
-    assert!(sheet.edit(at, at, &[key]).is_ok());
+    let mut sheet = Lent::open(grammar, &text);
+    sheet.list();
+    sheet.type_key(at, keys.next().expect("keys have no end"));
     if and_read {
-        read(&mut sheet);
+        sheet.read();
     }
 }
 
-fn open(grammar: GrammarOf, text: &[u8]) -> Sheet {
-    let image = image_of(&grammar(), Numbering::Preorder);
-    let opened = Sheet::open(&image, text, text.len() + ROOM);
-    opened.expect("the sheet is opened")
+/// A sheet over lent buffers: each function makes just one call.
+struct Lent {
+    image: Vec<u8>,
+    buffer: Vec<u8>,
+    n: usize,
+    table: Vec<u64>,
 }
 
-fn read(sheet: &mut Sheet) {
-    let read = sheet.read().expect("the sheet is read");
-    assert_eq!(read.reading.outcome, Outcome::Whole);
-}
+impl Lent {
+    fn open(grammar: GrammarOf, text: &[u8]) -> Lent {
+        let image = image_of(&grammar(), Numbering::Preorder);
+        let mut buffer = vec![0; text.len() + ROOM];
+        let mut table = vec![0; lending::table_words(&image, buffer.len())];
+        let opened = lending::open(&image, text, &mut buffer, &mut table);
+        let n = opened.expect("the sheet is opened");
+        Lent {
+            image,
+            buffer,
+            n,
+            table,
+        }
+    }
 
-fn list(sheet: &mut Sheet) {
-    let listing = sheet.list(SLOTS).expect("the sheet is listed");
-    assert!(listing.rows.len() > sheet.text().len() / 2);
+    fn type_key(&mut self, at: usize, key: u8) {
+        let Lent {
+            image,
+            buffer,
+            n,
+            table,
+        } = self;
+        let edited = lending::edit(image, buffer, *n, table, at..at, &[key]);
+        *n = edited.expect("there is room").length;
+    }
+
+    fn read(&mut self) {
+        let read = lending::read(&self.image, &self.buffer, self.n, &mut self.table);
+        assert!(read.expect("the sheet is read").reading.is_whole());
+    }
+
+    fn list(&mut self) {
+        let mut slots = vec![0; SLOTS];
+        let listed = lending::list(
+            &self.image,
+            &self.buffer,
+            self.n,
+            &mut self.table,
+            &mut slots,
+        );
+        let (_, rows) = listed.expect("the sheet is listed");
+        assert!(rows > self.n / 2);
+    }
 }

@@ -9,7 +9,7 @@ mod ours;
 mod peer;
 mod peg;
 
-use bannelgo_development::sheet_text::long_sheet_of_days;
+use bannelgo_development::gap_text::long_sheet_of_days;
 use figures::{Table, BATCHES, READINGS, ROUNDS};
 use peer::{kept, Lack, Lengths, Peer};
 use std::path::PathBuf;
