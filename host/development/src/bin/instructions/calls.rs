@@ -4,7 +4,7 @@ use bannelgo::raw::check_image;
 use bannelgo::{lending, plain_reading};
 use bannelgo_development::big_images::{blocks, relay};
 use bannelgo_development::expr::Grammar;
-use bannelgo_development::gap_sheet::{sheet, sheet_of_days, sheet_of_lines};
+use bannelgo_development::gap_sheet::{named_sheet, sheet, sheet_of_days, sheet_of_lines};
 use bannelgo_development::gap_text::{keys, long_sheet, long_sheet_of_days, typing_places};
 use bannelgo_development::numbering::{image_of, Numbering};
 
@@ -55,20 +55,25 @@ pub fn all() -> Vec<Counted> {
 }
 
 fn checks() -> Vec<Counted> {
-    let images: [(&str, GrammarOf, Numbering); 3] = [
-        ("sheet", sheet, Numbering::Preorder),
-        ("relay, worst order", || relay(64), Numbering::LastRuleFirst),
-        ("blocks", blocks, Numbering::Preorder),
-    ];
-    let counted = images.map(|(name, grammar, numbering)| Counted {
+    let counted = |name: &str, work: fn()| Counted {
         name: format!("image check, {name}"),
         symbol: "bannelgo_check_image",
-        work: Box::new(move || {
-            let image = image_of(&grammar(), numbering);
-            assert_eq!(check_image(&image), 0);
+        work: Box::new(work),
+    };
+    vec![
+        counted("sheet", || {
+            // The builder makes the call.
+            named_sheet();
         }),
-    });
-    counted.into()
+        counted("relay, worst order", || {
+            check(&relay(64), Numbering::LastRuleFirst);
+        }),
+        counted("blocks", || check(&blocks(), Numbering::Preorder)),
+    ]
+}
+
+fn check(grammar: &Grammar, numbering: Numbering) {
+    assert_eq!(check_image(&image_of(grammar, numbering)), 0);
 }
 
 fn plain((size, bytes): (&str, usize)) -> Counted {
