@@ -3,17 +3,17 @@
 use super::figures::Figures;
 use super::peer::Lengths;
 use crate::typing::ROOM;
-use bannelgo_development::bridge::lending;
+use bannelgo_development::bridge::{lending, Sheet};
 use bannelgo_development::expr::Grammar;
 use bannelgo_development::numbering::{image_of, Numbering};
 use bannelgo_development::packrat::Packrat;
 use bannelgo_development::plain_reading::{plain_reading, Outcome};
 use bannelgo_development::sheet::sheet_of_lines;
-use bannelgo_development::sheet_text::PLANNERS_SHEET;
+use bannelgo_development::sheet_text::{end_of_line, keys, PLANNERS_SHEET};
 use std::hint::black_box;
 
-/// The figures of a round of each reader over a text that all match whole. Each of ours checks the image in each call.
-pub fn round(text: &[u8]) -> [(&'static str, Figures); 3] {
+/// The figures of a round of each reader over a text that all match whole. Each call of ours checks the image; a key is two calls.
+pub fn round(text: &[u8]) -> [(&'static str, Figures); 4] {
     let grammar = sheet_of_lines();
     let image = image_of(&grammar, Numbering::Preorder);
     [
@@ -22,6 +22,7 @@ pub fn round(text: &[u8]) -> [(&'static str, Figures); 3] {
             "ours, open and first reading",
             first(&image, grammar.rules.len(), text),
         ),
+        ("ours, a key in the middle", key(&image, text)),
         ("packrat parser in Rust", packrat(&grammar, text)),
     ]
 }
@@ -42,6 +43,20 @@ fn first(image: &[u8], rules: usize, text: &[u8]) -> Figures {
         assert_eq!(opened.opened(), Ok(n));
         let read = lending::read(image, &buffer, n, &mut table).read();
         assert_eq!(read.map(|read| read.reading.length), Ok(n));
+    })
+}
+
+/// Keys typed close together into a sheet that was read before.
+fn key(image: &[u8], text: &[u8]) -> Figures {
+    let opened = Sheet::open(image, text, text.len() + ROOM);
+    let mut sheet = opened.expect("the sheet is opened");
+    sheet.read().expect("the sheet is read");
+    let mut keys = (end_of_line(text, text.len() / 2)..).zip(keys());
+    Figures::of(|| {
+        let (at, key) = keys.next().expect("keys have no end");
+        assert!(sheet.edit(at, at, &[key]).is_ok());
+        let read = sheet.read().map(|read| read.reading.outcome);
+        assert_eq!(read, Ok(Outcome::Whole));
     })
 }
 
