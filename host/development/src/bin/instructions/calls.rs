@@ -8,12 +8,12 @@ use bannelgo_development::gap_sheet::{named_sheet, sheet, sheet_of_days, sheet_o
 use bannelgo_development::gap_text::{keys, long_sheet, long_sheet_of_days, typing_places};
 use bannelgo_development::numbering::{image_of, Numbering};
 
-/// A call with what goes before it.
+/// A call with what goes before and behind it.
 pub struct Counted {
     pub name: String,
     /// The exported function whose instructions are counted.
     pub symbol: &'static str,
-    /// Calls that function once, and others before it.
+    /// Calls that function once, and others that are not counted.
     pub work: Box<dyn Fn()>,
 }
 
@@ -121,43 +121,36 @@ fn listing((name, grammar): (&str, GrammarOf), (size, bytes): (&str, usize)) -> 
 }
 
 /// Edit and reading of a key at each place of a long sheet, and in the middle of a short one.
-fn keys_at_places((name, grammar): (&str, GrammarOf), size: (&str, usize)) -> Vec<Counted> {
-    let places = match size {
-        (_, 60_000) => vec!["start", "middle", "end"],
-        _ => vec!["middle"],
+fn keys_at_places(
+    (name, grammar): (&str, GrammarOf),
+    (size, bytes): (&str, usize),
+) -> Vec<Counted> {
+    let places: &'static [&'static str] = match bytes {
+        60_000 => &["start", "middle", "end"],
+        _ => &["middle"],
     };
-    let (size, bytes) = size;
-    let counted = |what: &str, symbol, place: &'static str, and_read: bool| Counted {
-        name: format!("{what}, {name}, {size}, {place}"),
-        symbol,
-        work: Box::new(move || type_key(grammar, bytes, place, and_read)),
-    };
-    places
-        .into_iter()
-        .flat_map(|place| {
-            [
-                counted("edit of a key", "bannelgo_edit", place, false),
-                counted("reading of a key", "bannelgo_read", place, true),
-            ]
+    let counted = |place: &'static str| {
+        [("edit", "bannelgo_edit"), ("reading", "bannelgo_read")].map(|(what, symbol)| Counted {
+            name: format!("{what} of a key, {name}, {size}, {place}"),
+            symbol,
+            work: Box::new(move || type_key(grammar, bytes, place)),
         })
-        .collect()
+    };
+    places.iter().flat_map(|place| counted(place)).collect()
 }
 
-/// Types one key at the end of an unfinished line. The sheet is read by a listing before, so that a reading is called at most once.
-fn type_key(grammar: GrammarOf, bytes: usize, place: &str, and_read: bool) {
+/// Types one key at the end of an unfinished line and reads. The sheet is read by a listing before, so that there is one reading.
+fn type_key(grammar: GrammarOf, bytes: usize, place: &str) {
     let mut text = long_sheet_of_days(bytes);
     let places = typing_places(&text);
     let at = places.iter().find(|(name, _)| *name == place);
     let (_, at) = *at.expect("the sheet has such a place");
     let mut keys = keys();
     text.splice(at..at, keys.by_ref().take(TYPED));
-    let at = at + TYPED;
     let mut sheet = Lent::open(grammar, &text);
     sheet.list();
-    sheet.type_key(at, keys.next().expect("keys have no end"));
-    if and_read {
-        sheet.read();
-    }
+    sheet.type_key(at + TYPED, keys.next().expect("keys have no end"));
+    sheet.read();
 }
 
 /// A sheet over lent buffers: each function makes just one call.
