@@ -1,19 +1,19 @@
 //! The example json of the package bannelgo: each key held to the ledger, texts that RFC 8259 allows and
 //! texts that it does not, drawn documents and edits of them, and how deep brackets go.
 
-mod documents;
 #[allow(dead_code)]
 #[path = "../../bannelgo/examples/json/main.rs"]
 mod json;
+mod json_documents;
 
 use bannelgo::{Grammar, Outcome};
 use bannelgo_development::calls::Call;
 use bannelgo_development::gap_sheet::tree_of;
 use bannelgo_development::rng::Rng;
 use bannelgo_development::small_stack::on_small_stack;
-use documents::both::{first_reading, Both};
-use documents::draws::{drawn_document, drawn_edit};
-use documents::texts::{INVALID, VALID};
+use json_documents::both::{first_reading, Both};
+use json_documents::draws::{drawn_document, drawn_edit};
+use json_documents::texts::{INVALID, VALID};
 
 fn json_grammar() -> Grammar {
     json::grammar::json().expect("the check accepts the grammar of JSON")
