@@ -15,7 +15,7 @@ use std::error::Error;
 
 const TEXT: &str = "# quarter-hours\n[meter]\nroom = 96\nname = Köln 7\nlost\n";
 
-/// The rules that have a colour, each with its number in a terminal.
+/// The rules that have a colour, each with a terminal's number for it.
 const COLOURS: [(&str, u8); 6] = [
     ("Comment", 90),
     ("Section", 35),
@@ -51,7 +51,7 @@ fn to_the_end(part: Expr) -> Expr {
     sequence([part, and(choice([literal("\n"), not(any())]))])
 }
 
-/// The text with a terminal's sign wherever the colour changes, by the rows in these slots.
+/// The text with a terminal's code wherever the colour changes, by the rows in these slots.
 fn coloured(grammar: &Grammar, text: &[u8], slots: &[u64]) -> String {
     let mut colours = vec![0; text.len()];
     // Parents come first, so that the colour of an inner row is the one that stays.
@@ -90,26 +90,15 @@ fn main() -> Result<(), Box<dyn Error>> {
 
     let n = lending::open(image, TEXT.as_bytes(), &mut buffer, &mut table)?;
     let (read, rows) = lending::list(image, &buffer, n, &mut table, &mut slots)?;
-    println!(
-        "{}{read}\n",
-        coloured(&grammar, &buffer[..n], &slots[..rows])
-    );
+    let shown = coloured(&grammar, &buffer[..n], &slots[..rows]);
+    println!("{shown}{read}\n");
 
-    let behind_96 = TEXT.find("96").map_or(0, |at| at + 2);
-    let n = lending::edit(
-        image,
-        &mut buffer,
-        n,
-        &mut table,
-        behind_96..behind_96,
-        b"h",
-    )?
-    .length;
+    let at = TEXT.find("96").map_or(0, |at| at + 2);
+    let edited = lending::edit(image, &mut buffer, n, &mut table, at..at, b"h")?;
+    let n = edited.length;
     let (read, rows) = lending::list(image, &buffer, n, &mut table, &mut slots)?;
-    println!(
-        "{}{read}\n",
-        coloured(&grammar, &buffer[..n], &slots[..rows])
-    );
+    let shown = coloured(&grammar, &buffer[..n], &slots[..rows]);
+    println!("{shown}{read}\n");
 
     let long = b"# a line for which there is no room\n";
     if let Err(refusal) = lending::edit(image, &mut buffer, n, &mut table, 0..0, long) {

@@ -149,6 +149,9 @@ pub fn range(low: u8, high: u8) -> Expr {
 
 /// One of these bytes. None at all never matches.
 ///
+/// Of a character that has several bytes in UTF-8 each byte is one of them: a choice between such
+/// characters is `choice([literal("ä"), literal("ö")])`.
+///
 /// ```
 /// use bannelgo::grammar::{one_of, Grammar};
 ///
@@ -203,6 +206,9 @@ pub fn sequence(parts: impl IntoIterator<Item = Expr>) -> Expr {
 }
 
 /// The first part that matches. No part at all never matches.
+///
+/// Each part adds one to the nesting of those behind it, and the nesting of a reading ends at 4,096: a
+/// part that leads back to the rule it stands in goes deepest where it comes first.
 ///
 /// ```
 /// use bannelgo::grammar::{choice, literal, Grammar};
