@@ -37,6 +37,9 @@
 //! - [`lending`]: the sheet's calls over buffers of your own.
 //! - [`Refusal`]: why there is no answer. No argument makes a call panic.
 //!
+//! The package's examples/ has three programs: `typing`, the shortest one to begin with; `json`, RFC 8259
+//! as a grammar and a document typed key by key; `highlight`, colours by rows over buffers of its own.
+//!
 //! A reading, a plain reading or a listing of great nesting needs up to 2 MiB of the thread's stack,
 //! which is what Rust gives a thread by default.
 

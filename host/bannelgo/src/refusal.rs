@@ -5,6 +5,28 @@ use crate::raw::Unanswered;
 use std::fmt;
 
 /// Why a call has no answer. Each has a number, which the C header and the README list too.
+///
+/// ```
+/// # use bannelgo::grammar::{call, plus, range, Grammar};
+/// # let grammar = Grammar::builder()
+/// #     .rule("Number", plus(call("Digit")))
+/// #     .rule("Digit", range(b'0', b'9'))
+/// #     .build()?;
+/// use bannelgo::{Refusal, Sheet};
+///
+/// let mut sheet = Sheet::open(&grammar, "123", 4)?;
+/// match sheet.edit(3..3, "45") {
+///     Err(Refusal::EditRoom { room, .. }) => assert_eq!(room, 4),
+///     other => panic!("there is room for 4 bytes, and the answer is {other:?}"),
+/// }
+/// let refusal = sheet.edit(3..5, "").unwrap_err();
+/// assert_eq!(refusal.number(), Some(9));
+/// assert_eq!(
+///     refusal.to_string(),
+///     "the edit of bytes 3 to 5 ends behind the text, which has 3 bytes"
+/// );
+/// # Ok::<(), Box<dyn std::error::Error>>(())
+/// ```
 #[derive(Clone, Debug, PartialEq, Eq)]
 #[non_exhaustive]
 pub enum Refusal {

@@ -7,6 +7,18 @@ use crate::refusal::counted;
 use std::fmt;
 
 /// What is wrong with an image. Rules and nodes are given by their numbers, from 0 on.
+///
+/// ```
+/// use bannelgo::{check_image, Fault, Refusal};
+///
+/// // Edition 1, one rule, one node, start 0; rule 0 is node 0, which calls rule 0.
+/// let image = [0x10, 0x10, 0x01, 0x00, 0x00, 0x00, 0x70, 0x00, 0x00, 0x00];
+/// let Err(Refusal::Image { number, fault }) = check_image(&image) else {
+///     panic!("a rule that only calls itself is refused");
+/// };
+/// assert_eq!(number, 7);
+/// assert_eq!(fault, Some(Fault::Ring { rules: vec![0] }));
+/// ```
 #[derive(Clone, Debug, PartialEq, Eq)]
 #[non_exhaustive]
 pub enum Fault {
