@@ -7,7 +7,7 @@
 //! key it prints the reading, for each line the tree.
 
 use bannelgo::grammar::{call, choice, literal, one_of, plus, range, sequence, star, GrammarError};
-use bannelgo::{Grammar, Outcome, Refusal, Sheet};
+use bannelgo::{Grammar, Refusal, Sheet};
 use std::error::Error;
 use std::io::{self, IsTerminal};
 
@@ -33,18 +33,12 @@ fn sums() -> Result<Grammar, GrammarError> {
 
 /// Types a line in the place of the sheet's text.
 fn type_line(sheet: &mut Sheet, line: &str) -> Result<(), Refusal> {
-    sheet.edit(0..sheet.text().len(), "")?;
+    sheet.edit(.., "")?;
     for key in line.chars() {
-        let end = sheet.text().len();
-        sheet.edit(end..end, key.to_string())?;
+        sheet.edit(sheet.len().., key.to_string())?;
         println!("{key}  {}", sheet.read()?);
     }
-    let tree = sheet.tree()?;
-    print!("{tree}");
-    match tree.read().reading.outcome {
-        Outcome::Part => println!("only in part; read as far as {}\n", tree.reached()),
-        _ => println!(),
-    }
+    println!("{}", sheet.tree()?);
     Ok(())
 }
 

@@ -30,7 +30,7 @@ use crate::refusal::{LoanFault, Refusal};
 use crate::MOST_BYTES;
 use std::ops::Range;
 
-/// The words of the table for an image and a text buffer of `room` bytes: rules × (room + 1).
+/// The words of the table for an image and a text buffer of `cap` bytes: rules × (cap + 1).
 ///
 /// More words may be lent; those behind the table are not touched.
 ///
@@ -44,9 +44,9 @@ use std::ops::Range;
 /// assert_eq!(words, 2 * 1_001); // two rules; one position more than bytes
 /// # Ok::<(), Box<dyn std::error::Error>>(())
 /// ```
-pub fn table_words(image: &[u8], room: usize) -> usize {
+pub fn table_words(image: &[u8], cap: usize) -> usize {
     let rules = Header::of(image).map_or(0, |header| header.rules);
-    rules.saturating_mul(room.saturating_add(1))
+    rules.saturating_mul(cap.saturating_add(1))
 }
 
 /// Opens a text: it is copied to the buffer, whose rest becomes 0, and so does the table. Answers the
@@ -100,7 +100,7 @@ pub fn edit(
             removed: end.saturating_sub(start),
             inserted: replacement.len(),
             length: n,
-            room: loan.room,
+            cap: loan.cap,
         },
         other => loan.refused(other),
     })
@@ -207,7 +207,7 @@ pub fn list(
 /// What is lent to a call, to say what was wrong with it.
 struct Loan<'a> {
     image: &'a [u8],
-    room: usize,
+    cap: usize,
     length: usize,
     words: usize,
 }
@@ -216,7 +216,7 @@ impl Loan<'_> {
     fn of<'a>(image: &'a [u8], buffer: &[u8], length: usize, table: &[u64]) -> Loan<'a> {
         Loan {
             image,
-            room: buffer.len(),
+            cap: buffer.len(),
             length,
             words: table.len(),
         }
@@ -235,16 +235,16 @@ impl Loan<'_> {
     fn fault(&self) -> LoanFault {
         let Loan {
             image,
-            room,
+            cap,
             length,
             words,
         } = *self;
-        if room > MOST_BYTES {
-            LoanFault::Room { room }
-        } else if length > room {
-            LoanFault::Text { length, room }
+        if cap > MOST_BYTES {
+            LoanFault::Cap { cap }
+        } else if length > cap {
+            LoanFault::Text { length, cap }
         } else {
-            let needed = table_words(image, room);
+            let needed = table_words(image, cap);
             LoanFault::Table { words, needed }
         }
     }

@@ -71,6 +71,10 @@ pub use sheet::{Sheet, MOST_ROWS};
 /// The most bytes that a text, and the room for it, can have.
 pub const MOST_BYTES: usize = 65_535;
 
+/// The greatest nesting of a reading: of so many evaluations inside each other it is answered, of more it
+/// is refused with 14.
+pub const MOST_NESTING: usize = 4_096;
+
 /// The README's programs, as doc tests.
 #[cfg(doctest)]
 #[doc = include_str!("../../../README.md")]

@@ -96,6 +96,34 @@ impl Reading {
     pub fn reached(&self, text: impl AsRef<[u8]>) -> Place {
         Place::of(text.as_ref(), self.examined.saturating_sub(1))
     }
+
+    /// Whether the reading looked at the end of the text that was read.
+    ///
+    /// Where it did not, it stays the same whatever is typed behind the text: a text that does not match
+    /// as a whole is then wrong, and not only unfinished.
+    ///
+    /// ```
+    /// # use bannelgo::grammar::{literal, Grammar};
+    /// let grammar = Grammar::builder().rule("Red", literal("red")).build()?;
+    /// assert!(grammar.read("re")?.saw_end("re")); // unfinished
+    /// assert!(!grammar.read("ro")?.saw_end("ro")); // wrong
+    /// # Ok::<(), Box<dyn std::error::Error>>(())
+    /// ```
+    pub fn saw_end(&self, text: impl AsRef<[u8]>) -> bool {
+        self.examined > text.as_ref().len()
+    }
+}
+
+impl SheetReading {
+    /// Whether the whole text matched.
+    pub fn is_whole(&self) -> bool {
+        self.reading.is_whole()
+    }
+
+    /// The last place that the reading looked at, as [`Reading::reached`] says it.
+    pub fn reached(&self, text: impl AsRef<[u8]>) -> Place {
+        self.reading.reached(text)
+    }
 }
 
 impl fmt::Display for Outcome {

@@ -16,7 +16,7 @@ use std::fmt;
 ///
 /// let mut sheet = Sheet::open(&grammar, "123", 4)?;
 /// match sheet.edit(3..3, "45") {
-///     Err(Refusal::EditRoom { room, .. }) => assert_eq!(room, 4),
+///     Err(Refusal::EditRoom { cap, .. }) => assert_eq!(cap, 4),
 ///     other => panic!("there is room for 4 bytes, and the answer is {other:?}"),
 /// }
 /// let refusal = sheet.edit(3..5, "").unwrap_err();
@@ -57,7 +57,7 @@ pub enum Refusal {
         /// The text's length.
         length: usize,
         /// The room for the text.
-        room: usize,
+        cap: usize,
     },
     /// 11: the grammar has no such rule, or the text no such position.
     Pair {
@@ -88,18 +88,18 @@ pub enum Refusal {
 #[non_exhaustive]
 pub enum LoanFault {
     /// The room for text is above 65,535 bytes.
-    Room {
+    Cap {
         /// The room in bytes.
-        room: usize,
+        cap: usize,
     },
     /// The text is longer than its room.
     Text {
         /// The text's length.
         length: usize,
         /// The room for it.
-        room: usize,
+        cap: usize,
     },
-    /// The table has fewer words than rules × (room + 1).
+    /// The table has fewer words than rules × (cap + 1).
     Table {
         /// The words that are lent.
         words: usize,
@@ -155,12 +155,12 @@ impl fmt::Display for Refusal {
                 removed,
                 inserted,
                 length,
-                room,
-            } => write!(
-                out,
-                "the text of {} would lose {removed} and gain {inserted}, and there is room for {room}",
-                counted(*length, "byte")
-            ),
+                cap,
+            } => {
+                let after = length.saturating_sub(*removed).saturating_add(*inserted);
+                let bytes = counted(after, "byte");
+                write!(out, "the text would have {bytes}, and there is room for {cap}")
+            }
             Refusal::Pair { rule, rules, .. } if rule >= rules => {
                 let rules = counted(*rules, "rule");
                 write!(out, "there is no rule {rule}: the grammar has {rules}")
@@ -213,15 +213,15 @@ fn image_in_words(number: u8) -> &'static str {
 impl fmt::Display for LoanFault {
     fn fmt(&self, out: &mut fmt::Formatter<'_>) -> fmt::Result {
         match self {
-            LoanFault::Room { room } => write!(
+            LoanFault::Cap { cap } => write!(
                 out,
                 "there is room for {} of text, and at most 65,535 are allowed",
-                counted(*room, "byte")
+                counted(*cap, "byte")
             ),
-            LoanFault::Text { length, room } => {
+            LoanFault::Text { length, cap } => {
                 write!(
                     out,
-                    "the text has {}, and there is room for {room}",
+                    "the text has {}, and there is room for {cap}",
                     counted(*length, "byte")
                 )
             }

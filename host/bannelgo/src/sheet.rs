@@ -8,7 +8,7 @@ use crate::refusal::Refusal;
 use crate::rows::{Listing, Row, Tree};
 use crate::MOST_BYTES;
 use std::fmt;
-use std::ops::Range;
+use std::ops::{Bound, Range, RangeBounds};
 
 /// A text that is being typed, with its records and the grammar that it is read by.
 ///
@@ -51,20 +51,20 @@ impl Sheet {
     /// use bannelgo::Sheet;
     ///
     /// let sheet = Sheet::open(&grammar, "", 100)?; // to be typed
-    /// assert_eq!((sheet.text(), sheet.room()), (&b""[..], 100));
+    /// assert_eq!((sheet.text(), sheet.cap()), (&b""[..], 100));
     ///
     /// let refusal = Sheet::open(&grammar, "seven", 4).unwrap_err();
     /// assert_eq!(refusal.to_string(), "the text has 5 bytes, and there is room for 4");
     /// # Ok::<(), Box<dyn std::error::Error>>(())
     /// ```
-    pub fn open(grammar: &Grammar, text: impl AsRef<[u8]>, room: usize) -> Result<Sheet, Refusal> {
+    pub fn open(grammar: &Grammar, text: impl AsRef<[u8]>, cap: usize) -> Result<Sheet, Refusal> {
         let image = grammar.image();
         // One byte more than there may be is enough for the library to refuse it.
-        let lent = room.min(MOST_BYTES + 1);
+        let lent = cap.min(MOST_BYTES + 1);
         let mut buffer = vec![0; lent];
         let mut table = vec![0; lending::table_words(image, lent)];
         let opened = lending::open(image, text.as_ref(), &mut buffer, &mut table);
-        let length = opened.map_err(|refusal| with_room(refusal, room))?;
+        let length = opened.map_err(|refusal| with_cap(refusal, cap))?;
         Ok(Sheet {
             grammar: grammar.clone(),
             buffer,
@@ -84,16 +84,19 @@ impl Sheet {
     /// sheet.edit(3..3, "s")?; // typed at the end
     /// sheet.edit(0..1, "m")?; // one letter in the place of another
     /// assert_eq!(sheet.text(), b"maps");
+    /// sheet.edit(1.., "")?; // all but one letter is deleted
+    /// assert_eq!(sheet.text(), b"m");
     ///
-    /// assert!(sheet.edit(4..4, "12345").is_err()); // there is room for 8
-    /// assert_eq!(sheet.text(), b"maps");
+    /// assert!(sheet.edit(1..1, "12345678").is_err()); // there is room for 8
+    /// assert_eq!(sheet.text(), b"m");
     /// # Ok::<(), Box<dyn std::error::Error>>(())
     /// ```
     pub fn edit(
         &mut self,
-        bytes: Range<usize>,
+        bytes: impl RangeBounds<usize>,
         replacement: impl AsRef<[u8]>,
     ) -> Result<Edited, Refusal> {
+        let bytes = range_of(&bytes, self.length);
         let edited = lending::edit(
             self.grammar.image(),
             &mut self.buffer,
@@ -216,7 +219,7 @@ impl Sheet {
     /// ```
     pub fn tree(&mut self) -> Result<Tree, Refusal> {
         let Listing { read, rows } = self.list(MOST_ROWS)?;
-        Ok(Tree::of(&self.grammar, self.text(), read, rows))
+        Ok(Tree::new(&self.grammar, self.text(), read, rows))
     }
 
     /// One listing in so many slots.
@@ -241,8 +244,18 @@ impl Sheet {
         &self.buffer[..self.length]
     }
 
+    /// The length of the text in bytes.
+    pub fn len(&self) -> usize {
+        self.length
+    }
+
+    /// Whether the text has no byte.
+    pub fn is_empty(&self) -> bool {
+        self.length == 0
+    }
+
     /// The room for text in bytes.
-    pub fn room(&self) -> usize {
+    pub fn cap(&self) -> usize {
         self.buffer.len()
     }
 
@@ -252,11 +265,26 @@ impl Sheet {
     }
 }
 
+/// The bytes from the first one on to the one behind the last, in a text of so many bytes.
+fn range_of(bytes: &impl RangeBounds<usize>, length: usize) -> Range<usize> {
+    let start = match bytes.start_bound() {
+        Bound::Included(&first) => first,
+        Bound::Excluded(&before) => before.saturating_add(1),
+        Bound::Unbounded => 0,
+    };
+    let end = match bytes.end_bound() {
+        Bound::Included(&last) => last.saturating_add(1),
+        Bound::Excluded(&behind) => behind,
+        Bound::Unbounded => length,
+    };
+    start..end
+}
+
 /// The refusal of an opening, with the room that was asked for.
-fn with_room(refusal: Refusal, asked: usize) -> Refusal {
-    use crate::LoanFault::Room;
+fn with_cap(refusal: Refusal, asked: usize) -> Refusal {
+    use crate::LoanFault::Cap;
     match refusal {
-        Refusal::Loan(Room { .. }) => Refusal::Loan(Room { room: asked }),
+        Refusal::Loan(Cap { .. }) => Refusal::Loan(Cap { cap: asked }),
         other => other,
     }
 }
@@ -267,7 +295,7 @@ impl fmt::Debug for Sheet {
         out.debug_struct("Sheet")
             .field("grammar", &self.grammar)
             .field("text", &String::from_utf8_lossy(self.text()))
-            .field("room", &self.room())
+            .field("cap", &self.cap())
             .field("held", &held.count())
             .finish()
     }

@@ -74,7 +74,7 @@ fn typing_has_lines_of_its_own() {
             r#"    Value 0..5 "(1+2)""#,
             r#"      Sum 1..4 "1+2""#,
             "+  part, length 1, examined 3, nesting 10, evaluations 4",
-            "only in part; read as far as line 1, column 3",
+            "only a part; read as far as line 1, column 3",
         ],
     );
 }
@@ -87,7 +87,7 @@ fn typing_takes_lines_from_its_input() {
         &printed,
         &[
             "5  part, length 1, examined 5, nesting 19, evaluations 7",
-            "only in part; read as far as line 1, column 5",
+            "only a part; read as far as line 1, column 5",
             "x  none, length 0, examined 1, nesting 8, evaluations 4",
             "no match; read as far as line 1, column 1",
             r#"Sum 0..2 "67""#,
@@ -110,7 +110,7 @@ fn highlight_colours_a_text_and_says_what_is_refused() {
             "\x1b[36mroom\x1b[0m = \x1b[32m96h\x1b[0m",
             "\x1b[36mname\x1b[0m = \x1b[32mKöln 7\x1b[0m",
             "\x1b[0mwhole, length 55, examined 56, nesting 19, evaluations 5",
-            "not typed: the text of 55 bytes would lose 0 and gain 36, and there is room for 64",
+            "not typed: the text would have 91 bytes, and there is room for 64",
             "not listed: the match has more than 5 rows",
             "no grammar: rule Settings calls Line, and no rule has that name",
             "no grammar: rule Lines repeats something that can match without consuming",

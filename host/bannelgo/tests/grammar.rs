@@ -2,7 +2,7 @@
 
 use bannelgo::grammar::{
     and, any, byte, call, choice, empty, literal, not, one_of, optional, plus, range, sequence,
-    star, Builder, Expr, Grammar, GrammarError, MOST_NODES, MOST_RULES,
+    star, times, Builder, Expr, Grammar, GrammarError, MOST_NODES, MOST_RULES,
 };
 
 fn one_rule(body: Expr) -> Result<Grammar, GrammarError> {
@@ -67,6 +67,11 @@ fn what_is_made_of_kinds() {
     assert_eq!(literal("abc"), abc);
     assert_eq!(sequence([a(), byte(b'b'), byte(b'c')]), abc);
     assert_eq!(one_of("ab"), choice([a(), byte(b'b')]));
+    let umlauts = choice([literal("ä"), literal("ö"), a()]);
+    assert_eq!(one_of("äöa"), umlauts);
+    assert_eq!(times(3, a()), sequence([a(), a(), a()]));
+    assert_eq!(times(1, a()), a());
+    assert_eq!(times(0, a()), empty());
     assert_eq!(plus(a()), sequence([a(), star(a())]));
     assert_eq!(optional(a()), choice([a(), empty()]));
     assert_eq!(and(a()), not(not(a())));
@@ -190,6 +195,23 @@ fn expressions_past_every_limit() {
             nodes
         }
     );
+    for (count, nodes) in [
+        (513, 1_025),
+        (1_025, 2_049),
+        (1_026, 2_051),
+        (1 << 40, (1 << 41) - 1),
+    ] {
+        let refused = one_rule(times(count, any())).expect_err("too many nodes");
+        assert_eq!(
+            refused,
+            GrammarError::TooManyNodes {
+                rule: "R".into(),
+                nodes
+            }
+        );
+    }
+    assert!(one_rule(times(usize::MAX, literal("ab"))).is_err());
+    assert!(one_rule(times(512, any())).is_ok());
     assert!(one_rule(literal(vec![0; 1 << 20])).is_err());
     assert!(one_rule(choice(vec![any(); 1 << 20])).is_err());
 

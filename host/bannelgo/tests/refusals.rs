@@ -105,21 +105,21 @@ fn images() {
 #[test]
 fn loans() {
     let grammar = digits();
-    let opening = |text: &str, room| Sheet::open(&grammar, text, room).err();
+    let opening = |text: &str, cap| Sheet::open(&grammar, text, cap).err();
     says(
         opening("123", 2),
         8,
         "the text has 3 bytes, and there is room for 2",
     );
-    let room = "there is room for 65536 bytes of text, and at most 65,535 are allowed";
-    says(opening("123", MOST_BYTES + 1), 8, room);
+    let cap = "there is room for 65536 bytes of text, and at most 65,535 are allowed";
+    says(opening("123", MOST_BYTES + 1), 8, cap);
     let most = format!(
         "there is room for {} bytes of text, and at most 65,535 are allowed",
         usize::MAX
     );
     says(opening("123", usize::MAX), 8, &most);
-    for room in [3, MOST_BYTES] {
-        assert!(opening("123", room).is_none());
+    for cap in [3, MOST_BYTES] {
+        assert!(opening("123", cap).is_none());
     }
     assert!(opening("", 0).is_none());
 
@@ -149,7 +149,7 @@ fn edits_and_look_ups() {
     says(
         sheet.edit(2..3, "3456789").err(),
         10,
-        "the text of 3 bytes would lose 1 and gain 7, and there is room for 8",
+        "the text would have 9 bytes, and there is room for 8",
     );
     says(
         sheet.look_up(2, 0).err(),
@@ -196,8 +196,8 @@ fn readings() {
 
 #[test]
 fn a_refusal_is_an_error() {
-    fn opened(room: usize) -> Result<Sheet, Box<dyn Error>> {
-        Ok(Sheet::open(&digits(), "1", room)?)
+    fn opened(cap: usize) -> Result<Sheet, Box<dyn Error>> {
+        Ok(Sheet::open(&digits(), "1", cap)?)
     }
     assert!(opened(1).is_ok());
     let error = opened(0).expect_err("no room");

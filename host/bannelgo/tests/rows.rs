@@ -3,7 +3,7 @@
 use bannelgo::grammar::{
     any, call, choice, literal, not, one_of, plus, range, sequence, star, Grammar,
 };
-use bannelgo::{Node, Place, Sheet, Tree};
+use bannelgo::{Node, Place, Row, Sheet, Tree};
 
 /// Sum <- Value (Sign Value)*; Value <- "(" Sum ")" / Number.
 fn sums() -> Grammar {
@@ -46,7 +46,7 @@ fn a_tree_prints_its_calls() {
     assert_eq!(tree.down_to(4).to_string(), PRINTED);
     assert_eq!(tree.len(), 11);
     assert_eq!(tree.text(), b"1+(23-4)");
-    assert!(tree.read().reading.is_whole());
+    assert!(tree.reading().reading.is_whole());
 }
 
 /// Every node's parent has it among its children, and the children are just the nodes with that parent.
@@ -100,6 +100,40 @@ fn no_match_says_how_far_it_got() {
 }
 
 #[test]
+fn a_part_says_how_far_it_got() {
+    let printed = tree("1+").to_string();
+    let expected = "Sum 0..1 \"1\"\n  Value 0..1 \"1\"\n    Number 0..1 \"1\"\n\
+                    only a part; read as far as line 1, column 3\n";
+    assert_eq!(printed, expected);
+}
+
+/// Rows that no listing gives make an odd tree and no panic.
+#[test]
+fn any_rows_make_a_tree() {
+    let reading = tree("1").reading();
+    let rows = [
+        (9, 3, 7, 9),
+        (0, 0, 0, 1),
+        (1, 0, 0, 0),
+        (2, usize::MAX, usize::MAX, usize::MAX),
+        (3, 1, 0, 1),
+    ];
+    let rows = rows.map(|(rule, depth, start, length)| Row {
+        rule,
+        depth,
+        start,
+        length,
+    });
+    let odd = Tree::new(&sums(), b"1", reading, rows.to_vec());
+    assert_eq!(odd.nodes().count(), 5);
+    assert!(odd
+        .nodes()
+        .all(|node| node.children().count() < 5 && node.text().len() < 2));
+    assert!(odd.to_string().lines().count() >= 5);
+    assert!(odd.at(0).is_none());
+}
+
+#[test]
 fn long_texts_are_cut_and_odd_bytes_escaped() {
     let grammar = Grammar::builder().rule("All", star(any())).build();
     let grammar = grammar.expect("accepted");
@@ -113,7 +147,17 @@ fn long_texts_are_cut_and_odd_bytes_escaped() {
         shown(format!("{a}b").as_bytes()),
         format!("All 0..33 \"{a}\" ..\n")
     );
-    assert_eq!(shown(b"\"\n\xFF"), "All 0..3 \"\\\"\\n\\xff\"\n");
+    assert_eq!(shown(b"\"\n'\xFF\\"), "All 0..5 \"\\\"\\n'\\xFF\\\\\"\n");
+    let umlauts = "ü".repeat(32);
+    assert_eq!(
+        shown(umlauts.as_bytes()),
+        format!("All 0..64 \"{umlauts}\"\n")
+    );
+    let more = format!("{umlauts}é");
+    assert_eq!(
+        shown(more.as_bytes()),
+        format!("All 0..66 \"{umlauts}\" ..\n")
+    );
     assert_eq!(shown(b""), "All 0..0 \"\"\n");
 }
 
@@ -133,7 +177,7 @@ fn a_listing_grows_its_slots() {
         assert_eq!(listing.read.evaluations, length + 2);
         let tree = sheet.tree().expect("it grows");
         assert_eq!(tree.len(), length + 1);
-        assert_eq!(tree.read().evaluations, 0);
+        assert_eq!(tree.reading().evaluations, 0);
         assert_eq!(tree.root().expect("matched").children().count(), length);
         assert_eq!(sheet.list(length).unwrap_err().number(), Some(15));
         assert_eq!(sheet.list(length + 1).expect("it fits").rows, listing.rows);

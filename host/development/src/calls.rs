@@ -53,8 +53,8 @@ impl fmt::Display for Call {
 }
 
 /// Opens a sheet by the grammar in an image; a refusal is one of 1 to 8.
-pub fn open_image(image: &[u8], text: &[u8], room: usize) -> Result<Sheet, Refusal> {
-    Sheet::open(&Grammar::from_image(image)?, text, room)
+pub fn open_image(image: &[u8], text: &[u8], cap: usize) -> Result<Sheet, Refusal> {
+    Sheet::open(&Grammar::from_image(image)?, text, cap)
 }
 
 /// Makes any of these calls; where it is refused, its number.

@@ -49,7 +49,7 @@ fn marked_1() {
     assert_eq!(sheet.word(1, 2), Ok(0x8000_0002_0001_0000));
     assert_eq!(sheet.word(0, 1), Ok(0));
     assert_eq!(sheet.text(), b"12a");
-    assert_eq!(sheet.room(), 8);
+    assert_eq!(sheet.cap(), 8);
 }
 
 #[test]

@@ -48,7 +48,7 @@ fn main() -> Result<(), Box<dyn Error>> {
 /// A text that can be gone on with was looked at to its end.
 fn looked_at_last(reading: &Reading, text: &[u8]) -> String {
     let place = reading.reached(text);
-    match place.offset == text.len() {
+    match reading.saw_end(text) {
         true => format!("{place}, the end"),
         false => place.to_string(),
     }

@@ -147,20 +147,18 @@ pub fn range(low: u8, high: u8) -> Expr {
     Expr::leaf(Part::Range(low, high))
 }
 
-/// One of these bytes. None at all never matches.
-///
-/// Of a character that has several bytes in UTF-8 each byte is one of them: a choice between such
-/// characters is `choice([literal("ä"), literal("ö")])`.
+/// One of these characters, each by its bytes in UTF-8. None at all never matches.
 ///
 /// ```
 /// use bannelgo::grammar::{one_of, Grammar};
 ///
-/// let grammar = Grammar::builder().rule("Sign", one_of("+-")).build()?;
+/// let grammar = Grammar::builder().rule("Sign", one_of("+-±")).build()?;
 /// assert!(grammar.read("-")?.is_whole());
+/// assert!(grammar.read("±")?.is_whole());
 /// # Ok::<(), Box<dyn std::error::Error>>(())
 /// ```
-pub fn one_of(bytes: impl AsRef<[u8]>) -> Expr {
-    choice(bytes.as_ref().iter().map(|&value| byte(value)))
+pub fn one_of(characters: &str) -> Expr {
+    choice(characters.chars().map(|one| literal(one.to_string())))
 }
 
 /// These bytes one after the other. No byte at all matches nothing long.
@@ -256,6 +254,25 @@ pub fn star(repeated: Expr) -> Expr {
 /// ```
 pub fn not(unwanted: Expr) -> Expr {
     Expr::over(Part::Not, unwanted)
+}
+
+/// So many times, one after the other. It takes the nodes of all of them.
+///
+/// ```
+/// use bannelgo::grammar::{range, times, Grammar};
+///
+/// let grammar = Grammar::builder().rule("Year", times(4, range(b'0', b'9'))).build()?;
+/// assert!(grammar.read("2026")?.is_whole());
+/// assert!(!grammar.read("202")?.is_whole());
+/// # Ok::<(), Box<dyn std::error::Error>>(())
+/// ```
+pub fn times(count: usize, part: Expr) -> Expr {
+    // More than 1,024 parts are only counted, and each further one adds itself and a joint.
+    let written = count.min(MOST_NODES + 1);
+    let added = (count - written).saturating_mul(part.nodes.saturating_add(1));
+    let mut expr = sequence(vec![part; written]);
+    expr.nodes = expr.nodes.saturating_add(added);
+    expr
 }
 
 /// At least once: `repeated`, then `star(repeated)`. It takes the nodes of both.

@@ -43,7 +43,7 @@ pub use builder::Builder;
 pub use error::GrammarError;
 pub use expr::{
     and, any, byte, call, choice, empty, literal, not, one_of, optional, plus, range, sequence,
-    star, Expr,
+    star, times, Expr,
 };
 
 use crate::image::{check_image, Header};
@@ -121,6 +121,16 @@ impl Grammar {
     /// The rules' names, in the order of their numbers.
     pub fn names(&self) -> impl Iterator<Item = &str> {
         self.names.iter().map(String::as_str)
+    }
+
+    /// The number of rules.
+    pub fn rules(&self) -> usize {
+        self.names.len()
+    }
+
+    /// The number of nodes: the expressions and their parts.
+    pub fn nodes(&self) -> usize {
+        Header::of(&self.image).map_or(0, |header| header.nodes)
     }
 
     /// The name of a rule, by its number.

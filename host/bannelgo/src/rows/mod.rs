@@ -53,6 +53,6 @@ impl Row {
 
     /// The bytes that it matched.
     pub fn range(&self) -> Range<usize> {
-        self.start..self.start + self.length
+        self.start..self.start.saturating_add(self.length)
     }
 }

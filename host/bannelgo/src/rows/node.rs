@@ -51,7 +51,7 @@ impl<'t> Node<'t> {
 
     /// The number of calls around it.
     pub fn depth(&self) -> usize {
-        self.row().depth
+        self.tree.links[self.place].level
     }
 
     /// The bytes that it matched.

@@ -3,7 +3,7 @@
 use super::{Node, Tree};
 use std::fmt;
 
-/// Of a longer text only so many bytes are printed.
+/// Of a longer text only so many characters are printed.
 const MOST_SHOWN: usize = 32;
 
 /// A tree printed down to a depth: what [`Tree::down_to`] gives.
@@ -16,15 +16,24 @@ pub struct DownTo<'t> {
 /// The rule's name, the bytes, and the beginning of the text that it matched.
 impl fmt::Display for Node<'_> {
     fn fmt(&self, out: &mut fmt::Formatter<'_>) -> fmt::Result {
-        let text = self.text();
-        let shown = &text[..text.len().min(MOST_SHOWN)];
         let (name, range) = (self.name(), self.range());
-        write!(out, "{name} {range:?} \"{}\"", shown.escape_ascii())?;
-        match text.len() > MOST_SHOWN {
-            true => write!(out, " .."),
-            false => Ok(()),
-        }
+        let mut shown = characters(self.text());
+        let text: String = shown.by_ref().take(MOST_SHOWN).collect();
+        let more = if shown.next().is_some() { " .." } else { "" };
+        write!(out, "{name} {range:?} \"{text}\"{more}")
     }
+}
+
+/// The characters of a text, escaped where they do not print; a byte that is in none as `\xFF`.
+fn characters(text: &[u8]) -> impl Iterator<Item = String> + '_ {
+    text.utf8_chunks().flat_map(|chunk| {
+        let valid = chunk.valid().chars().map(|one| match one {
+            '\'' => one.to_string(),
+            _ => one.escape_debug().to_string(),
+        });
+        let invalid = chunk.invalid().iter();
+        valid.chain(invalid.map(|byte| format!("\\x{byte:02X}")))
+    })
 }
 
 impl fmt::Display for DownTo<'_> {
@@ -35,11 +44,15 @@ impl fmt::Display for DownTo<'_> {
         }
         let shown = |node: &Node<'_>| node.depth() <= self.depth;
         for node in tree.nodes().filter(shown) {
-            writeln!(out, "{:indent$}{node}", "", indent = 2 * node.depth())?;
+            writeln!(out, "{}{node}", "  ".repeat(node.depth()))?;
         }
-        match tree.nodes().filter(|node| !shown(node)).count() {
-            0 => Ok(()),
-            deeper => writeln!(out, "and {deeper} deeper"),
+        let deeper = tree.nodes().filter(|node| !shown(node)).count();
+        if deeper > 0 {
+            writeln!(out, "and {deeper} deeper")?;
+        }
+        match tree.reading().is_whole() {
+            true => Ok(()),
+            false => writeln!(out, "only a part; read as far as {}", tree.reached()),
         }
     }
 }

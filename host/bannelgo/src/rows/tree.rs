@@ -32,24 +32,43 @@ use crate::reading::SheetReading;
 pub struct Tree {
     pub(super) grammar: Grammar,
     pub(super) text: Vec<u8>,
-    read: SheetReading,
+    reading: SheetReading,
     pub(super) rows: Vec<Row>,
-    /// For each row its parent, and the place of the first row that is not below it.
+    /// For each row where it stands in the tree.
     pub(super) links: Vec<Link>,
 }
 
 #[derive(Clone, Copy, Debug)]
 pub(super) struct Link {
     pub(super) parent: Option<usize>,
+    /// The place of the first row that is not below it.
     pub(super) behind: usize,
+    /// How many rows are around it. A row of a listing has this as its depth.
+    pub(super) level: usize,
 }
 
 impl Tree {
-    pub(crate) fn of(grammar: &Grammar, text: &[u8], read: SheetReading, rows: Vec<Row>) -> Tree {
+    /// The tree of rows that stand parents first, left to right, as a listing gives them; for a host that
+    /// calls [`lending::list`](crate::lending::list). [`Sheet::tree`](crate::Sheet::tree) makes the same.
+    ///
+    /// ```
+    /// # use bannelgo::grammar::{range, Grammar};
+    /// # use bannelgo::{lending, Row, Tree};
+    /// # let grammar = Grammar::builder().rule("Digit", range(b'0', b'9')).build()?;
+    /// # let (image, mut buffer, mut slots) = (grammar.image(), [0; 8], [0; 9]);
+    /// # let mut table = vec![0; lending::table_words(image, 8)];
+    /// # let n = lending::open(image, b"7", &mut buffer, &mut table)?;
+    /// let (reading, rows) = lending::list(image, &buffer, n, &mut table, &mut slots)?;
+    /// let rows = slots[..rows].iter().map(|&word| Row::from_word(word));
+    /// let tree = Tree::new(&grammar, &buffer[..n], reading, rows.collect());
+    /// assert_eq!(tree.to_string(), "Digit 0..1 \"7\"\n");
+    /// # Ok::<(), Box<dyn std::error::Error>>(())
+    /// ```
+    pub fn new(grammar: &Grammar, text: &[u8], reading: SheetReading, rows: Vec<Row>) -> Tree {
         Tree {
             grammar: grammar.clone(),
             text: text.to_vec(),
-            read,
+            reading,
             links: links(&rows),
             rows,
         }
@@ -88,8 +107,8 @@ impl Tree {
     }
 
     /// The reading that the tree was made with.
-    pub fn read(&self) -> SheetReading {
-        self.read
+    pub fn reading(&self) -> SheetReading {
+        self.reading
     }
 
     /// The text that was read.
@@ -112,7 +131,7 @@ impl Tree {
     /// # Ok::<(), Box<dyn std::error::Error>>(())
     /// ```
     pub fn reached(&self) -> Place {
-        self.read.reading.reached(&self.text)
+        self.reading.reached(&self.text)
     }
 
     /// The innermost call that matched the byte at a position, if there is one.
@@ -172,6 +191,7 @@ fn links(rows: &[Row]) -> Vec<Link> {
         links.push(Link {
             parent: open.last().copied(),
             behind: rows.len(),
+            level: open.len(),
         });
         open.push(place);
     }

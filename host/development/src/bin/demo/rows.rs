@@ -38,7 +38,7 @@ pub fn show(out: &mut impl Write, compared: &mut Compared) -> Shown {
 /// The tree as the listing that it was made from.
 fn listed(tree: &Tree) -> Result<Answer, u64> {
     Ok(Answer::Listing(Listing {
-        read: tree.read(),
+        read: tree.reading(),
         rows: tree.nodes().map(|node| node.row()).collect(),
     }))
 }
