@@ -34,8 +34,9 @@ pub fn show(out: &mut impl Write, keys: &[Key]) -> Shown {
     heading(out, "Keys")?;
     writeln!(
         out,
-        "A line is typed behind the third gap, with a slip that is taken back, and the sheet is read\n\
-         after each key. The outcome is whole where all of it matched, and none where it did not.\n"
+        "A line is typed behind the third gap, with a slip that is taken back, and the\n\
+         sheet is read after each key. The outcome is whole where the sheet matched to\n\
+         its end, and none where it did not.\n"
     )?;
     let (key, bytes, outcome) = ("", "", "");
     writeln!(out, "{key:<11}{bytes:>5}   {outcome:<9}pairs evaluated by")?;

@@ -24,8 +24,8 @@ fn show_step(out: &mut impl Write, step: &Step) -> Shown {
     let there: String = line.chars().skip(reached.column - 1).take(1).collect();
     writeln!(
         out,
-        "While a line is only unfinished, the reading stops behind its last byte. With the slip in\n\
-         it, the reading stops at the slip:\n"
+        "While a line is only unfinished, the reading stops behind its last byte. With\n\
+         the slip in it, the reading stops at the slip:\n"
     )?;
     writeln!(out, "{}", numbered(reached.line, line))?;
     writeln!(out, "{}", mark_under(reached.column))?;
