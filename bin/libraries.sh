@@ -1,12 +1,45 @@
-# Sourced by bin/demo and bin/bench at the root of the repository: builds the proved libraries that are missing. Where BANNELGO_LIB is
-# set, host/build.rs links the libraries of that folder and none is built.
-for library in exports bridge; do
-    if [[ -z "${BANNELGO_LIB:-}" && ! -f target/staticlib/lib$library.a ]]; then
-        mkdir -p target
-        echo "building the library $library; its log is target/staticlib.log" >&2
-        if ! rt staticlib "$library" >target/staticlib.log 2>&1; then
-            echo "rt staticlib $library failed; see target/staticlib.log" >&2
-            exit 1
+# Sourced at the root of the repository: builds the proved library where it is missing, and says on standard error how far that is. Where
+# BANNELGO_LIB is set, host/bannelgo/build.rs links the library of that folder and none is built.
+
+# How many crates the library is made of. In crates.txt a crate stands below those that it uses.
+library_crates() {
+    sed 's/#.*//' crates.txt | tac | awk -F: '
+        BEGIN { wanted["bannelgo"] = 1 }
+        $1 in wanted { count++; n = split($2, used, " "); for (i = 1; i <= n; i++) wanted[used[i]] = 1 }
+        END { print count }'
+}
+
+# Reads what rt says and keeps of it a line for each crate that is proved: "proved 7 of 27: checker (12 s)".
+proved_of() {
+    local total=$1 count=0 line
+    while IFS= read -r line; do
+        if [[ $line =~ ^rt:\ ([a-z_]+)\ proved\ (\(.*\))$ ]]; then
+            count=$((count + 1))
+            echo "proved $count of $total: ${BASH_REMATCH[1]} ${BASH_REMATCH[2]}"
         fi
+    done
+}
+
+# Proves the crates below the library, as many at a time as rt has jobs, then the library itself, which becomes the archive.
+prove_library() {
+    local log=$1 total below
+    total=$(library_crates)
+    read -ra below < <(sed -n 's/^bannelgo: *//p' crates.txt)
+    (set -o pipefail && rt check "${below[@]}" 2>&1 | tee "$log" | proved_of "$total") || return
+    echo "proving $total of $total: bannelgo, and compiling it"
+    rt staticlib bannelgo >>"$log" 2>&1
+}
+
+if [[ -z "${BANNELGO_LIB:-}" && ! -f target/staticlib/libbannelgo.a ]]; then
+    if ! command -v rt >/dev/null; then
+        echo "rt is not on the PATH: the Rattle kit proves and builds the library" >&2
+        exit 1
     fi
-done
+    mkdir -p target
+    echo "proving and building target/staticlib/libbannelgo.a; the log is target/staticlib.log" >&2
+    if ! prove_library target/staticlib.log >&2; then
+        echo "the library was not built; target/staticlib.log ends with:" >&2
+        tail -n 12 target/staticlib.log | cut -c 1-300 >&2
+        exit 1
+    fi
+fi

@@ -1,11 +1,10 @@
-/* Bannelgo's gap-sheet reader from C.
+/* Bannelgo's gap-sheet reader from C and C++: C99 or C++11 and later.
  *
- * bannelgo_check_image and bannelgo_plain_reading are in libexports.a, the sheet's calls in libbridge.a. Both libraries need only
- * the C library's memcpy and memset. Every image, text, number and table content has an answer.
+ * Link libbannelgo.a, which needs only the C library's memcpy and memset. Every image, text, number and table content has an answer.
  *
  * How to lend: a slice passes as a pointer and its length, in bytes or, for the table and the rows, in words of 64 bits. It is lent
- * until the call returns; nothing is kept. A pointer is never NULL, also where the length is 0, and one to words is aligned to 8 bytes.
- * What a call may write to overlaps nothing else that is lent to it.
+ * until the call returns; nothing is kept. A pointer is never NULL, also where the length is 0 (data() of an empty std::vector may be
+ * NULL), and one to words is aligned to 8 bytes. What a call may write to overlaps nothing else that is lent to it.
  *
  * Stack: where the nesting comes near 4,096, bannelgo_plain_reading, bannelgo_read and bannelgo_list need up to 2 MiB. */
 #ifndef BANNELGO_H
@@ -13,6 +12,17 @@
 
 #include <stddef.h>
 #include <stdint.h>
+
+/* The version of this header and of the library that is installed with it: in parts, as a string, and as a number for #if. */
+#define BANNELGO_VERSION_MAJOR 0
+#define BANNELGO_VERSION_MINOR 1
+#define BANNELGO_VERSION_PATCH 0
+#define BANNELGO_VERSION "0.1.0"
+#define BANNELGO_VERSION_NUMBER (BANNELGO_VERSION_MAJOR * 1000000 + BANNELGO_VERSION_MINOR * 1000 + BANNELGO_VERSION_PATCH)
+
+#ifdef __cplusplus
+extern "C" {
+#endif
 
 /* The number of an answer: 0, or the first question that is answered no. n is the length of the text in bytes, cap the length of
  * the text buffer; s, e and n' are an edit's start, end and new length. */
@@ -49,8 +59,8 @@ enum bannelgo_outcome {
 
 /* A record's word, and the word of an answered plain reading: bit 63 set, matched in bit 62, zero in bits 61 to 46, nesting in bits
  * 45 to 33, examined in bits 32 to 16, length in bits 15 to 0. */
-static inline int bannelgo_is_held(uint64_t word) { return (int)(word >> 63); }
-static inline int bannelgo_is_matched(uint64_t word) { return (int)(word >> 62 & 1); }
+static inline int bannelgo_is_held(uint64_t word) { return (word >> 63 & 1) != 0; }
+static inline int bannelgo_is_matched(uint64_t word) { return (word >> 62 & 1) != 0; }
 static inline uint64_t bannelgo_nesting(uint64_t word) { return word >> 33 & 0x1FFF; }
 static inline uint64_t bannelgo_examined(uint64_t word) { return word >> 16 & 0x1FFFF; }
 static inline uint64_t bannelgo_length(uint64_t word) { return word & 0xFFFF; }
@@ -62,8 +72,6 @@ static inline uint64_t bannelgo_row_depth(uint64_t row) { return row >> 32 & 0xF
 static inline uint64_t bannelgo_row_start(uint64_t row) { return row >> 16 & 0xFFFF; }
 static inline uint64_t bannelgo_row_length(uint64_t row) { return row & 0xFFFF; }
 
-/* libexports.a */
-
 /* The number of the first of questions 1 to 7 that the image fails, 0 where it passes all seven. */
 uint64_t bannelgo_check_image(const uint8_t *image, size_t image_length);
 
@@ -71,9 +79,7 @@ uint64_t bannelgo_check_image(const uint8_t *image, size_t image_length);
  * reading is whole where it matched with the length of the text. For some grammars the time grows exponentially with the text. */
 uint64_t bannelgo_plain_reading(const uint8_t *image, size_t image_length, const uint8_t *text, size_t text_length);
 
-/* libbridge.a
- *
- * For a sheet the caller lends
+/* For a sheet the caller lends
  *   buffer  the text and the room behind it: cap bytes, at most BANNELGO_MAX_CAP;
  *   table   the records: at least bannelgo_table_words(image, cap) words. Words behind these are not touched.
  * bannelgo_open fills both. Later calls are lent the same image, buffer and table, and as n the length that bannelgo_open or the last
@@ -81,8 +87,8 @@ uint64_t bannelgo_plain_reading(const uint8_t *image, size_t image_length, const
 
 /* rules * (cap + 1). The image has at least 2 bytes. */
 static inline size_t bannelgo_table_words(const uint8_t *image, size_t cap) {
-    size_t rules = (size_t)(image[0] & 0xF) << 4 | (size_t)image[1] >> 4;
-    return rules * (cap + 1);
+    size_t first = image[0], second = image[1];
+    return (first % 16 * 16 + second / 16) * (cap + 1);
 }
 
 /* What a sheet's call answers. Fields that it does not use are 0; a refusal has its number alone. A listing is a reading too. */
@@ -119,5 +125,9 @@ struct bannelgo_answer bannelgo_look_up(const uint8_t *image, size_t image_lengt
  * where there are more rows than rows_length, which keeps the records of the reading. A refusal leaves all rows. */
 struct bannelgo_answer bannelgo_list(const uint8_t *image, size_t image_length, const uint8_t *buffer, size_t cap, size_t n,
                                      uint64_t *table, size_t table_length, uint64_t *rows, size_t rows_length);
+
+#ifdef __cplusplus
+}
+#endif
 
 #endif

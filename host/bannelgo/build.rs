@@ -1,6 +1,6 @@
-// Links the static libraries `exports` and `bridge`, which hold the proved functions.
-// BANNELGO_LIB names their folder, absolute or relative to this package; the default is ../../target/staticlib.
-// The test of the C program links the same ones: it reads the folder's name from BANNELGO_LIB_FOLDER.
+// Links the static library libbannelgo.a, which holds the proved functions.
+// BANNELGO_LIB names its folder, absolute or relative to this package; the default is ../../target/staticlib.
+// A package that depends on this one finds the folder's name in DEP_BANNELGO_FOLDER while its own build script runs.
 
 use std::path::{Path, PathBuf};
 
@@ -11,18 +11,16 @@ fn main() {
         Ok(named) => package.join(named),
         Err(_) => package.join("../../target/staticlib"),
     };
+    let library = folder.join("libbannelgo.a");
 
     println!("cargo:rerun-if-env-changed=BANNELGO_LIB");
-    println!("cargo:rustc-link-search=native={}", folder.display());
-    println!("cargo:rustc-env=BANNELGO_LIB_FOLDER={}", folder.display());
-    for name in ["exports", "bridge"] {
-        let library = folder.join(format!("lib{name}.a"));
-        println!("cargo:rerun-if-changed={}", library.display());
-        if !library.is_file() {
-            eprintln!("{} is missing", library.display());
-            eprintln!("build it with: rt staticlib {name}");
-            std::process::exit(1);
-        }
-        println!("cargo:rustc-link-lib=static={name}");
+    println!("cargo:rerun-if-changed={}", library.display());
+    if !library.is_file() {
+        eprintln!("{} is missing", library.display());
+        eprintln!("build it with: rt staticlib bannelgo");
+        std::process::exit(1);
     }
+    println!("cargo:rustc-link-search=native={}", folder.display());
+    println!("cargo:rustc-link-lib=static=bannelgo");
+    println!("cargo:folder={}", folder.display());
 }

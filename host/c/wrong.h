@@ -1,5 +1,5 @@
-/* The test puts this in front of the example: the answers of the function that the environment names in WRONG_CALL become wrong.
- * The field with the number WRONG_FIELD, from 0 on, is one too high, or the whole answer where it is a word. */
+/* The test puts this in front of an example, in C or in C++: the answers of the function that the environment names in WRONG_CALL
+ * become wrong. The field with the number WRONG_FIELD, from 0 on, is one too high, or the whole answer where it is a word. */
 #include "bannelgo.h"
 
 #include <stdlib.h>

@@ -215,7 +215,7 @@ fn eval_call(
 }
 
 // A rule, whose body has that root, at a position: its pair is looked up before its body is evaluated.
-pub fn eval_rule(
+fn eval_rule(
     words: &[u32; 4097],
     text: &&[u8],
     table: &mut [u64],

@@ -4,6 +4,7 @@ pub mod Rules
 pub mod Runs
 pub mod Stars
 pub mod LoadedRuns
+pub mod Start
 pub mod Gain
 pub mod Grown
 pub mod Framed

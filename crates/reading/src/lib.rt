@@ -3,3 +3,4 @@
 pub mod code;
 pub mod plain;
 pub mod session;
+mod start;

@@ -1,6 +1,6 @@
 // The plain reading: a reading without records. Its answer depends on the image and the text alone.
+use crate::start;
 use grammar::numbers;
-use records::Record;
 ghost use Prim.Native.Nat.{_≤_};
 ghost use mathlib.Core.Path.{_≡_};
 ghost use lib.ListN.{length};
@@ -62,22 +62,9 @@ fn start_word(image: &[u8], text: &[u8]) -> u64
     requires { ⌜ Accepted (now image) × (length (now text) ≤ 65535) ⌝ }
     ensures { λ r. ⌜ StartWord (now (image .entry)) (now (text .entry)) r ⌝ }
 {
-    let words = loaded::load(image);
-    let header = image::header_of(image);
-    let body = image::rule_at(image, header.start);
-    let root = body.root;
-    let word = words[root];
     let mut table = [0u64; 0];
     let mut count = 0u64;
-    evaluator::eval_word(
-        &words,
-        &text,
-        &mut table,
-        &mut count,
-        word,
-        0,
-        Record::MAX_NESTING,
-    )
+    start::start_body(image, text, &mut table, &mut count)
 }
 
 // The reading of a text by a grammar. Refuses an image with its number 1 to 7, a text above 65,535 bytes with 8, and a start pair

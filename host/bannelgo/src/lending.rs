@@ -33,6 +33,17 @@ use std::ops::Range;
 /// The words of the table for an image and a text buffer of `room` bytes: rules × (room + 1).
 ///
 /// More words may be lent; those behind the table are not touched.
+///
+/// ```
+/// # use bannelgo::grammar::{call, plus, range, Grammar};
+/// # let grammar = Grammar::builder()
+/// #     .rule("Number", plus(call("Digit")))
+/// #     .rule("Digit", range(b'0', b'9'))
+/// #     .build()?;
+/// let words = bannelgo::lending::table_words(grammar.image(), 1_000);
+/// assert_eq!(words, 2 * 1_001); // two rules; one position more than bytes
+/// # Ok::<(), Box<dyn std::error::Error>>(())
+/// ```
 pub fn table_words(image: &[u8], room: usize) -> usize {
     let rules = Header::of(image).map_or(0, |header| header.rules);
     rules.saturating_mul(room.saturating_add(1))
@@ -52,6 +63,22 @@ pub fn open(
 }
 
 /// These bytes of the text give way to `replacement`. A refusal is one of 1 to 10 and changes nothing.
+///
+/// ```
+/// # use bannelgo::grammar::{call, plus, range, Grammar};
+/// # let grammar = Grammar::builder()
+/// #     .rule("Number", plus(call("Digit")))
+/// #     .rule("Digit", range(b'0', b'9'))
+/// #     .build()?;
+/// # use bannelgo::lending;
+/// # let image = grammar.image();
+/// # let mut buffer = [0; 8];
+/// # let mut table = vec![0; lending::table_words(image, buffer.len())];
+/// let n = lending::open(image, b"12", &mut buffer, &mut table)?;
+/// let n = lending::edit(image, &mut buffer, n, &mut table, 0..1, b"34")?.length;
+/// assert_eq!(&buffer[..n], b"342");
+/// # Ok::<(), Box<dyn std::error::Error>>(())
+/// ```
 pub fn edit(
     image: &[u8],
     buffer: &mut [u8],
@@ -96,6 +123,26 @@ pub fn read(
 
 /// The table's word of a rule at a position, which [`Record::from_word`](crate::Record::from_word)
 /// takes apart. A refusal is one of 1 to 8, or 11.
+///
+/// ```
+/// # use bannelgo::grammar::{call, plus, range, Grammar};
+/// # let grammar = Grammar::builder()
+/// #     .rule("Number", plus(call("Digit")))
+/// #     .rule("Digit", range(b'0', b'9'))
+/// #     .build()?;
+/// # use bannelgo::lending;
+/// # let image = grammar.image();
+/// # let mut buffer = [0; 8];
+/// # let mut table = vec![0; lending::table_words(image, buffer.len())];
+/// use bannelgo::Record;
+///
+/// let n = lending::open(image, b"12", &mut buffer, &mut table)?;
+/// lending::read(image, &buffer, n, &mut table)?;
+/// let word = lending::look_up(image, &buffer, n, &table, 1, 2)?; // Digit at the end
+/// let record = Record::from_word(word).expect("it was tried there");
+/// assert!(!record.matched);
+/// # Ok::<(), Box<dyn std::error::Error>>(())
+/// ```
 pub fn look_up(
     image: &[u8],
     buffer: &[u8],
@@ -121,6 +168,27 @@ pub fn look_up(
 /// [`Row::from_word`](crate::Row::from_word) takes apart. Answers the reading and the number of rows.
 /// Refusals are those of [`read`], and 15 where there are more rows than slots. A refusal leaves the
 /// slots as they are; after 15 the records of the reading are kept.
+///
+/// ```
+/// # use bannelgo::grammar::{call, plus, range, Grammar};
+/// # let grammar = Grammar::builder()
+/// #     .rule("Number", plus(call("Digit")))
+/// #     .rule("Digit", range(b'0', b'9'))
+/// #     .build()?;
+/// # use bannelgo::lending;
+/// # let image = grammar.image();
+/// # let mut buffer = [0; 8];
+/// # let mut table = vec![0; lending::table_words(image, buffer.len())];
+/// use bannelgo::Row;
+///
+/// let n = lending::open(image, b"12", &mut buffer, &mut table)?;
+/// let mut slots = [0; 10];
+/// let (read, rows) = lending::list(image, &buffer, n, &mut table, &mut slots)?;
+/// assert!(read.reading.is_whole());
+/// assert_eq!(rows, 3);
+/// assert_eq!(Row::from_word(slots[2]).range(), 1..2);
+/// # Ok::<(), Box<dyn std::error::Error>>(())
+/// ```
 pub fn list(
     image: &[u8],
     buffer: &[u8],

@@ -37,6 +37,9 @@
 //! - [`lending`]: the sheet's calls over buffers of your own.
 //! - [`Refusal`]: why there is no answer. No argument makes a call panic.
 //!
+//! The package's examples/ has three programs: `typing`, the shortest one to begin with; `json`, RFC 8259
+//! as a grammar and a document typed key by key; `highlight`, colours by rows over buffers of its own.
+//!
 //! A reading, a plain reading or a listing of great nesting needs up to 2 MiB of the thread's stack,
 //! which is what Rust gives a thread by default.
 
@@ -67,3 +70,8 @@ pub use sheet::{Sheet, MOST_ROWS};
 
 /// The most bytes that a text, and the room for it, can have.
 pub const MOST_BYTES: usize = 65_535;
+
+/// The README's programs, as doc tests.
+#[cfg(doctest)]
+#[doc = include_str!("../../../README.md")]
+struct Readme;

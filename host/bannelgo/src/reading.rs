@@ -4,6 +4,17 @@ use crate::place::Place;
 use std::fmt;
 
 /// How much of the text a reading matched.
+///
+/// ```
+/// use bannelgo::grammar::{plus, range, Grammar};
+/// use bannelgo::Outcome;
+///
+/// let grammar = Grammar::builder().rule("Number", plus(range(b'0', b'9'))).build()?;
+/// assert_eq!(grammar.read("12")?.outcome, Outcome::Whole);
+/// assert_eq!(grammar.read("12a")?.outcome, Outcome::Part);
+/// assert_eq!(grammar.read("a")?.outcome, Outcome::Nothing);
+/// # Ok::<(), Box<dyn std::error::Error>>(())
+/// ```
 #[derive(Clone, Copy, Debug, PartialEq, Eq, Hash)]
 pub enum Outcome {
     /// Matched, and the length is the text's.
@@ -38,6 +49,19 @@ pub struct SheetReading {
 }
 
 /// What an edit answers.
+///
+/// ```
+/// # use bannelgo::grammar::{call, plus, range, Grammar};
+/// # let grammar = Grammar::builder()
+/// #     .rule("Number", plus(call("Digit")))
+/// #     .rule("Digit", range(b'0', b'9'))
+/// #     .build()?;
+/// let mut sheet = bannelgo::Sheet::open(&grammar, "12", 8)?;
+/// sheet.read()?; // records of Number at 0, and of Digit at 0, 1 and 2
+/// let edited = sheet.edit(2..2, "3")?;
+/// assert_eq!(edited.to_string(), "length 3, 3 stand"); // Digit at 0 and 1, and the one at 2 moved to 3
+/// # Ok::<(), Box<dyn std::error::Error>>(())
+/// ```
 #[derive(Clone, Copy, Debug, PartialEq, Eq, Hash)]
 pub struct Edited {
     /// The new length of the text in bytes.

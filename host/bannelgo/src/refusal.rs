@@ -5,6 +5,28 @@ use crate::raw::Unanswered;
 use std::fmt;
 
 /// Why a call has no answer. Each has a number, which the C header and the README list too.
+///
+/// ```
+/// # use bannelgo::grammar::{call, plus, range, Grammar};
+/// # let grammar = Grammar::builder()
+/// #     .rule("Number", plus(call("Digit")))
+/// #     .rule("Digit", range(b'0', b'9'))
+/// #     .build()?;
+/// use bannelgo::{Refusal, Sheet};
+///
+/// let mut sheet = Sheet::open(&grammar, "123", 4)?;
+/// match sheet.edit(3..3, "45") {
+///     Err(Refusal::EditRoom { room, .. }) => assert_eq!(room, 4),
+///     other => panic!("there is room for 4 bytes, and the answer is {other:?}"),
+/// }
+/// let refusal = sheet.edit(3..5, "").unwrap_err();
+/// assert_eq!(refusal.number(), Some(9));
+/// assert_eq!(
+///     refusal.to_string(),
+///     "the edit of bytes 3 to 5 ends behind the text, which has 3 bytes"
+/// );
+/// # Ok::<(), Box<dyn std::error::Error>>(())
+/// ```
 #[derive(Clone, Debug, PartialEq, Eq)]
 #[non_exhaustive]
 pub enum Refusal {
@@ -126,7 +148,8 @@ impl fmt::Display for Refusal {
             ),
             Refusal::EditRange { start, end, length } => write!(
                 out,
-                "the edit of bytes {start} to {end} ends behind the text, which has {length} bytes"
+                "the edit of bytes {start} to {end} ends behind the text, which has {}",
+                counted(*length, "byte")
             ),
             Refusal::EditRoom {
                 removed,
@@ -135,16 +158,19 @@ impl fmt::Display for Refusal {
                 room,
             } => write!(
                 out,
-                "the text of {length} bytes would lose {removed} and gain {inserted}, and there is room for {room}"
+                "the text of {} would lose {removed} and gain {inserted}, and there is room for {room}",
+                counted(*length, "byte")
             ),
             Refusal::Pair { rule, rules, .. } if rule >= rules => {
-                write!(out, "there is no rule {rule}: the grammar has {rules} rules")
+                let rules = counted(*rules, "rule");
+                write!(out, "there is no rule {rule}: the grammar has {rules}")
             }
             Refusal::Pair {
                 position, length, ..
             } => write!(
                 out,
-                "there is no position {position}: the text has {length} bytes"
+                "there is no position {position}: the text has {}",
+                counted(*length, "byte")
             ),
             Refusal::Records => {
                 out.write_str("the lent table held a word that no reading of this text leaves there")
@@ -152,12 +178,22 @@ impl fmt::Display for Refusal {
             Refusal::Nesting => {
                 out.write_str("the text nests too deep: more than 4,096 evaluations inside each other")
             }
-            Refusal::Rows { slots } => write!(out, "the match has more than {slots} rows"),
+            Refusal::Rows { slots } => {
+                write!(out, "the match has more than {}", counted(*slots, "row"))
+            },
             Refusal::Unknown(words) => write!(
                 out,
                 "the linked library is not the proved one: it answered {words:x?}"
             ),
         }
+    }
+}
+
+/// A number of things in words.
+pub(crate) fn counted(number: usize, thing: &str) -> String {
+    match number {
+        1 => format!("1 {thing}"),
+        _ => format!("{number} {thing}s"),
     }
 }
 
@@ -179,16 +215,19 @@ impl fmt::Display for LoanFault {
         match self {
             LoanFault::Room { room } => write!(
                 out,
-                "there is room for {room} bytes of text, and at most 65,535 are allowed"
+                "there is room for {} of text, and at most 65,535 are allowed",
+                counted(*room, "byte")
             ),
             LoanFault::Text { length, room } => {
                 write!(
                     out,
-                    "the text has {length} bytes, and there is room for {room}"
+                    "the text has {}, and there is room for {room}",
+                    counted(*length, "byte")
                 )
             }
             LoanFault::Table { words, needed } => {
-                write!(out, "the table has {words} words, and {needed} are needed")
+                let words = counted(*words, "word");
+                write!(out, "the table has {words}, and {needed} are needed")
             }
         }
     }

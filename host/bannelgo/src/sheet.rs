@@ -44,6 +44,19 @@ const FIRST_SLOTS: usize = 1 << 10;
 
 impl Sheet {
     /// Opens a text with room for so many bytes, at most [`MOST_BYTES`]. A refusal has number 8.
+    ///
+    /// ```
+    /// # use bannelgo::grammar::{any, star, Grammar};
+    /// # let grammar = Grammar::builder().rule("Text", star(any())).build()?;
+    /// use bannelgo::Sheet;
+    ///
+    /// let sheet = Sheet::open(&grammar, "", 100)?; // to be typed
+    /// assert_eq!((sheet.text(), sheet.room()), (&b""[..], 100));
+    ///
+    /// let refusal = Sheet::open(&grammar, "seven", 4).unwrap_err();
+    /// assert_eq!(refusal.to_string(), "the text has 5 bytes, and there is room for 4");
+    /// # Ok::<(), Box<dyn std::error::Error>>(())
+    /// ```
     pub fn open(grammar: &Grammar, text: impl AsRef<[u8]>, room: usize) -> Result<Sheet, Refusal> {
         let image = grammar.image();
         // One byte more than there may be is enough for the library to refuse it.
@@ -63,6 +76,19 @@ impl Sheet {
     /// These bytes give way to `replacement`. A refusal has number 9 or 10 and changes nothing.
     ///
     /// Typing at a cursor is `edit(cursor..cursor, key)`, a backspace `edit(cursor - 1..cursor, "")`.
+    ///
+    /// ```
+    /// # use bannelgo::grammar::{any, star, Grammar};
+    /// # let grammar = Grammar::builder().rule("Text", star(any())).build()?;
+    /// let mut sheet = bannelgo::Sheet::open(&grammar, "gap", 8)?;
+    /// sheet.edit(3..3, "s")?; // typed at the end
+    /// sheet.edit(0..1, "m")?; // one letter in the place of another
+    /// assert_eq!(sheet.text(), b"maps");
+    ///
+    /// assert!(sheet.edit(4..4, "12345").is_err()); // there is room for 8
+    /// assert_eq!(sheet.text(), b"maps");
+    /// # Ok::<(), Box<dyn std::error::Error>>(())
+    /// ```
     pub fn edit(
         &mut self,
         bytes: Range<usize>,
@@ -83,6 +109,20 @@ impl Sheet {
     /// Reads the text by the grammar's start rule. A refusal has number 14.
     ///
     /// Near that limit it needs up to 2 MiB of the thread's stack.
+    ///
+    /// ```
+    /// # use bannelgo::grammar::{call, plus, range, Grammar};
+    /// # let grammar = Grammar::builder()
+    /// #     .rule("Number", plus(call("Digit")))
+    /// #     .rule("Digit", range(b'0', b'9'))
+    /// #     .build()?;
+    /// let mut sheet = bannelgo::Sheet::open(&grammar, "12a", 8)?;
+    /// let read = sheet.read()?;
+    /// assert_eq!(read.to_string(), "part, length 2, examined 3, nesting 4, evaluations 4");
+    /// assert_eq!(read.reading.reached(sheet.text()).to_string(), "line 1, column 3");
+    /// assert_eq!(sheet.read()?.evaluations, 0); // nothing was changed
+    /// # Ok::<(), Box<dyn std::error::Error>>(())
+    /// ```
     pub fn read(&mut self) -> Result<SheetReading, Refusal> {
         lending::read(
             self.grammar.image(),
@@ -126,6 +166,22 @@ impl Sheet {
     /// of the reading are kept.
     ///
     /// Slots for the rows are lent as they are needed: a great `most` takes no memory by itself.
+    ///
+    /// ```
+    /// # use bannelgo::grammar::{call, plus, range, Grammar};
+    /// # let grammar = Grammar::builder()
+    /// #     .rule("Number", plus(call("Digit")))
+    /// #     .rule("Digit", range(b'0', b'9'))
+    /// #     .build()?;
+    /// let mut sheet = bannelgo::Sheet::open(&grammar, "12", 8)?;
+    /// let listing = sheet.list(100)?;
+    /// let rows: Vec<_> = listing.rows.iter().map(|row| (row.rule, row.depth, row.range())).collect();
+    /// assert_eq!(rows, [(0, 0, 0..2), (1, 1, 0..1), (1, 1, 1..2)]);
+    ///
+    /// let refusal = sheet.list(2).unwrap_err();
+    /// assert_eq!(refusal.to_string(), "the match has more than 2 rows");
+    /// # Ok::<(), Box<dyn std::error::Error>>(())
+    /// ```
     pub fn list(&mut self, most: usize) -> Result<Listing, Refusal> {
         let most = most.min(MOST_ROWS);
         if most <= FIRST_SLOTS {

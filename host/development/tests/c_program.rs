@@ -1,58 +1,67 @@
-//! host/c/example.c, compiled with include/bannelgo.h and linked with the proved libraries, exits with 0 where every answer is the
-//! paper's. Where one field of an answer is made wrong it exits with 1.
+//! host/c/example.c and example.cpp, compiled with include/bannelgo.h and linked with the proved library, exit with 0 where every answer
+//! is the paper's. Where one field of an answer is made wrong they exit with 1.
 
+mod programs;
+
+use programs::{
+    gets_the_papers_answers, repository, run, said, scratch, succeed, Language, C, CPP,
+};
 use std::path::{Path, PathBuf};
-use std::process::{Command, Output};
+use std::process::Command;
 
-/// Compiles the example, warnings as errors, to a program of that name in cargo's folder for tests.
-fn compiled(name: &str, included: Option<&str>) -> PathBuf {
-    let package = Path::new(env!("CARGO_MANIFEST_DIR"));
-    let program = Path::new(env!("CARGO_TARGET_TMPDIR")).join(name);
-    let mut cc = Command::new("cc");
-    cc.args(["-std=c11", "-Wall", "-Wextra", "-Wpedantic", "-Werror"]);
-    cc.arg("-I").arg(package.join("../../include"));
-    if let Some(header) = included {
-        cc.arg("-include").arg(package.join(header));
+/// The compiler on the example, with the repository's header.
+fn compiling(language: &Language, standard: Option<&str>) -> Command {
+    let mut compiler = language.compiler(standard);
+    compiler.arg("-I").arg(repository().join("include"));
+    compiler.arg(language.source());
+    compiler
+}
+
+/// Compiles and links the example in a scratch folder of that name; a header may be put in front of it.
+fn compiled(language: &Language, folder: &str, in_front: Option<&str>) -> PathBuf {
+    let program = scratch(folder).join("program");
+    let mut compiler = compiling(language, None);
+    if let Some(header) = in_front {
+        compiler.arg("-include").arg(repository().join(header));
     }
-    cc.arg(package.join("../c/example.c"));
-    for library in ["libexports.a", "libbridge.a"] {
-        cc.arg(Path::new(env!("BANNELGO_LIB_FOLDER")).join(library));
-    }
-    cc.arg("-o").arg(&program);
-    let output = cc.output().expect("cc can be started");
-    assert!(output.status.success(), "cc failed:\n{}", said(&output));
+    compiler.arg(Path::new(env!("BANNELGO_LIB_FOLDER")).join("libbannelgo.a"));
+    compiler.arg("-o").arg(&program);
+    succeed(&mut compiler);
     program
 }
 
-fn run(program: &mut Command) -> Output {
-    program.output().expect("the program can be started")
-}
-
-fn said(output: &Output) -> String {
-    let said = [&output.stdout[..], &output.stderr[..]].concat();
-    String::from_utf8_lossy(&said).into_owned()
-}
-
-/// What the example prints of M6: the rows of "12", each indented by its depth.
-const ROWS: &str = "
-M6: 4 slots
-  rule 0, start 0, length 2
-    rule 1, start 0, length 1
-    rule 1, start 1, length 1
-";
-
 #[test]
 fn the_c_program_gets_the_papers_answers() {
-    let output = run(&mut Command::new(compiled("example", None)));
-    assert_eq!(output.status.code(), Some(0), "{}", said(&output));
-    assert!(said(&output).contains(ROWS), "{}", said(&output));
+    gets_the_papers_answers(&compiled(&C, "c", None));
+}
+
+#[test]
+fn the_cpp_program_gets_the_papers_answers() {
+    gets_the_papers_answers(&compiled(&CPP, "cpp", None));
+}
+
+#[test]
+fn the_examples_compile_by_every_standard() {
+    for language in [C, CPP] {
+        for standard in language.standards {
+            succeed(compiling(&language, Some(standard)).arg("-fsyntax-only"));
+        }
+    }
 }
 
 #[test]
 fn the_c_program_tells_a_wrong_answer() {
-    let program = compiled("wrong_example", Some("../c/wrong.h"));
+    tells_a_wrong_answer(&compiled(&C, "wrong_c", Some("host/c/wrong.h")));
+}
+
+#[test]
+fn the_cpp_program_tells_a_wrong_answer() {
+    tells_a_wrong_answer(&compiled(&CPP, "wrong_cpp", Some("host/c/wrong.h")));
+}
+
+fn tells_a_wrong_answer(program: &Path) {
     let exits_with = |status, call: &str, field: usize| {
-        let mut command = Command::new(&program);
+        let mut command = Command::new(program);
         command.env("WRONG_CALL", call);
         command.env("WRONG_FIELD", field.to_string());
         let output = run(&mut command);

@@ -126,7 +126,7 @@ impl Plain<'_> {
     fn call(&mut self, rule: u8, start: usize, depth: usize) -> Matched {
         let body = &self.rules[usize::from(rule)];
         let (end, inside) = self.matched(body, start, depth + 1)?;
-        let own = row((rule, depth, start, end - start));
+        let own = row((usize::from(rule), depth, start, end - start));
         Some((end, [vec![own], inside].concat()))
     }
 

@@ -1,7 +1,7 @@
 //! Readings that are worked out by hand, made by the library and by both readers of the reference.
 
 use bannelgo::Outcome::{self, Nothing, Part, Whole};
-use bannelgo::{plain_reading, Reading};
+use bannelgo::Reading;
 use bannelgo_development::calls::number_of;
 use bannelgo_development::expr::{byte, not, or_else, sequence, star, then, Expr, Grammar};
 use bannelgo_development::gap_sheet::sheet;
@@ -12,11 +12,15 @@ use bannelgo_development::samples::{D2, M10};
 use bannelgo_development::small_stack::{on_small_stack, on_stack_of};
 use Expr::{AnyByte, Bytes, Call, Empty};
 
+/// The library's reading, or its number.
+fn plain_reading(image: &[u8], text: &[u8]) -> Result<Reading, u64> {
+    bannelgo::plain_reading(image, text).map_err(|refusal| number_of(&refusal))
+}
+
 /// Asks all three. The recursive reader gets a stack that is enough also without optimisation.
 fn expect(image: &[u8], text: &[u8], expected: Result<Reading, u64>) {
     let (lent_image, lent_text) = (image.to_vec(), text.to_vec());
     let ours = on_small_stack(move || plain_reading(&lent_image, &lent_text));
-    let ours = ours.map_err(|refusal| number_of(&refusal));
     let shown = String::from_utf8_lossy(&text[..text.len().min(40)]);
     assert_eq!(ours, expected, "ours, {shown:?}");
 
@@ -243,7 +247,7 @@ fn the_image_is_asked_first() {
         (7, &image(&[Call(0)])),
     ] {
         for text in [&[][..], b"12", &too_long] {
-            assert_eq!(plain_reading(image, text), Err(Refusal::Question(number)));
+            assert_eq!(plain_reading(image, text), Err(number));
         }
     }
 }
@@ -267,7 +271,7 @@ fn sheets_are_read_whole() {
 /// The answer does not depend on where in memory the bytes begin, nor on what lies around them.
 #[test]
 fn every_alignment_gives_the_same_reading() {
-    let part = reading((Part, 2, 3, 4)).map_err(Refusal::Question);
+    let part = reading((Part, 2, 3, 4));
     for before in 0..8 {
         for around in [0, b'1', 0xFF] {
             let shifted = |bytes: &[u8]| [&vec![around; before], bytes, &[around; 8]].concat();
@@ -288,7 +292,7 @@ fn threads_get_the_same_readings() {
                 let whole = reading((Whole, count + 1, count + 2, 4));
                 for _ in 0..2_000 {
                     let read = plain_reading(&D2, &digits);
-                    assert_eq!(read, whole.map_err(Refusal::Question));
+                    assert_eq!(read, whole);
                 }
             });
         }

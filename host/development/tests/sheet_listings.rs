@@ -1,7 +1,7 @@
 //! Listings by the safe `Sheet`: the paper's M6, deep brackets, rows past counting, and rows in words.
 
 use bannelgo::Outcome::{Nothing, Whole};
-use bannelgo::{Listing, Refusal, Row, Sheet, MOST_ROWS};
+use bannelgo::{Listing, Refusal, Row, Sheet};
 use bannelgo_development::calls::open_image;
 use bannelgo_development::expr::{byte, or_else, then, Expr, Grammar};
 use bannelgo_development::numbering::{image_of, Numbering};

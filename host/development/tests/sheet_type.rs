@@ -1,10 +1,8 @@
-//! The safe `Sheet`: the paper's marked cases, lists of calls, and refusals in words.
+//! The safe `Sheet`: the paper's marked cases, and lists of calls against the ledger.
 
 use bannelgo::Outcome::{self, Nothing, Part, Whole};
-use bannelgo::Reading;
-use bannelgo::{Edited, SheetReading};
-use bannelgo_development::bridge::{AnswerFields, Refusal, Sheet};
-use bannelgo_development::calls::Call;
+use bannelgo::{Edited, Reading, Refusal, Sheet, SheetReading};
+use bannelgo_development::calls::{ask, open_image, Call};
 use bannelgo_development::generate::{small_grammar, text_of, Typist};
 use bannelgo_development::numbering::{image_of, Numbering};
 use bannelgo_development::reference::ledger::Ledger;
@@ -111,7 +109,8 @@ fn sheet_and_ledger_answer_the_same() {
         let mut sheet = open_image(&image, &text, cap).expect("the sheet is opened");
         let mut typist = Typist::default();
         for _ in 0..10 {
-            let slots = rng.below(30);
+            // More than 1,024 are lent one part after the other.
+            let slots = *rng.pick(&[0, 1, 5, 10, 20, 30, 1_024, 1_025, 5_000]);
             let call = match rng.below(6) {
                 0 => Call::List { slots },
                 _ => typist.call(rng, &grammar, ledger.text(), cap),

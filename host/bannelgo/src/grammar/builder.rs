@@ -7,6 +7,19 @@ use super::{Grammar, MOST_NODES, MOST_RULES};
 use crate::image::check_image;
 
 /// A grammar that is being written: what [`Grammar::builder`] begins.
+///
+/// ```
+/// use bannelgo::grammar::{call, choice, literal, Grammar};
+///
+/// let colours = ["red", "blue"];
+/// let mut builder = Grammar::builder().rule("Colour", choice(colours.map(call)));
+/// for colour in colours {
+///     builder = builder.rule(colour, literal(colour));
+/// }
+/// let grammar = builder.build()?;
+/// assert!(grammar.read("blue")?.is_whole());
+/// # Ok::<(), Box<dyn std::error::Error>>(())
+/// ```
 #[derive(Clone, Debug, Default)]
 pub struct Builder {
     rules: Vec<(String, Expr)>,
@@ -21,6 +34,18 @@ impl Builder {
     }
 
     /// Names the start rule.
+    ///
+    /// ```
+    /// use bannelgo::grammar::{call, plus, range, Grammar};
+    ///
+    /// let grammar = Grammar::builder()
+    ///     .rule("Digit", range(b'0', b'9'))
+    ///     .rule("Number", plus(call("Digit")))
+    ///     .start("Number")
+    ///     .build()?;
+    /// assert!(grammar.read("12")?.is_whole());
+    /// # Ok::<(), Box<dyn std::error::Error>>(())
+    /// ```
     pub fn start(mut self, name: impl Into<String>) -> Builder {
         self.start = Some(name.into());
         self

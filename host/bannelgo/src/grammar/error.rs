@@ -6,6 +6,17 @@ use crate::refusal::Refusal;
 use std::fmt;
 
 /// Why [`Builder::build`](super::Builder::build) made no grammar.
+///
+/// ```
+/// use bannelgo::grammar::{call, literal, sequence, Grammar, GrammarError};
+///
+/// let sum = sequence([call("Sum"), literal("+"), call("Nunber")]);
+/// let Err(error) = Grammar::builder().rule("Sum", sum).build() else {
+///     panic!("no rule has the name Nunber");
+/// };
+/// assert_eq!(error.to_string(), "rule Sum calls Nunber, and no rule has that name");
+/// assert!(matches!(error, GrammarError::UndefinedRule { name, .. } if name == "Nunber"));
+/// ```
 #[derive(Clone, Debug, PartialEq, Eq)]
 #[non_exhaustive]
 pub enum GrammarError {

@@ -5,6 +5,20 @@ use super::MOST_NODES;
 /// A parsing expression: what a rule matches. The functions of this module make them.
 ///
 /// An expression of more than 1,024 nodes is only counted, and the grammar that has it is refused.
+///
+/// ```
+/// use bannelgo::grammar::{literal, range, sequence, Expr, Grammar};
+///
+/// /// Two digits: an expression that a rule uses twice.
+/// fn two_digits() -> Expr {
+///     sequence([range(b'0', b'9'), range(b'0', b'9')])
+/// }
+///
+/// let time = sequence([two_digits(), literal(":"), two_digits()]);
+/// let grammar = Grammar::builder().rule("Time", time).build()?;
+/// assert!(grammar.read("08:15")?.is_whole());
+/// # Ok::<(), Box<dyn std::error::Error>>(())
+/// ```
 #[derive(Clone, Debug, PartialEq, Eq)]
 pub struct Expr {
     /// A node, then those of its first part, then those of its second; none where there are too many.
@@ -80,26 +94,63 @@ impl Expr {
 }
 
 /// Matches nothing long, always.
+///
+/// ```
+/// use bannelgo::grammar::{choice, empty, literal, Grammar};
+///
+/// let sign = choice([literal("-"), empty()]); // what optional(literal("-")) is
+/// let grammar = Grammar::builder().rule("Sign", sign).build()?;
+/// assert!(grammar.read("-")?.is_whole());
+/// assert!(grammar.read("")?.is_whole());
+/// # Ok::<(), Box<dyn std::error::Error>>(())
+/// ```
 pub fn empty() -> Expr {
     Expr::leaf(Part::Empty)
 }
 
 /// Any one byte.
+///
+/// ```
+/// use bannelgo::grammar::{any, not, sequence, Grammar};
+///
+/// let one = sequence([any(), not(any())]); // not(any()) is the end of the text
+/// let grammar = Grammar::builder().rule("One", one).build()?;
+/// assert!(grammar.read("x")?.is_whole());
+/// assert!(!grammar.read("ö")?.is_whole()); // one character, and two bytes in UTF-8
+/// # Ok::<(), Box<dyn std::error::Error>>(())
+/// ```
 pub fn any() -> Expr {
     Expr::leaf(Part::Any)
 }
 
 /// This byte.
+///
+/// ```
+/// use bannelgo::grammar::{byte, literal};
+///
+/// assert_eq!(byte(b';'), literal(";"));
+/// ```
 pub fn byte(value: u8) -> Expr {
     range(value, value)
 }
 
 /// One byte from `low` to `high`, both included.
+///
+/// ```
+/// use bannelgo::grammar::{range, Grammar};
+///
+/// let grammar = Grammar::builder().rule("Digit", range(b'0', b'9')).build()?;
+/// assert!(grammar.read("7")?.is_whole());
+/// # Ok::<(), Box<dyn std::error::Error>>(())
+/// ```
 pub fn range(low: u8, high: u8) -> Expr {
     Expr::leaf(Part::Range(low, high))
 }
 
 /// One of these bytes. None at all never matches.
+///
+/// Of a character that has several bytes in UTF-8 each byte is one of them: a choice between such
+/// characters is `choice([literal("ä"), literal("ö")])`.
 ///
 /// ```
 /// use bannelgo::grammar::{one_of, Grammar};
@@ -113,47 +164,139 @@ pub fn one_of(bytes: impl AsRef<[u8]>) -> Expr {
 }
 
 /// These bytes one after the other. No byte at all matches nothing long.
+///
+/// ```
+/// use bannelgo::grammar::{literal, Grammar};
+///
+/// let grammar = Grammar::builder().rule("Arrow", literal("→")).build()?;
+/// assert_eq!(grammar.read("→ x")?.length, 3); // its bytes in UTF-8
+/// # Ok::<(), Box<dyn std::error::Error>>(())
+/// ```
 pub fn literal(text: impl AsRef<[u8]>) -> Expr {
     sequence(text.as_ref().iter().map(|&value| byte(value)))
 }
 
 /// A call of the rule with this name.
+///
+/// ```
+/// use bannelgo::grammar::{call, literal, optional, sequence, Grammar};
+///
+/// // A call has a row in the tree and a record, and a rule may call itself behind what it consumed.
+/// let brackets = sequence([literal("("), optional(call("Brackets")), literal(")")]);
+/// let grammar = Grammar::builder().rule("Brackets", brackets).build()?;
+/// assert!(grammar.read("((()))")?.is_whole());
+/// # Ok::<(), Box<dyn std::error::Error>>(())
+/// ```
 pub fn call(rule: impl Into<String>) -> Expr {
     Expr::leaf(Part::Call(rule.into()))
 }
 
 /// All parts, one after the other. No part at all matches nothing long.
+///
+/// ```
+/// use bannelgo::grammar::{literal, range, sequence, Grammar};
+///
+/// let degrees = sequence([range(b'0', b'9'), literal("°C")]);
+/// let grammar = Grammar::builder().rule("Degrees", degrees).build()?;
+/// assert!(grammar.read("7°C")?.is_whole());
+/// # Ok::<(), Box<dyn std::error::Error>>(())
+/// ```
 pub fn sequence(parts: impl IntoIterator<Item = Expr>) -> Expr {
     Expr::joined(Part::Then, parts).unwrap_or_else(empty)
 }
 
 /// The first part that matches. No part at all never matches.
+///
+/// Each part adds one to the nesting of those behind it, and the nesting of a reading ends at 4,096: a
+/// part that leads back to the rule it stands in goes deepest where it comes first.
+///
+/// ```
+/// use bannelgo::grammar::{choice, literal, Grammar};
+///
+/// let word = choice([literal("in"), literal("inner")]);
+/// let grammar = Grammar::builder().rule("Word", word).build()?;
+/// assert_eq!(grammar.read("inner")?.length, 2); // the longer one is not tried
+///
+/// let word = choice([literal("inner"), literal("in")]);
+/// let grammar = Grammar::builder().rule("Word", word).build()?;
+/// assert_eq!(grammar.read("inner")?.length, 5);
+/// # Ok::<(), Box<dyn std::error::Error>>(())
+/// ```
 pub fn choice(parts: impl IntoIterator<Item = Expr>) -> Expr {
     Expr::joined(Part::Else, parts).unwrap_or_else(|| not(empty()))
 }
 
 /// As often as it matches, also never. What is repeated must consume: the grammar is refused with 6
 /// otherwise.
+///
+/// ```
+/// use bannelgo::grammar::{literal, star, Grammar};
+///
+/// let zeros = star(literal("0"));
+/// let grammar = Grammar::builder().rule("Zeros", zeros.clone()).build()?;
+/// assert_eq!(grammar.read("0001")?.length, 3);
+///
+/// let refused = Grammar::builder().rule("Twice", star(zeros)).build().unwrap_err();
+/// assert_eq!(refused.to_string(), "rule Twice repeats something that can match without consuming");
+/// # Ok::<(), Box<dyn std::error::Error>>(())
+/// ```
 pub fn star(repeated: Expr) -> Expr {
     Expr::over(Part::Star, repeated)
 }
 
 /// Matches nothing long where `unwanted` does not match here, and fails where it does.
+///
+/// ```
+/// use bannelgo::grammar::{any, literal, not, sequence, star, Grammar};
+///
+/// let line = star(sequence([not(literal("\n")), any()]));
+/// let grammar = Grammar::builder().rule("Line", line).build()?;
+/// assert_eq!(grammar.read("one\ntwo\n")?.length, 3);
+/// # Ok::<(), Box<dyn std::error::Error>>(())
+/// ```
 pub fn not(unwanted: Expr) -> Expr {
     Expr::over(Part::Not, unwanted)
 }
 
 /// At least once: `repeated`, then `star(repeated)`. It takes the nodes of both.
+///
+/// ```
+/// use bannelgo::grammar::{plus, range, Grammar};
+///
+/// let grammar = Grammar::builder().rule("Number", plus(range(b'0', b'9'))).build()?;
+/// assert!(grammar.read("2026")?.is_whole());
+/// assert_eq!(grammar.read("")?.to_string(), "none, length 0, examined 1, nesting 2");
+/// # Ok::<(), Box<dyn std::error::Error>>(())
+/// ```
 pub fn plus(repeated: Expr) -> Expr {
     sequence([repeated.clone(), star(repeated)])
 }
 
 /// Once, or else nothing long.
+///
+/// ```
+/// use bannelgo::grammar::{literal, optional, range, sequence, Grammar};
+///
+/// let signed = sequence([optional(literal("-")), range(b'0', b'9')]);
+/// let grammar = Grammar::builder().rule("Signed", signed).build()?;
+/// assert!(grammar.read("7")?.is_whole());
+/// assert!(grammar.read("-7")?.is_whole());
+/// # Ok::<(), Box<dyn std::error::Error>>(())
+/// ```
 pub fn optional(part: Expr) -> Expr {
     choice([part, empty()])
 }
 
 /// Matches nothing long where `wanted` matches here, and fails where it does not: `not(not(wanted))`.
+///
+/// ```
+/// use bannelgo::grammar::{and, literal, one_of, sequence, Grammar};
+///
+/// let word = sequence([literal("kWh"), and(one_of(" \n"))]);
+/// let grammar = Grammar::builder().rule("Unit", word).build()?;
+/// assert_eq!(grammar.read("kWh of May")?.length, 3); // the space is not part of the match
+/// # Ok::<(), Box<dyn std::error::Error>>(())
+/// ```
 pub fn and(wanted: Expr) -> Expr {
     not(not(wanted))
 }

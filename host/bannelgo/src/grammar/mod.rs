@@ -60,6 +60,19 @@ pub const MOST_RULES: usize = 64;
 pub const MOST_NODES: usize = 1_024;
 
 /// A grammar that the proved check has accepted. A copy is cheap: it shares the image and the names.
+///
+/// ```
+/// use bannelgo::grammar::{call, plus, range, Grammar};
+///
+/// let grammar = Grammar::builder()
+///     .rule("Number", plus(call("Digit")))
+///     .rule("Digit", range(b'0', b'9'))
+///     .build()?;
+/// assert_eq!(grammar.rule("Digit"), Some(1)); // by name
+/// assert_eq!(grammar.name(grammar.start()), Some("Number")); // by number
+/// assert_eq!(grammar.names().count(), 2);
+/// # Ok::<(), Box<dyn std::error::Error>>(())
+/// ```
 #[derive(Clone, PartialEq, Eq)]
 pub struct Grammar {
     image: Arc<[u8]>,
@@ -127,6 +140,15 @@ impl Grammar {
 
     /// Reads a text without records, as [`plain_reading`] does. A refusal has
     /// number 8 or 14.
+    ///
+    /// ```
+    /// use bannelgo::grammar::{plus, range, Grammar};
+    ///
+    /// let grammar = Grammar::builder().rule("Number", plus(range(b'0', b'9'))).build()?;
+    /// let reading = grammar.read("12 kWh")?;
+    /// assert_eq!((reading.is_whole(), reading.length), (false, 2));
+    /// # Ok::<(), Box<dyn std::error::Error>>(())
+    /// ```
     pub fn read(&self, text: impl AsRef<[u8]>) -> Result<Reading, Refusal> {
         plain_reading(&self.image, text.as_ref())
     }

@@ -3,9 +3,22 @@
 use super::outcomes::{outcome_sets, ZERO};
 use super::ring::shortest_ring;
 use super::words::{Header, NodeWord, Words};
+use crate::refusal::counted;
 use std::fmt;
 
 /// What is wrong with an image. Rules and nodes are given by their numbers, from 0 on.
+///
+/// ```
+/// use bannelgo::{check_image, Fault, Refusal};
+///
+/// // Edition 1, one rule, one node, start 0; rule 0 is node 0, which calls rule 0.
+/// let image = [0x10, 0x10, 0x01, 0x00, 0x00, 0x00, 0x70, 0x00, 0x00, 0x00];
+/// let Err(Refusal::Image { number, fault }) = check_image(&image) else {
+///     panic!("a rule that only calls itself is refused");
+/// };
+/// assert_eq!(number, 7);
+/// assert_eq!(fault, Some(Fault::Ring { rules: vec![0] }));
+/// ```
 #[derive(Clone, Debug, PartialEq, Eq)]
 #[non_exhaustive]
 pub enum Fault {
@@ -193,10 +206,8 @@ impl fmt::Display for Fault {
     fn fmt(&self, out: &mut fmt::Formatter<'_>) -> fmt::Result {
         match self {
             Fault::Short { bytes } => {
-                write!(
-                    out,
-                    "the image has {bytes} bytes, fewer than the 4 of its header"
-                )
+                let bytes = counted(*bytes, "byte");
+                write!(out, "the image has {bytes}, fewer than the 4 of its header")
             }
             Fault::Edition { edition } => {
                 write!(
@@ -209,14 +220,13 @@ impl fmt::Display for Fault {
                 write!(out, "the image has {nodes} nodes and not 1 to 1,024")
             }
             Fault::Start { start, rules } => {
-                write!(
-                    out,
-                    "the image starts with rule {start}, but it has {rules} rules"
-                )
+                let rules = counted(*rules, "rule");
+                write!(out, "the image has {rules} and starts with rule {start}")
             }
             Fault::Size { bytes, expected } => write!(
                 out,
-                "the image has {bytes} bytes, and its header asks for {expected}"
+                "the image has {}, and its header asks for {expected}",
+                counted(*bytes, "byte")
             ),
             Fault::RuleWord { rule } => write!(out, "the word of rule {rule} names no node"),
             Fault::NodeWord { node, why } => {
@@ -224,7 +234,8 @@ impl fmt::Display for Fault {
             }
             Fault::Occurrences { node, times } => write!(
                 out,
-                "node {node} is {times} times a root or a child and not once"
+                "node {node} is {} a root or a child and not once",
+                counted(*times, "time")
             ),
             Fault::StarBody { rule, .. } => write!(
                 out,

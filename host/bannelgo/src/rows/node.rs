@@ -5,6 +5,28 @@ use std::fmt;
 use std::ops::Range;
 
 /// A call that made the match, in its [`Tree`].
+///
+/// ```
+/// use bannelgo::grammar::{call, literal, plus, range, sequence, star, Grammar};
+/// use bannelgo::{Node, Sheet};
+///
+/// /// The value of a call of Sum or Number; nothing where a number is too great.
+/// fn value(node: Node<'_>) -> Option<u64> {
+///     match node.name() {
+///         "Sum" => node.children().map(value).sum(),
+///         _ => std::str::from_utf8(node.text()).ok()?.parse().ok(),
+///     }
+/// }
+///
+/// let more = sequence([literal("+"), call("Number")]);
+/// let grammar = Grammar::builder()
+///     .rule("Sum", sequence([call("Number"), star(more)]))
+///     .rule("Number", plus(range(b'0', b'9')))
+///     .build()?;
+/// let tree = Sheet::open(&grammar, "4+8+30", 20)?.tree()?;
+/// assert_eq!(tree.root().and_then(value), Some(42));
+/// # Ok::<(), Box<dyn std::error::Error>>(())
+/// ```
 #[derive(Clone, Copy)]
 pub struct Node<'t> {
     pub(super) tree: &'t Tree,

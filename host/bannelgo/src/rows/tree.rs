@@ -10,6 +10,23 @@ use crate::reading::SheetReading;
 /// It keeps a copy of the text, so the sheet can be edited while a tree of it is looked at. Printed, it
 /// has a line for each call: the rule, the bytes and the text that it matched.
 ///
+/// ```
+/// # use bannelgo::grammar::{call, plus, range, Grammar};
+/// # let grammar = Grammar::builder()
+/// #     .rule("Number", plus(call("Digit")))
+/// #     .rule("Digit", range(b'0', b'9'))
+/// #     .build()?;
+/// let mut sheet = bannelgo::Sheet::open(&grammar, "12", 8)?;
+/// let tree = sheet.tree()?;
+/// let printed = r#"
+/// Number 0..2 "12"
+///   Digit 0..1 "1"
+///   Digit 1..2 "2"
+/// "#;
+/// assert_eq!(tree.to_string(), printed.trim_start());
+/// # Ok::<(), Box<dyn std::error::Error>>(())
+/// ```
+///
 /// [`Sheet::tree`]: crate::Sheet::tree
 #[derive(Clone, Debug)]
 pub struct Tree {
@@ -44,6 +61,18 @@ impl Tree {
     }
 
     /// All calls: parents first, left to right.
+    ///
+    /// ```
+    /// # use bannelgo::grammar::{call, plus, range, Grammar};
+    /// # let grammar = Grammar::builder()
+    /// #     .rule("Number", plus(call("Digit")))
+    /// #     .rule("Digit", range(b'0', b'9'))
+    /// #     .build()?;
+    /// let tree = bannelgo::Sheet::open(&grammar, "12", 8)?.tree()?;
+    /// let digits = tree.nodes().filter(|node| node.name() == "Digit");
+    /// assert_eq!(digits.count(), 2);
+    /// # Ok::<(), Box<dyn std::error::Error>>(())
+    /// ```
     pub fn nodes(&self) -> impl Iterator<Item = Node<'_>> {
         (0..self.rows.len()).filter_map(|place| self.node(place))
     }
@@ -70,6 +99,18 @@ impl Tree {
 
     /// The last place that the reading looked at: how far a text that does not match as a whole could be
     /// followed.
+    ///
+    /// ```
+    /// # use bannelgo::grammar::{call, plus, range, Grammar};
+    /// # let grammar = Grammar::builder()
+    /// #     .rule("Number", plus(call("Digit")))
+    /// #     .rule("Digit", range(b'0', b'9'))
+    /// #     .build()?;
+    /// let tree = bannelgo::Sheet::open(&grammar, "x2", 8)?.tree()?;
+    /// assert!(tree.is_empty());
+    /// assert_eq!(tree.reached().to_string(), "line 1, column 1");
+    /// # Ok::<(), Box<dyn std::error::Error>>(())
+    /// ```
     pub fn reached(&self) -> Place {
         self.read.reading.reached(&self.text)
     }
@@ -98,6 +139,17 @@ impl Tree {
     }
 
     /// The tree printed down to a depth; the calls below it are counted in a last line.
+    ///
+    /// ```
+    /// # use bannelgo::grammar::{call, plus, range, Grammar};
+    /// # let grammar = Grammar::builder()
+    /// #     .rule("Number", plus(call("Digit")))
+    /// #     .rule("Digit", range(b'0', b'9'))
+    /// #     .build()?;
+    /// let tree = bannelgo::Sheet::open(&grammar, "12", 8)?.tree()?;
+    /// assert_eq!(tree.down_to(0).to_string(), "Number 0..2 \"12\"\nand 2 deeper\n");
+    /// # Ok::<(), Box<dyn std::error::Error>>(())
+    /// ```
     pub fn down_to(&self, depth: usize) -> DownTo<'_> {
         DownTo { tree: self, depth }
     }

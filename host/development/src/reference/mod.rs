@@ -21,6 +21,7 @@ pub mod machine;
 mod occurrences;
 mod outcomes;
 pub mod pair_map;
+pub mod places;
 mod reading;
 pub mod record;
 pub mod recursive;

@@ -3,20 +3,17 @@
 use super::words::{NodeWord, Words};
 
 pub fn each_node_once(words: &Words) -> bool {
-    let mut times = vec![0u32; words.nodes.len()];
+    times(words).iter().all(|&count| count == 1)
+}
+
+/// How often each node is a root or a child.
+pub fn times(words: &Words) -> Vec<usize> {
+    let mut times = vec![0; words.nodes.len()];
     for &root in &words.roots {
         times[root] += 1;
     }
-    for node in &words.nodes {
-        match *node {
-            NodeWord::Then(a, b) | NodeWord::Else(a, b) => {
-                times[a] += 1;
-                times[b] += 1;
-            }
-            NodeWord::Star(a) | NodeWord::Not(a) => times[a] += 1,
-            // A call names a rule, which is no occurrence of a node.
-            NodeWord::Empty | NodeWord::AnyByte | NodeWord::Bytes(..) | NodeWord::Call(_) => {}
-        }
+    for child in words.nodes.iter().flat_map(NodeWord::children) {
+        times[child] += 1;
     }
-    times.iter().all(|&count| count == 1)
+    times
 }

@@ -26,7 +26,7 @@ pub fn found(bodies: &[Expr], sets: &[Outcomes]) -> bool {
     (0..bodies.len()).any(|rule| ring_from(rule, &leads, &mut colours))
 }
 
-fn leads_to(body: &Expr, sets: &[Outcomes]) -> Vec<usize> {
+pub fn leads_to(body: &Expr, sets: &[Outcomes]) -> Vec<usize> {
     let mut calls = vec![];
     collect_required_calls(body, sets, &mut calls);
     calls

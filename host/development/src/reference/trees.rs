@@ -9,7 +9,7 @@ pub fn grow(words: &Words) -> Vec<Expr> {
     trees.collect()
 }
 
-fn tree(words: &Words, number: usize) -> Expr {
+pub fn tree(words: &Words, number: usize) -> Expr {
     match words.nodes[number] {
         NodeWord::Empty => Expr::Empty,
         NodeWord::AnyByte => Expr::AnyByte,

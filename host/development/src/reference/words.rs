@@ -1,6 +1,7 @@
 //! Rule words and node words, and question 4: is every word lawful?
 
 use super::header::Header;
+use super::places::Word;
 use super::top_bits::TopBits;
 
 /// A lawful node word. `usize` fields are child nodes.
@@ -19,6 +20,29 @@ pub enum NodeWord {
 pub struct Words {
     pub roots: Vec<usize>,
     pub nodes: Vec<NodeWord>,
+}
+
+impl NodeWord {
+    /// A call names a rule, which is no child.
+    pub fn children(&self) -> Vec<usize> {
+        match *self {
+            NodeWord::Then(a, b) | NodeWord::Else(a, b) => vec![a, b],
+            NodeWord::Star(a) | NodeWord::Not(a) => vec![a],
+            NodeWord::Empty | NodeWord::AnyByte | NodeWord::Bytes(..) | NodeWord::Call(_) => vec![],
+        }
+    }
+}
+
+/// The first word that isn't lawful.
+pub fn first_unlawful(image: &[u8], header: &Header) -> Option<Word> {
+    let (front, node_bytes) = image.split_at(header.node_words_begin());
+    let mut roots = front[4..].chunks_exact(2);
+    let mut nodes = node_bytes.chunks_exact(4).enumerate();
+    let root = roots.position(|bytes| read_root([bytes[0], bytes[1]], header).is_none());
+    let node = nodes.position(|(number, bytes)| {
+        read_node([bytes[0], bytes[1], bytes[2], bytes[3]], number, header).is_none()
+    });
+    root.map(Word::Rule).or(node.map(Word::Node))
 }
 
 /// Reads all words; nothing where one of them isn't lawful.

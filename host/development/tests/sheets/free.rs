@@ -41,8 +41,11 @@ pub fn table_frame(
 /// and rows past the last written stay.
 pub fn row_frame(lent: &Lent, call: &Call, fields: Fields) -> Result<(), &'static str> {
     let rows = lent.rows();
+    let is_row = |word: &u64| word >> 48 & 0xFF == 0;
     let coded = match call {
-        Call::List { .. } => fields.listed(rows).is_ok(),
+        Call::List { .. } => fields
+            .listed(rows.len())
+            .is_ok_and(|(_, written)| rows[..written].iter().all(is_row)),
         _ => fields.read().is_ok(),
     };
     match fields.number {

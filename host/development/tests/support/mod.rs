@@ -3,6 +3,7 @@
 pub mod chains;
 pub mod damage;
 pub mod exhaustive;
+pub mod faults;
 pub mod headers;
 pub mod least_sets;
 pub mod random;

@@ -1,5 +1,6 @@
 //! Compares the two checkers image by image and counts the numbers.
 
+use super::faults;
 use bannelgo::raw::check_image;
 use bannelgo_development::expr::Grammar;
 use bannelgo_development::numbering::{image_of, Numbering};
@@ -36,7 +37,8 @@ impl Tally {
         }
     }
 
-    /// Asks both checkers about an image and returns the reference's number.
+    /// Asks both checkers about an image, and what the refusal says of it, and returns the reference's
+    /// number.
     pub fn compare(&mut self, image: &[u8]) -> u64 {
         let ours = check_image(image);
         let reference = reference::check(image);
@@ -45,6 +47,11 @@ impl Tally {
             self.mismatches += 1;
             self.first_mismatch
                 .get_or_insert_with(|| mismatch(image, ours, reference));
+        }
+        if !faults::said_rightly(image, reference) {
+            self.mismatches += 1;
+            self.first_mismatch
+                .get_or_insert_with(|| faults::wrongly_said(image, reference));
         }
         reference
     }

@@ -1,56 +1,124 @@
 use native.Mathlib.Omega.{arith}
-use mathlib.Core.Path.{_≡_, ap, _∙_}
-use Rattle.grammar.specs.Image.{root, start}
-use Rattle.image.proofs.Linked.{root-small}
-use Rattle.packrat.proofs.LoadedRuns.{start-over-given}
+use mathlib.Core.Path.{_≡_, sym, _∙_}
+use lib.ListN.{getD}
+use Rattle.grammar.specs.Image.{rules, start}
+use Rattle.records.specs.Slots.{slotOf}
+use Rattle.packrat.proofs.Start.{start-met, start-refused, start-stored}
 use borrow.Author.Needs.{needs}
 use Rattle.reading.proofs.session.start_over.Statement.{statement}
 use Rattle.reading.proofs.session.start_over.Tie as tie
 
-load-requires : tie.Need-load-requires
-load-requires c κs = search needs
-
 header-of-requires : tie.Need-header-of-requires
 header-of-requires c κs = search needs
 
-rule-at-requires : tie.Need-rule-at-requires
-rule-at-requires c κs = search needs
-
-eval-rule-requires : tie.Need-eval-rule-requires
-eval-rule-requires c κs =
-    let after-rule-at : tie.After-rule-at = search in
+look-requires : tie.Need-look-requires
+look-requires c κs =
     let after-header-of : tie.After-header-of = search in
     let start-place : tie.Start = search in
-    let pre = start-place .pre in
-    let small = root-small (start-place .args .image .now) (after-header-of .header-of .result .start) in (
-      record { short = pre .1; here = omega arith; most = omega arith },
-      omega (arith, after-header-of .header-of .ensures .its-start, pre .0 .lawful .counts .start-rule, pre .0 .lawful .counts .few-rules),
-      omega (arith, after-rule-at .rule-at .ensures .its-root),
+    let counts = start-place .pre .0 .lawful .counts in
+    let header = after-header-of .header-of .ensures in (
+      omega (arith, header .its-rules, counts .few-rules),
+      omega (arith, header .its-start, counts .start-rule, counts .few-rules),
+      omega arith,
     )
+
+is-held-requires : tie.Need-is-held-requires
+is-held-requires c κs = search needs
+
+met-requires : tie.Need-met-requires
+met-requires c κs = search needs
 
 same-length : tie.Need-same-length
 same-length c = search needs
 
 returns : tie.Need-returns
 returns c =
-    let after-eval-rule : tie.After-eval-rule = search in
-    let after-rule-at : tie.After-rule-at = search in
+    let then1 : tie.Then1 = search in
+    let after-is-held : tie.After-is-held = search in
+    let after-look : tie.After-look = search in
     let after-header-of : tie.After-header-of = search in
-    let after-load : tie.After-load = search in
     let start-place : tie.Start = search in
-    let given = start-place .args in
-    let e : after-rule-at .rule-at .result .root ≡ root (given .image .now) (start (given .image .now)) =
-    after-rule-at .rule-at .ensures .its-root ∙ ap (root (given .image .now)) (after-header-of .header-of .ensures .its-start) in
-    start-over-given (given .image .now) (given .t2 .now) (after-load .load .ensures) (given .table .now) (given .count .now)
-    (rw (e, after-header-of .header-of .ensures .its-start) at (after-eval-rule .eval-rule .ensures))
+    let a = start-place .args in
+    let header = after-header-of .header-of .ensures in
+    start-met (a .image .now) (a .text .now) (a .table .now) (a .count .now)
+    (rw (header .its-rules, header .its-start) at (after-look .look .ensures))
+    (sym (after-is-held .is-held .ensures) ∙ then1 .if1 .taken)
+    (c .met .ensures)
+
+start-body-requires : tie.Need-start-body-requires
+start-body-requires c κs = search needs
+
+same-length-2 : tie.Need-same-length-2
+same-length-2 c = search needs
+
+returns-2 : tie.Need-returns-2
+returns-2 c =
+    let after-start-body : tie.After-start-body = search in
+    let else1 : tie.Else1 = search in
+    let after-is-held : tie.After-is-held = search in
+    let after-look : tie.After-look = search in
+    let after-header-of : tie.After-header-of = search in
+    let start-place : tie.Start = search in
+    let a = start-place .args in
+    let header = after-header-of .header-of .ensures in
+    start-refused (a .image .now) (a .text .now) (a .table .now) (a .count .now)
+    (rw (header .its-rules, header .its-start) at (after-look .look .ensures))
+    (start-place .pre .1)
+    (sym (after-is-held .is-held .ensures) ∙ else1 .if1 .left)
+    (after-start-body .start-body .ensures)
+    (c .if2 .taken)
+
+put-requires : tie.Need-put-requires
+put-requires c κs =
+    let after-header-of : tie.After-header-of = search in
+    let start-place : tie.Start = search in
+    let counts = start-place .pre .0 .lawful .counts in
+    let header = after-header-of .header-of .ensures in (
+      omega (arith, header .its-rules, counts .few-rules),
+      omega (arith, header .its-start, counts .start-rule, counts .few-rules),
+      omega arith,
+    )
+
+wrapping-add-u64-requires : tie.Need-wrapping-add-u64-requires
+wrapping-add-u64-requires c κs = search needs
+
+same-length-3 : tie.Need-same-length-3
+same-length-3 c = search needs
+
+returns-3 : tie.Need-returns-3
+returns-3 c =
+    let after-put : tie.After-put = search in
+    let else2 : tie.Else2 = search in
+    let after-start-body : tie.After-start-body = search in
+    let else1 : tie.Else1 = search in
+    let after-is-held : tie.After-is-held = search in
+    let after-look : tie.After-look = search in
+    let after-header-of : tie.After-header-of = search in
+    let start-place : tie.Start = search in
+    let a = start-place .args in
+    let header = after-header-of .header-of .ensures in
+    rw (after-put .put .ensures, header .its-rules, header .its-start, c .wrapping-add-u64 .ensures)
+    (start-stored (a .image .now) (a .text .now) (a .table .now) (a .count .now)
+    (rw (header .its-rules, header .its-start) at (after-look .look .ensures))
+    (start-place .pre .1)
+    (sym (after-is-held .is-held .ensures) ∙ else1 .if1 .left)
+    (after-start-body .start-body .ensures)
+    (else2 .if2 .left))
 
 pub start-over-spec : {M : Type 1} → statement M
 start-over-spec =
     tie.close
     (tie.spec
-    load-requires
     header-of-requires
-    rule-at-requires
-    eval-rule-requires
+    look-requires
+    is-held-requires
+    met-requires
     same-length
-    returns)
+    returns
+    start-body-requires
+    same-length-2
+    returns-2
+    put-requires
+    wrapping-add-u64-requires
+    same-length-3
+    returns-3)

@@ -3,31 +3,48 @@
 mod checks;
 mod keys;
 mod listings;
+mod peers;
 mod plot;
 mod readings;
 mod stack;
 mod timing;
 mod typing;
 
-/// Prints the parts that the arguments name: checks, readings, keys, listings, stack;
-/// all where none is named.
-/// The part `plot` writes a file, so it runs only where it is named.
-fn main() {
+use std::process::ExitCode;
+
+/// What is printed where no part is named.
+const USUAL: [(&str, fn()); 5] = [
+    ("checks", checks::print),
+    ("readings", readings::print),
+    ("keys", keys::print),
+    ("listings", listings::print),
+    ("stack", stack::print),
+];
+
+/// What runs only where it is named: `plot` writes a file, `peers` starts other programs.
+const NAMED: [&str; 2] = ["plot", "peers"];
+
+/// Does the parts that the arguments name.
+fn main() -> ExitCode {
     let named: Vec<String> = std::env::args().skip(1).collect();
-    let parts: [(&str, fn()); 5] = [
-        ("checks", checks::print),
-        ("readings", readings::print),
-        ("keys", keys::print),
-        ("listings", listings::print),
-        ("stack", stack::print),
-    ];
-    for (name, print) in parts {
-        if named.is_empty() || named.iter().any(|part| part == name) {
+    let names: Vec<&str> = USUAL.iter().map(|part| part.0).chain(NAMED).collect();
+    if let Some(unknown) = named.iter().find(|name| !names.contains(&name.as_str())) {
+        let names = names.join(", ");
+        eprintln!("there is no part {unknown}; the parts are {names}");
+        return ExitCode::from(2);
+    }
+    let is_named = |name: &str| named.iter().any(|part| part == name);
+    for (name, print) in USUAL {
+        if named.is_empty() || is_named(name) {
             print();
             println!();
         }
     }
-    if named.iter().any(|part| part == "plot") {
+    if is_named("plot") {
         plot::make();
     }
+    if is_named("peers") {
+        return peers::print();
+    }
+    ExitCode::SUCCESS
 }

@@ -1,0 +1,36 @@
+use borrow.Author.Needs.{needs}
+use Rattle.bannelgo.proofs.fields.of_open.Statement.{statement}
+use Rattle.bannelgo.proofs.fields.of_open.Tie as tie
+
+enum-known-answer : tie.Need-enum-known-answer
+enum-known-answer c = search needs
+
+wide-requires : tie.Need-wide-requires
+wide-requires c κs = search needs
+
+answered-requires : tie.Need-answered-requires
+answered-requires c κs = search needs
+
+enum-known-answer-2 : tie.Need-enum-known-answer-2
+enum-known-answer-2 c = search needs
+
+refused-requires : tie.Need-refused-requires
+refused-requires c κs = search needs
+
+returns : tie.Need-returns
+returns c = cc
+
+returns-2 : tie.Need-returns-2
+returns-2 c = cc
+
+pub of-open-spec : {M : Type 1} → statement M
+of-open-spec =
+    tie.close
+    (tie.spec
+    enum-known-answer
+    wide-requires
+    answered-requires
+    enum-known-answer-2
+    refused-requires
+    returns
+    returns-2)

@@ -1,0 +1,219 @@
+//! What refusals say, and that no argument makes a call panic.
+
+use bannelgo::grammar::{byte, call, choice, empty, range, sequence, star, Grammar};
+use bannelgo::{check_image, lending, plain_reading, Refusal, Sheet, MOST_BYTES};
+use std::error::Error;
+
+fn digits() -> Grammar {
+    Grammar::builder()
+        .rule("Number", sequence([call("Digit"), star(call("Digit"))]))
+        .rule("Digit", range(b'0', b'9'))
+        .build()
+        .expect("accepted")
+}
+
+fn brackets() -> Grammar {
+    let inside = sequence([byte(b'('), call("S")]);
+    Grammar::builder()
+        .rule("S", choice([inside, empty()]))
+        .build()
+        .expect("accepted")
+}
+
+fn says(refusal: impl Into<Option<Refusal>>, number: u8, words: &str) {
+    let refusal = refusal.into().expect(words);
+    assert_eq!(refusal.to_string(), words);
+    assert_eq!(refusal.number(), Some(number), "{words}");
+}
+
+/// The digits' image with one byte changed.
+fn with(place: usize, value: u8) -> Vec<u8> {
+    let mut image = digits().image().to_vec();
+    image[place] = value;
+    image
+}
+
+#[test]
+fn images() {
+    let refused = |image: &[u8], number, words: &str| {
+        says(check_image(image).err(), number, words);
+        says(Grammar::from_image(image).err(), number, words);
+        says(plain_reading(image, b"1").err(), number, words);
+        let opened = lending::open(image, b"1", &mut [0; 9], &mut [0; 99]);
+        says(opened.err(), number, words);
+    };
+    let short = "the image has 3 bytes, fewer than the 4 of its header";
+    refused(&digits().image()[..3], 1, short);
+    let edition = "the image is of edition 2 and not of edition 1";
+    refused(&with(0, 0x20), 1, edition);
+    refused(&[0x10, 0, 1, 0], 2, "the image has 0 rules and not 1 to 64");
+    refused(
+        &[0x14, 0x10, 1, 0],
+        2,
+        "the image has 65 rules and not 1 to 64",
+    );
+    refused(
+        &[0x10, 0x10, 0, 0],
+        2,
+        "the image has 0 nodes and not 1 to 1,024",
+    );
+    refused(
+        &[0x10, 0x14, 1, 0],
+        2,
+        "the image has 1025 nodes and not 1 to 1,024",
+    );
+    refused(
+        &with(3, 2),
+        2,
+        "the image has 2 rules and starts with rule 2",
+    );
+    let size = "the image has 27 bytes, and its header asks for 28";
+    refused(&digits().image()[..27], 3, size);
+    refused(&with(7, 5), 4, "the word of rule 1 names no node");
+    refused(&with(4, 0x10), 4, "the word of rule 0 names no node");
+    let node = |node: usize, why: &str| format!("the word of node {node} is not lawful: {why}");
+    refused(&with(8, 0x31), 4, &node(0, "its zero bits are not 0"));
+    refused(&with(24, 0x80), 4, &node(4, "its kind is above 7"));
+    let unused = "a field that its kind does not use is not 0";
+    refused(&with(15, 1), 4, &node(1, unused));
+    refused(&with(24, 0x10), 4, &node(4, unused));
+    let range = "its range ends below its beginning";
+    refused(&with(27, 0x2F), 4, &node(4, range));
+    refused(&with(26, 0x01), 4, &node(4, "its range ends above 255"));
+    refused(
+        &with(14, 0x20),
+        4,
+        &node(1, "it calls a rule that is not there"),
+    );
+    let child = "a child's number is not above its own, or names no node";
+    refused(&with(11, 5), 4, &node(0, child));
+    refused(&with(18, 0x20), 4, &node(2, child));
+    refused(
+        &with(11, 1),
+        5,
+        "node 1 is 2 times a root or a child and not once",
+    );
+    refused(&with(24, 0x00), 4, &node(4, unused));
+    let mut empties = with(24, 0x00);
+    empties[25..].fill(0);
+    let star = "rule 0 repeats something that can match without consuming";
+    refused(&empties, 6, star);
+    let ring = "rule 0 is called from itself without consuming";
+    refused(&with(14, 0x00), 7, ring);
+}
+
+#[test]
+fn loans() {
+    let grammar = digits();
+    let opening = |text: &str, room| Sheet::open(&grammar, text, room).err();
+    says(
+        opening("123", 2),
+        8,
+        "the text has 3 bytes, and there is room for 2",
+    );
+    let room = "there is room for 65536 bytes of text, and at most 65,535 are allowed";
+    says(opening("123", MOST_BYTES + 1), 8, room);
+    let most = format!(
+        "there is room for {} bytes of text, and at most 65,535 are allowed",
+        usize::MAX
+    );
+    says(opening("123", usize::MAX), 8, &most);
+    for room in [3, MOST_BYTES] {
+        assert!(opening("123", room).is_none());
+    }
+    assert!(opening("", 0).is_none());
+
+    let image = grammar.image();
+    let table = lending::open(image, b"1", &mut [0; 4], &mut [0; 9]);
+    says(table.err(), 8, "the table has 9 words, and 10 are needed");
+    let length = lending::read(image, &[0; 4], 5, &mut [0; 10]);
+    says(
+        length.err(),
+        8,
+        "the text has 5 bytes, and there is room for 4",
+    );
+    let long = vec![b'1'; MOST_BYTES + 1];
+    let words = "the text has 65536 bytes, and there is room for 65535";
+    says(grammar.read(&long).err(), 8, words);
+}
+
+#[test]
+fn edits_and_look_ups() {
+    let mut sheet = Sheet::open(&digits(), "12a", 8).expect("opened");
+    #[allow(clippy::reversed_empty_ranges)]
+    let reversed = sheet.edit(2..1, "");
+    let words = "the edit ends at byte 1, before its start at byte 2 (the text has 3)";
+    says(reversed.err(), 9, words);
+    let words = "the edit of bytes 1 to 4 ends behind the text, which has 3 bytes";
+    says(sheet.edit(1..4, "").err(), 9, words);
+    says(
+        sheet.edit(2..3, "3456789").err(),
+        10,
+        "the text of 3 bytes would lose 1 and gain 7, and there is room for 8",
+    );
+    says(
+        sheet.look_up(2, 0).err(),
+        11,
+        "there is no rule 2: the grammar has 2 rules",
+    );
+    says(
+        sheet.look_up(0, 4).err(),
+        11,
+        "there is no position 4: the text has 3 bytes",
+    );
+    says(sheet.list(2).err(), 15, "the match has more than 2 rows");
+    assert_eq!(sheet.text(), b"12a");
+    assert_eq!(sheet.read().expect("read").evaluations, 0);
+
+    for end in [usize::MAX, usize::MAX - 1, 1 << 62] {
+        assert_eq!(sheet.edit(0..end, "").unwrap_err().number(), Some(9));
+        assert_eq!(sheet.edit(end..end, "").unwrap_err().number(), Some(9));
+        assert_eq!(sheet.look_up(end, 0).unwrap_err().number(), Some(11));
+        assert_eq!(sheet.look_up(0, end).unwrap_err().number(), Some(11));
+        assert_eq!(sheet.list(end).expect("3 rows").rows.len(), 3);
+    }
+}
+
+#[test]
+fn readings() {
+    let deep = "(".repeat(1_365);
+    let words = "the text nests too deep: more than 4,096 evaluations inside each other";
+    let grammar = brackets();
+    says(grammar.read(&deep).err(), 14, words);
+    let mut sheet = Sheet::open(&grammar, &deep, deep.len()).expect("opened");
+    says(sheet.read().err(), 14, words);
+    says(sheet.list(5).err(), 14, words);
+    says(sheet.tree().err(), 14, words);
+    assert!(grammar.read(&deep[1..]).expect("4,095").is_whole());
+
+    // Held, matched, and a nesting of 0, which no reading gives.
+    let mut table = [0xC000_0000_0000_0000; 4];
+    let read = lending::read(digits().image(), b"1", 1, &mut table);
+    let words = "the lent table held a word that no reading of this text leaves there";
+    says(read.err(), 12, words);
+    assert_eq!(table, [0; 4]);
+}
+
+#[test]
+fn a_refusal_is_an_error() {
+    fn opened(room: usize) -> Result<Sheet, Box<dyn Error>> {
+        Ok(Sheet::open(&digits(), "1", room)?)
+    }
+    assert!(opened(1).is_ok());
+    let error = opened(0).expect_err("no room");
+    assert_eq!(
+        error.to_string(),
+        "the text has 1 byte, and there is room for 0"
+    );
+    let built = Grammar::builder().rule("A", call("A")).build();
+    let error: Box<dyn Error> = built.expect_err("a ring").into();
+    assert!(error.source().is_none());
+}
+
+#[test]
+fn a_table_has_rules_times_positions() {
+    let image = digits().image().to_vec();
+    assert_eq!(lending::table_words(&image, 16), 2 * 17);
+    assert_eq!(lending::table_words(&image, usize::MAX), usize::MAX);
+    assert_eq!(lending::table_words(&[], 16), 0);
+}

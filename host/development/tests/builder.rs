@@ -1,0 +1,90 @@
+//! The public grammar builder, held to the development package's own numbering and checker.
+
+use bannelgo::grammar::{self, Builder, GrammarError};
+use bannelgo_development::expr::{Expr, Grammar};
+use bannelgo_development::generate::{change_one_node, each_grammar, guarded, wild, TASTES};
+use bannelgo_development::numbering::{image_of, Numbering};
+use bannelgo_development::reference::places::shortest_ring;
+use bannelgo_development::reference::{self, read_grammar};
+use bannelgo_development::rng::Rng;
+
+fn name(rule: usize) -> String {
+    format!("Rule_{rule}")
+}
+
+/// The same grammar by the public functions.
+fn builder(grammar: &Grammar) -> Builder {
+    let bodies = grammar.rules.iter().enumerate();
+    let rules = bodies.fold(bannelgo::Grammar::builder(), |builder, (rule, body)| {
+        builder.rule(name(rule), expr(body))
+    });
+    rules.start(name(usize::from(grammar.start)))
+}
+
+fn expr(body: &Expr) -> grammar::Expr {
+    match body {
+        Expr::Empty => grammar::empty(),
+        Expr::AnyByte => grammar::any(),
+        Expr::Bytes(low, high) => grammar::range(*low, *high),
+        Expr::Then(a, b) => grammar::sequence([expr(a), expr(b)]),
+        Expr::Else(a, b) => grammar::choice([expr(a), expr(b)]),
+        Expr::Star(a) => grammar::star(expr(a)),
+        Expr::Not(a) => grammar::not(expr(a)),
+        Expr::Call(rule) => grammar::call(name(usize::from(*rule))),
+    }
+}
+
+/// Builds a grammar, holds what comes of it to the reference and gives the number.
+fn compare(grammar: &Grammar) -> u64 {
+    let image = image_of(grammar, Numbering::Preorder);
+    let number = reference::check(&image);
+    let rule = |name: &String| name["Rule_".len()..].parse::<usize>();
+    match (number, builder(grammar).build()) {
+        (0, Ok(built)) => {
+            assert_eq!(built.image(), image, "{grammar:?}");
+            assert_eq!(read_grammar(built.image()).as_ref(), Ok(grammar));
+        }
+        (6, Err(GrammarError::RepeatsNothing { rule: named })) => {
+            let rule = rule(&named).expect("a rule's name");
+            let body = &grammar.rules[rule];
+            assert!(has_star(body), "{grammar:?}, {named}");
+        }
+        (7, Err(GrammarError::CallsItself { rules })) => {
+            let rules: Vec<usize> = rules.iter().flat_map(rule).collect();
+            assert!(shortest_ring(&image, &rules), "{grammar:?}, {rules:?}");
+        }
+        (number, built) => panic!("{number}, {built:?}, {grammar:?}"),
+    }
+    number
+}
+
+fn has_star(expr: &Expr) -> bool {
+    matches!(expr, Expr::Star(_)) || expr.children().into_iter().any(has_star)
+}
+
+#[test]
+fn builder_and_numbering_make_the_same_images() {
+    let mut counts = [0u64; 8];
+    let leaves = [Expr::Empty, Expr::AnyByte];
+    each_grammar(2, 5, &leaves, &mut |grammar| {
+        counts[compare(grammar) as usize] += 1;
+    });
+    let rng = &mut Rng::new(701);
+    for round in 0..6_000 {
+        let rules = rng.between(1, 64);
+        let nodes = rng.between(rules, 1_024);
+        let mut grammar = match round % 2 {
+            0 => guarded(rng, rules, nodes),
+            _ => wild(rng, rules, nodes, &TASTES[round % TASTES.len()]),
+        };
+        grammar.start = rng.below(rules) as u8;
+        if round % 3 == 0 {
+            change_one_node(rng, &mut grammar);
+        }
+        counts[compare(&grammar) as usize] += 1;
+    }
+    assert!(
+        [0, 6, 7].iter().all(|&number| counts[number] >= 500),
+        "{counts:?}"
+    );
+}
