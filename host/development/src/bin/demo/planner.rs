@@ -24,7 +24,7 @@ pub fn show(out: &mut impl Write, compared: &mut Compared) -> Shown {
     let text = PLANNERS_SHEET.as_bytes();
     let first = FirstReading::of(&grammar, text)?;
     compared.compare(
-        "first reading of the sheet",
+        "the first reading of the sheet",
         &first.answer(),
         &expected(&grammar, text),
     );
