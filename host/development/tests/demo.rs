@@ -10,7 +10,8 @@ use demonstration::typed::KEYS;
 fn it_ends_well() {
     let output = output();
     assert_eq!(output.stderr, "");
-    assert_eq!(output.status.code(), Some(0));
+    let status = output.status.expect("it ends by itself");
+    assert_eq!(status.code(), Some(0));
 }
 
 /// For each key at least edit, text and reading in both sheets, and a first reading.

@@ -28,7 +28,7 @@ fn the_pairs_of_the_long_sheet_are_true() {
     let bytes = with_commas(last.len());
     let instead = with_commas(first_reading(&grammar, last).evaluations);
     expect_line(&format!(
-        "The same keys in a sheet of {bytes} bytes, its lines grouped by day: {each} instead of {instead}."
+        "In a sheet of {bytes} bytes, its lines grouped by day: {each} instead of {instead}."
     ));
     expect_times(keys.last());
 }

@@ -1,24 +1,26 @@
 //! One run of the demonstration, shared by the tests.
 
 use std::fs::{read_to_string, File};
+use std::io;
 use std::path::Path;
 use std::process::{Child, Command, ExitStatus};
 use std::sync::OnceLock;
 use std::thread::sleep;
 use std::time::{Duration, Instant};
 
-/// A run that takes longer has failed. A release build takes about two seconds.
-const LIMIT: Duration = Duration::from_secs(100);
+/// A run that takes longer is ended. A release build takes about two seconds, a debug build ten.
+const LIMIT: Duration = Duration::from_secs(60);
 
 pub struct Output {
-    pub status: ExitStatus,
+    /// Nothing where the run was ended.
+    pub status: Option<ExitStatus>,
     pub stdout: String,
     pub stderr: String,
 }
 
 pub fn output() -> &'static Output {
     static OUTPUT: OnceLock<Output> = OnceLock::new();
-    OUTPUT.get_or_init(run)
+    OUTPUT.get_or_init(|| run().expect("the demonstration can be run"))
 }
 
 /// The lines between a part's heading and the next one.
@@ -34,31 +36,28 @@ pub fn heading(line: &str) -> Option<&str> {
     Some(name.trim_end())
 }
 
-fn run() -> Output {
+fn run() -> io::Result<Output> {
     let kept = |name: &str| Path::new(env!("CARGO_TARGET_TMPDIR")).join(name);
     let (stdout, stderr) = (kept("demo.stdout"), kept("demo.stderr"));
-    let file = |path: &Path| File::create(path).expect("cargo's folder for tests can be written");
     let mut command = Command::new(env!("CARGO_BIN_EXE_demo"));
-    command.stdout(file(&stdout)).stderr(file(&stderr));
-    let child = command.spawn().expect("the demonstration can be started");
-    let text = |path: &Path| read_to_string(path).expect("the demonstration prints UTF-8");
-    Output {
-        status: ended(child),
-        stdout: text(&stdout),
-        stderr: text(&stderr),
-    }
+    command.stdout(File::create(&stdout)?);
+    command.stderr(File::create(&stderr)?);
+    Ok(Output {
+        status: ended(command.spawn()?)?,
+        stdout: read_to_string(&stdout)?,
+        stderr: read_to_string(&stderr)?,
+    })
 }
 
-fn ended(mut child: Child) -> ExitStatus {
+fn ended(mut child: Child) -> io::Result<Option<ExitStatus>> {
     let begin = Instant::now();
-    loop {
-        if let Some(status) = child.try_wait().expect("its status can be asked for") {
-            return status;
-        }
-        if begin.elapsed() > LIMIT {
-            child.kill().expect("it can be ended");
-            panic!("the demonstration did not end within {LIMIT:?}");
+    while begin.elapsed() < LIMIT {
+        if let Some(status) = child.try_wait()? {
+            return Ok(Some(status));
         }
         sleep(Duration::from_millis(20));
     }
+    child.kill()?;
+    child.wait()?;
+    Ok(None)
 }

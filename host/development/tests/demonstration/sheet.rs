@@ -17,8 +17,10 @@ fn the_sheet_is_shown_and_read() {
     let read = first_reading(&sheet(), PLANNERS_SHEET.as_bytes());
     let (bytes, pairs) = (PLANNERS_SHEET.len(), read.evaluations);
     assert!(read.reading.is_whole());
-    let said = format!("The whole sheet matched: {bytes} of {bytes} bytes, {pairs} pairs ");
-    assert!(lines.iter().any(|line| line.starts_with(&said)), "{said}");
+    let matched = format!("The whole sheet matched: {bytes} of {bytes} bytes.");
+    let evaluated = format!("{pairs} pairs were evaluated; a pair is a rule at a position.");
+    assert!(lines.contains(&&matched[..]), "{matched}");
+    assert!(lines.contains(&&evaluated[..]), "{evaluated}");
 }
 
 /// The rows down to depth 2, then the first red entry with the calls made in it.

@@ -13,8 +13,8 @@ pub fn show(out: &mut impl Write, compared: &mut Compared) -> Shown {
     heading(out, "The marked images")?;
     writeln!(
         out,
-        "The library reads a grammar from bytes, its image, and checks it first. The paper marks five\n\
-         images with the number that the check gives; 0 is accepted.\n"
+        "The library reads a grammar from bytes, its image, and checks it first. The\n\
+         paper marks five images with the number that the check gives; 0 is accepted.\n"
     )?;
     for sample in &SAMPLES {
         show_sample(out, sample, compared)?;

@@ -24,7 +24,7 @@ pub fn typed_line(compared: &mut Compared) -> Result<Vec<Key>, Refusal> {
     let beside_first = |step: Step| {
         let first = FirstReading::of(&grammar, &step.text)?;
         let expected = expected(&grammar, &step.text);
-        compared.compare("first reading behind a key", &first.answer(), &expected);
+        compared.compare("a first reading after a key", &first.answer(), &expected);
         Ok(Key { step, first })
     };
     steps.into_iter().map(beside_first).collect()
@@ -34,11 +34,11 @@ pub fn show(out: &mut impl Write, keys: &[Key]) -> Shown {
     heading(out, "Keys")?;
     writeln!(
         out,
-        "A line is typed behind the third gap, with a slip that is taken back, and the sheet is read\n\
-         after each key. The outcome is whole where all of it matched, and none where it did not.\n"
+        "A line is typed behind the third gap, with a slip that is taken back, and the\n\
+         sheet is read after each key. The outcome is whole where the sheet matched to\n\
+         its end, and none where it did not.\n"
     )?;
-    let (key, bytes, outcome) = ("", "", "");
-    writeln!(out, "{key:<11}{bytes:>5}   {outcome:<9}pairs evaluated by")?;
+    writeln!(out, "{:28}pairs evaluated by", "")?;
     let (key, bytes, outcome) = ("key", "bytes", "outcome");
     let (this, first) = ("this key", "a first reading");
     writeln!(

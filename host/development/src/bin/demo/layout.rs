@@ -1,4 +1,4 @@
-//! How parts, lines of a text, keys and numbers are written.
+//! How headings, lines of a text and numbers are written.
 
 use std::io::{self, Write};
 

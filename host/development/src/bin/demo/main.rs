@@ -40,8 +40,9 @@ fn main() -> ExitCode {
 fn show(out: &mut impl Write, compared: &mut Compared) -> Shown {
     writeln!(
         out,
-        "Bannelgo reads a text by a grammar. What a rule gave at a position is kept, so that after a\n\
-         key only what the key changed is evaluated. The functions that do this are proved."
+        "Bannelgo reads a text by a grammar. What a rule gave at a position is kept, so\n\
+         that after a key only what the key changed is evaluated. The functions that do\n\
+         this are proved."
     )?;
     planner::show(out, compared)?;
     rows::show(out, compared)?;

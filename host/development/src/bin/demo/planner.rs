@@ -14,32 +14,32 @@ pub fn show(out: &mut impl Write, compared: &mut Compared) -> Shown {
     heading(out, "The sheet")?;
     writeln!(
         out,
-        "A sheet is a text that is being typed. This one is a planner's, about the gaps in what a\n\
-         meter recorded: a colour, from when to when, and the values that fill the gap.\n"
+        "A sheet is a text that is being typed. This one is a planner's, about gaps in\n\
+         what a meter recorded: a colour, from when to when, and the values in the gap.\n"
     )?;
     for (number, line) in (1..).zip(PLANNERS_SHEET.lines()) {
         writeln!(out, "{}", numbered(number, line))?;
     }
-    writeln!(out, "\n{}", in_words(&grammar))?;
+    writeln!(out, "\n{}", rules_in_words(&grammar))?;
     let text = PLANNERS_SHEET.as_bytes();
     let first = FirstReading::of(&grammar, text)?;
     compared.compare(
-        "first reading of the sheet",
+        "the first reading of the sheet",
         &first.answer(),
         &expected(&grammar, text),
     );
-    writeln!(out, "{}", reading_in_words(&first.read))?;
+    writeln!(out, "\n{}", reading_in_words(&first.read))?;
     Ok(())
 }
 
-fn in_words(grammar: &Grammar) -> String {
+/// The rules by name, on two lines.
+fn rules_in_words(grammar: &Grammar) -> String {
     let names: Vec<&str> = grammar.names().collect();
-    let count = names.len();
-    let (first, second) = names.split_at(count / 2);
+    let (first, second) = names.split_at(names.len() / 2);
+    let (first, second) = (first.join(", "), second.join(", "));
     format!(
-        "Its grammar has {count} rules: {},\n{}.",
-        first.join(", "),
-        second.join(", ")
+        "Its grammar has {} rules:\n{first},\n{second}.",
+        names.len()
     )
 }
 
@@ -50,5 +50,8 @@ fn reading_in_words(read: &SheetReading) -> String {
         false => "The sheet did not match as a whole",
     };
     let pairs = grouped(read.evaluations);
-    format!("{verdict}: {matched} of {all} bytes, {pairs} pairs (a rule at a position) evaluated.")
+    format!(
+        "{verdict}: {matched} of {all} bytes.\n\
+         {pairs} pairs were evaluated; a pair is a rule at a position."
+    )
 }

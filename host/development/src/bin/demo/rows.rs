@@ -28,8 +28,8 @@ pub fn show(out: &mut impl Write, compared: &mut Compared) -> Shown {
     heading(out, "The rows")?;
     writeln!(
         out,
-        "The calls that made the match: rule, bytes and text, each below the call that it was made\n\
-         in. Down to depth {DEEPEST}:\n"
+        "The calls that made the match, with rule, bytes and text, each below the call\n\
+         that it was made in. Down to depth {DEEPEST}:\n"
     )?;
     write!(out, "{}", tree.down_to(DEEPEST))?;
     show_entry(out, &tree)

@@ -7,25 +7,17 @@ use crate::Shown;
 use std::io::Write;
 
 pub fn show(out: &mut impl Write, keys: &[Key]) -> Shown {
-    heading(out, "Where a typed line stopped matching")?;
-    let taken_back = keys.iter().position(|key| key.step.key == BACKSPACE);
-    let slip = taken_back.and_then(|place| keys.get(place.checked_sub(1)?));
-    match slip {
-        Some(key) => show_step(out, &key.step),
-        None => Ok(writeln!(out, "No key was taken back.")?),
-    }
-}
-
-fn show_step(out: &mut impl Write, step: &Step) -> Shown {
+    let step = slip(keys).expect("the typed line has a slip");
     let reached = step.read.reading.reached(&step.text);
     let text = String::from_utf8_lossy(&step.text);
     let line = text.lines().nth(reached.line - 1).unwrap_or("");
     let before: String = line.chars().take(reached.column - 1).collect();
     let there: String = line.chars().skip(reached.column - 1).take(1).collect();
+    heading(out, "Where a typed line stopped matching")?;
     writeln!(
         out,
-        "While a line is only unfinished, the reading stops behind its last byte. With the slip in\n\
-         it, the reading stops at the slip:\n"
+        "While a line is only unfinished, the reading stops behind its last byte. With\n\
+         the slip in it, the reading stops at the slip:\n"
     )?;
     writeln!(out, "{}", numbered(reached.line, line))?;
     writeln!(out, "{}", mark_under(reached.column))?;
@@ -34,4 +26,11 @@ fn show_step(out: &mut impl Write, step: &Step) -> Shown {
         "\nThe reading stopped at {reached}: after \"{before}\" it cannot go on with \"{there}\"."
     )?;
     Ok(())
+}
+
+/// The key that is taken back.
+fn slip(keys: &[Key]) -> Option<&Step> {
+    let taken_back = keys.iter().position(|key| key.step.key == BACKSPACE)?;
+    let slip = keys.get(taken_back.checked_sub(1)?)?;
+    Some(&slip.step)
 }

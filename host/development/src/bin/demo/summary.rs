@@ -23,7 +23,7 @@ pub fn show(out: &mut impl Write, keys: &[Key], compared: &mut Compared) -> Show
     writeln!(
         out,
         "{} keys: {} pairs evaluated for each, on average, instead of {} for a first reading.\n\
-         The same keys in a sheet of {} bytes, its lines grouped by day: {} instead of {}.",
+         In a sheet of {} bytes, its lines grouped by day: {} instead of {}.",
         keys.len(),
         grouped(short.key_pairs),
         grouped(average(keys.iter().map(|key| key.first.read.evaluations))),
@@ -47,8 +47,8 @@ fn cost_in_long_sheet(compared: &mut Compared) -> Result<Cost, Refusal> {
 fn show_times(out: &mut impl Write, costs: &[Cost]) -> Shown {
     writeln!(
         out,
-        "\nTimes on this machine in microseconds; a tenth of the keys, and of the first readings, took\n\
-         less. A key is its edit and its reading.\n"
+        "\nTimes on this machine in microseconds. A key is its edit and its reading; a\n\
+         tenth of the keys took less, and a tenth of the first readings.\n"
     )?;
     let (bytes, key, first) = ("bytes", "a key", "a first reading");
     writeln!(out, "{bytes:>10}{key:>10}{first:>18}")?;
@@ -59,7 +59,7 @@ fn show_times(out: &mut impl Write, costs: &[Cost]) -> Shown {
     }
     writeln!(
         out,
-        "\nEach call checks the grammar too, which is most of a key's time in the short sheet."
+        "\nEach call checks the grammar too: most of a key's time in the short sheet."
     )?;
     Ok(())
 }

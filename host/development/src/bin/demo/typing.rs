@@ -51,7 +51,11 @@ pub fn type_line(
     let written_apart = tree_of(grammar);
     let mut ledger = Ledger::open(&written_apart, room, text);
     let read = Ok(Answer::Reading(opened));
-    compared.compare("first reading", &read, &ledger.call(&Call::Read));
+    compared.compare(
+        "the reading after the opening",
+        &read,
+        &ledger.call(&Call::Read),
+    );
     for step in &steps {
         step.compare(&mut ledger, compared);
     }
@@ -98,7 +102,7 @@ impl Step {
         let edited = Ok(Answer::Edited(self.edited));
         let read = Ok(Answer::Reading(self.read));
         let escaped = |text: &[u8]| text.escape_ascii().to_string();
-        compared.compare(&format!("{edit}"), &edited, &ledger.call(&edit));
+        compared.compare(&edit.to_string(), &edited, &ledger.call(&edit));
         compared.compare(
             &format!("the text after {edit}"),
             &escaped(&self.text),
