@@ -1,7 +1,7 @@
 //! The header, and the questions 1 to 3.
 
 use super::top_bits::TopBits;
-use super::Refusal;
+use super::Number;
 
 pub struct Header {
     pub rules: usize,
@@ -19,7 +19,7 @@ impl Header {
     }
 }
 
-pub fn read(image: &[u8]) -> Result<Header, Refusal> {
+pub fn read(image: &[u8]) -> Result<Header, Number> {
     let Some(first) = image.first_chunk::<4>() else {
         return Err(1);
     };

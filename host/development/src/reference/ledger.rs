@@ -8,7 +8,7 @@ use super::pair_map::PairMap;
 use super::reading::{of_start, MOST_NESTING};
 use super::record::true_word;
 use super::rows::rows;
-use super::Refusal;
+use super::Number;
 use crate::calls::{Answer, Call};
 use crate::expr::Grammar;
 use bannelgo::{Edited, Listing, Row, SheetReading};
@@ -45,7 +45,7 @@ impl<'g> Ledger<'g> {
     }
 
     /// The ledger's answer or number.
-    pub fn call(&mut self, call: &Call) -> Result<Answer, Refusal> {
+    pub fn call(&mut self, call: &Call) -> Result<Answer, Number> {
         match call {
             Call::Edit {
                 start,
@@ -59,7 +59,7 @@ impl<'g> Ledger<'g> {
     }
 
     /// Questions 9 and 10, then "bytes s to e − 1 give way to r".
-    fn edit(&mut self, start: usize, end: usize, replacement: &[u8]) -> Result<Edited, Refusal> {
+    fn edit(&mut self, start: usize, end: usize, replacement: &[u8]) -> Result<Edited, Number> {
         if start > end || end > self.text.len() {
             return Err(9);
         }
@@ -94,7 +94,7 @@ impl<'g> Ledger<'g> {
     }
 
     /// Question 14, then "the set gains every reached pair".
-    fn read(&mut self) -> Result<SheetReading, Refusal> {
+    fn read(&mut self) -> Result<SheetReading, Number> {
         let reached = self.reached();
         let start = self.evaluation((self.grammar.start, 0));
         if start.nesting > MOST_NESTING {
@@ -110,7 +110,7 @@ impl<'g> Ledger<'g> {
     }
 
     /// Question 11, then "the true word of a held pair, else 0".
-    fn look_up(&mut self, rule: usize, position: usize) -> Result<u64, Refusal> {
+    fn look_up(&mut self, rule: usize, position: usize) -> Result<u64, Number> {
         if rule >= self.grammar.rules.len() || position > self.text.len() {
             return Err(11);
         }
@@ -118,7 +118,7 @@ impl<'g> Ledger<'g> {
     }
 
     /// "To it a listing is a reading, also one refused with 15."
-    fn list(&mut self, slots: usize) -> Result<Listing, Refusal> {
+    fn list(&mut self, slots: usize) -> Result<Listing, Number> {
         let read = self.read()?;
         let rows = self.rows(slots).ok_or(15u64)?;
         Ok(Listing { read, rows })

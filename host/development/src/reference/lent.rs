@@ -4,7 +4,7 @@
 //! word by word into a table of its own.
 
 use super::record::Fields;
-use super::Refusal;
+use super::Number;
 use crate::calls::Call;
 use crate::expr::Grammar;
 use bannelgo::Edited;
@@ -34,7 +34,7 @@ impl Loan {
     }
 
     /// Question 8, then 9 and 10 or 11: the number of the first that the call fails.
-    pub fn question_failed(&self, grammar: &Grammar, call: &Call) -> Option<Refusal> {
+    pub fn question_failed(&self, grammar: &Grammar, call: &Call) -> Option<Number> {
         let rules = grammar.rules.len();
         if !lent_wholly(rules, self.cap(), self.n, self.words.len()) {
             return Some(8);
@@ -52,7 +52,7 @@ impl Loan {
     }
 
     /// "Copies the text, zeroes the rest of the buffer and the table." Nothing where question 8 fails.
-    pub fn open(&mut self, grammar: &Grammar, text: &[u8]) -> Result<usize, Refusal> {
+    pub fn open(&mut self, grammar: &Grammar, text: &[u8]) -> Result<usize, Number> {
         let rules = grammar.rules.len();
         if !lent_wholly(rules, self.cap(), text.len(), self.words.len()) {
             return Err(8);

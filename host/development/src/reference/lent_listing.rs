@@ -8,13 +8,13 @@ use super::machine::{evaluate_pair, Pair};
 use super::pair_map::PairMap;
 use super::reading::MOST_NESTING;
 use super::record::{true_word, Fields};
-use super::Refusal;
+use super::Number;
 use crate::calls::{Answer, Call};
 use crate::expr::Grammar;
 use bannelgo::Listing;
 
 /// What a listing answers; nothing where the paper leaves it free. The loan fails no question.
-pub fn list(grammar: &Grammar, loan: &mut Loan, slots: usize) -> Option<Result<Listing, Refusal>> {
+pub fn list(grammar: &Grammar, loan: &mut Loan, slots: usize) -> Option<Result<Listing, Number>> {
     let start = fields_of(grammar, loan, (grammar.start, 0));
     if start.held && !start.possible(0, loan.n) {
         loan.clear_table(grammar);
@@ -27,7 +27,7 @@ pub fn list(grammar: &Grammar, loan: &mut Loan, slots: usize) -> Option<Result<L
 }
 
 /// A ledger lists the text once: it then holds the reached pairs, or none after 14.
-fn list_afresh(grammar: &Grammar, loan: &mut Loan, slots: usize) -> Result<Listing, Refusal> {
+fn list_afresh(grammar: &Grammar, loan: &mut Loan, slots: usize) -> Result<Listing, Number> {
     let mut ledger = Ledger::open(grammar, loan.buffer.len(), &loan.buffer[..loan.n]);
     let answer = ledger.call(&Call::List { slots });
     if answer == Err(14) {

@@ -12,12 +12,12 @@ use super::machine::Pair;
 use super::pair_map::PairMap;
 use super::reading::MOST_NESTING;
 use super::record::Fields;
-use super::Refusal;
+use super::Number;
 use crate::expr::{Expr, Grammar};
 use bannelgo::SheetReading;
 
 /// What a reading answers; nothing where the paper leaves it free. The loan fails no question.
-pub fn read(grammar: &Grammar, loan: &mut Loan) -> Option<Result<SheetReading, Refusal>> {
+pub fn read(grammar: &Grammar, loan: &mut Loan) -> Option<Result<SheetReading, Number>> {
     let start = (grammar.start, 0);
     let mut reader = Reader {
         rules: &grammar.rules,

@@ -36,7 +36,7 @@ pub use reading::read;
 use crate::expr::Grammar;
 
 /// The number of the first question that an image or a text fails.
-pub type Refusal = u64;
+pub type Number = u64;
 
 /// The number of the first of the questions 1 to 7 that the image fails, 0 where it passes all.
 pub fn check(image: &[u8]) -> u64 {
@@ -47,7 +47,7 @@ pub fn check(image: &[u8]) -> u64 {
 }
 
 /// Asks the questions 1 to 7.
-pub fn accepted_grammar(image: &[u8]) -> Result<Grammar, Refusal> {
+pub fn accepted_grammar(image: &[u8]) -> Result<Grammar, Number> {
     let grammar = read_grammar(image)?;
     match check_grammar(&grammar) {
         0 => Ok(grammar),
@@ -56,7 +56,7 @@ pub fn accepted_grammar(image: &[u8]) -> Result<Grammar, Refusal> {
 }
 
 /// Asks the questions 1 to 5, after which every rule is a finite tree.
-pub fn read_grammar(image: &[u8]) -> Result<Grammar, Refusal> {
+pub fn read_grammar(image: &[u8]) -> Result<Grammar, Number> {
     let header = header::read(image)?;
     let words = words::read(image, &header).ok_or(4u64)?;
     if !occurrences::each_node_once(&words) {

@@ -1,7 +1,7 @@
 //! A plain reading from what the machine found: questions 8 and 14, and whole, part or nothing.
 
 use super::machine::{evaluate_start, Found};
-use super::Refusal;
+use super::Number;
 use crate::expr::Grammar;
 use bannelgo::{Outcome, Reading};
 
@@ -14,7 +14,7 @@ pub const MOST_NESTING: usize = 4_096;
 /// Reads `text` by an accepted grammar: a reading, or 8 or 14.
 ///
 /// Nothing where a reading without records makes more than `most_work` evaluations.
-pub fn read(grammar: &Grammar, text: &[u8], most_work: u64) -> Option<Result<Reading, Refusal>> {
+pub fn read(grammar: &Grammar, text: &[u8], most_work: u64) -> Option<Result<Reading, Number>> {
     if text.len() > LONGEST_TEXT {
         return Some(Err(8));
     }

@@ -4,12 +4,12 @@
 
 use super::evaluation::{Evaluation, Rounds};
 use super::reading::{LONGEST_TEXT, MOST_NESTING};
-use super::Refusal;
+use super::Number;
 use crate::expr::{Expr, Grammar};
 use bannelgo::Reading;
 
 /// Reads `text` by an accepted grammar: a reading, or 8 or 14.
-pub fn read(grammar: &Grammar, text: &[u8]) -> Result<Reading, Refusal> {
+pub fn read(grammar: &Grammar, text: &[u8]) -> Result<Reading, Number> {
     if text.len() > LONGEST_TEXT {
         return Err(8);
     }

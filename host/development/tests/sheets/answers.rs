@@ -3,14 +3,14 @@
 use bannelgo::raw::Fields;
 use bannelgo_development::calls::Answer;
 use bannelgo_development::reference::rows::word;
-use bannelgo_development::reference::Refusal;
+use bannelgo_development::reference::Number;
 use bannelgo_development::rng::Rng;
 
 /// More row slots than the lists lend, except where a text has more rows just by its length.
 pub const MOST_SLOTS: usize = 5_000;
 
 /// The fields that stand for the ledger's answer or number.
-pub fn fields_of(answer: &Result<Answer, Refusal>) -> Fields {
+pub fn fields_of(answer: &Result<Answer, Number>) -> Fields {
     match answer {
         Ok(answer) => answer.fields(),
         Err(number) => Fields::of_number(*number),
@@ -18,7 +18,7 @@ pub fn fields_of(answer: &Result<Answer, Refusal>) -> Fields {
 }
 
 /// The words of an answered listing's rows; none for any other answer.
-pub fn row_words(answer: &Result<Answer, Refusal>) -> Vec<u64> {
+pub fn row_words(answer: &Result<Answer, Number>) -> Vec<u64> {
     match answer {
         Ok(Answer::Listing(listing)) => listing.rows.iter().map(word).collect(),
         _ => vec![],

@@ -10,7 +10,7 @@ use bannelgo_development::calls::{Answer, Call};
 use bannelgo_development::expr::Grammar;
 use bannelgo_development::numbering::{image_of, Numbering};
 use bannelgo_development::reference::lent::Loan;
-use bannelgo_development::reference::{lent_listing, lent_reading, Refusal};
+use bannelgo_development::reference::{lent_listing, lent_reading, Number};
 use bannelgo_development::rng::Rng;
 
 pub struct AnyTable<'a> {
@@ -83,7 +83,7 @@ impl<'a> AnyTable<'a> {
 }
 
 /// What the paper says of a call, and does with the loan; nothing for one that is free.
-fn expected(grammar: &Grammar, loan: &mut Loan, call: &Call) -> Option<Result<Answer, Refusal>> {
+fn expected(grammar: &Grammar, loan: &mut Loan, call: &Call) -> Option<Result<Answer, Number>> {
     if let Some(number) = loan.question_failed(grammar, call) {
         return Some(Err(number));
     }

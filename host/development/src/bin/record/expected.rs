@@ -8,10 +8,10 @@ use bannelgo_development::expr::Grammar;
 use bannelgo_development::reference::ledger::Ledger;
 use bannelgo_development::reference::lent::lent_wholly;
 use bannelgo_development::reference::rows::word;
-use bannelgo_development::reference::{accepted_grammar, Refusal};
+use bannelgo_development::reference::{accepted_grammar, Number};
 
 /// What the images of the lists are: a grammar, or the number of a question from 1 to 7.
-type Checked = Result<Grammar, Refusal>;
+type Checked = Result<Grammar, Number>;
 
 pub fn output(lines: &[Line]) -> String {
     let images: Vec<(&[u8], Checked)> = lines.iter().filter_map(image).collect();
@@ -77,7 +77,7 @@ impl<'g> Replay<'g> {
     }
 
     /// The questions 1 to 8 for a text of `n` bytes.
-    fn asked(&self, n: usize) -> Result<(&'g [u8], &'g Grammar), Refusal> {
+    fn asked(&self, n: usize) -> Result<(&'g [u8], &'g Grammar), Number> {
         // "Are there 4 bytes?"
         let (image, checked) = self.image.ok_or(1u64)?;
         let grammar = checked.as_ref().map_err(|number| *number)?;
@@ -87,7 +87,7 @@ impl<'g> Replay<'g> {
         Ok((image, grammar))
     }
 
-    fn open(&mut self, text: &[u8]) -> Result<usize, Refusal> {
+    fn open(&mut self, text: &[u8]) -> Result<usize, Number> {
         let (image, grammar) = self.asked(text.len())?;
         self.sheet = Some(Sheet {
             ledger: Ledger::open(grammar, self.cap, text),
@@ -97,7 +97,7 @@ impl<'g> Replay<'g> {
         Ok(text.len())
     }
 
-    fn call(&mut self, call: &Call) -> Result<Answer, Refusal> {
+    fn call(&mut self, call: &Call) -> Result<Answer, Number> {
         let n = self
             .sheet
             .as_ref()
@@ -115,7 +115,7 @@ impl<'g> Replay<'g> {
     }
 }
 
-fn answered(number: usize, name: &str, answer: Result<String, Refusal>) -> String {
+fn answered(number: usize, name: &str, answer: Result<String, Number>) -> String {
     match answer {
         Ok(words) => format!("{number} {name}: {words}\n"),
         Err(refusal) => format!("{number} {name}: refused {refusal}\n"),
