@@ -242,7 +242,7 @@ impl Loan<'_> {
         if cap > MOST_BYTES {
             LoanFault::Cap { cap }
         } else if length > cap {
-            LoanFault::Text { length, cap }
+            LoanFault::Text { length, most: cap }
         } else {
             let needed = table_words(image, cap);
             LoanFault::Table { words, needed }

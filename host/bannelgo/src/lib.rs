@@ -2,7 +2,8 @@
 //!
 //! A [`Sheet`] is a text that is being typed. It is read by a [`Grammar`], and what a rule gave at a
 //! position is kept as a record, so that the reading after a key evaluates only what the key changed.
-//! Each function behind these types is proved to give exactly what Ford's rules give.
+//! The library that reads, edits and lists is proved to give exactly what Ford's rules give. What this
+//! crate puts around it is tested and not proved: the builder, the words of refusals, trees and places.
 //!
 //! ```
 //! use bannelgo::grammar::{call, range, sequence, star, Grammar};
@@ -65,7 +66,7 @@ pub use plain::plain_reading;
 pub use reading::{Edited, Outcome, Reading, SheetReading};
 pub use record::Record;
 pub use refusal::{LoanFault, Refusal};
-pub use rows::{Children, DownTo, Listing, Node, Row, Tree};
+pub use rows::{Call, Children, DownTo, Listing, Row, Tree};
 pub use sheet::{Sheet, MOST_ROWS};
 
 /// The most bytes that a text, and the room for it, can have.

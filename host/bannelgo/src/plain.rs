@@ -27,7 +27,7 @@ pub fn plain_reading(image: &[u8], text: &[u8]) -> Result<Reading, Refusal> {
         Unanswered::Number(number @ 1..=7) => refused_image(number, image),
         Unanswered::Number(8) => Refusal::Loan(LoanFault::Text {
             length: text.len(),
-            cap: MOST_BYTES,
+            most: MOST_BYTES,
         }),
         Unanswered::Number(14) => Refusal::Nesting,
         other => Refusal::unknown(other),

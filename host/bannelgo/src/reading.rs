@@ -66,7 +66,7 @@ pub struct SheetReading {
 pub struct Edited {
     /// The new length of the text in bytes.
     pub length: usize,
-    /// The number of pairs that stand: whose record the edit leaves true.
+    /// The number of pairs that stand: whose record is kept.
     pub standing: usize,
 }
 
@@ -78,7 +78,8 @@ impl Reading {
 
     /// The last place that the reading looked at, as line and column of the text that was read.
     ///
-    /// Where a text does not match as a whole, this is how far it could be followed.
+    /// Where a text does not match as a whole, this is how far it could be followed. A grammar that looks
+    /// far ahead, by `and` or `not`, can put it behind the mistake.
     ///
     /// ```
     /// use bannelgo::grammar::{any, literal, not, sequence, star, Grammar};
@@ -123,6 +124,11 @@ impl SheetReading {
     /// The last place that the reading looked at, as [`Reading::reached`] says it.
     pub fn reached(&self, text: impl AsRef<[u8]>) -> Place {
         self.reading.reached(text)
+    }
+
+    /// Whether the reading looked at the text's end, as [`Reading::saw_end`] says it.
+    pub fn saw_end(&self, text: impl AsRef<[u8]>) -> bool {
+        self.reading.saw_end(text)
     }
 }
 

@@ -4,8 +4,8 @@ use crate::raw::answers::bits;
 
 /// What a rule gave at a position when it was last evaluated there.
 ///
-/// It stands through every edit that leaves the bytes it examined where they are, or moves all of
-/// them.
+/// It stands through every edit that lies behind all bytes it examined, or before its position; in the
+/// second case it moves along with the text.
 #[derive(Clone, Copy, Debug, PartialEq, Eq, Hash)]
 pub struct Record {
     /// Whether the rule matched.

@@ -112,7 +112,7 @@ fn highlight_colours_a_text_and_says_what_is_refused() {
             "\x1b[0mwhole, length 55, examined 56, nesting 19, evaluations 5",
             "not typed: the text would have 91 bytes, and there is room for 64",
             "not listed: the match has more than 5 rows",
-            "no grammar: rule Settings calls Line, and no rule has that name",
+            r#"no grammar: rule Settings calls "Line", and no rule has that name"#,
             "no grammar: rule Lines repeats something that can match without consuming",
             "no grammar: rule Sum is called from itself without consuming",
         ],

@@ -103,7 +103,7 @@ fn another_rule_may_be_the_start() {
     assert_eq!(two("C"), Err(undefined.clone()));
     assert_eq!(
         undefined.to_string(),
-        "the start rule is C, and no rule has that name"
+        "the start rule is \"C\", and no rule has that name"
     );
 }
 
@@ -129,7 +129,7 @@ fn a_grammar_of_no_lawful_names() {
     refused(
         undefined,
         None,
-        "rule B calls Missing, and no rule has that name",
+        "rule B calls \"Missing\", and no rule has that name",
     );
     let range = of_rules(&[("A", not(range(b'9', b'0')))]);
     let words = "rule A has a range from 0x39 to 0x30, which ends below its beginning";
@@ -158,10 +158,10 @@ fn nodes_up_to_1_024() {
     let most = literal(vec![b'a'; MOST_NODES / 2]);
     let two = |more: Expr| of_rules(&[("A", most.clone()), ("B", more)]);
     assert!(two(any()).build().is_ok());
-    let words = "the grammar has 1025 nodes; in rule B it passes the 1024 that it can have";
+    let words = "the grammar has 1025 nodes; in rule B it passes the 1,024 that it can have";
     refused(two(star(any())), Some(2), words);
     let first = of_rules(&[("A", literal(vec![b'a'; 513])), ("B", any())]);
-    let words = "the grammar has 1026 nodes; in rule A it passes the 1024 that it can have";
+    let words = "the grammar has 1026 nodes; in rule A it passes the 1,024 that it can have";
     refused(first, Some(2), words);
 }
 

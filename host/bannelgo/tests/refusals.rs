@@ -69,8 +69,9 @@ fn images() {
     );
     let size = "the image has 27 bytes, and its header asks for 28";
     refused(&digits().image()[..27], 3, size);
-    refused(&with(7, 5), 4, "the word of rule 1 names no node");
-    refused(&with(4, 0x10), 4, "the word of rule 0 names no node");
+    let rule = |rule: usize, why: &str| format!("the word of rule {rule} is not lawful: {why}");
+    refused(&with(7, 5), 4, &rule(1, "it names no node"));
+    refused(&with(4, 0x10), 4, &rule(0, "its zero bits are not 0"));
     let node = |node: usize, why: &str| format!("the word of node {node} is not lawful: {why}");
     refused(&with(8, 0x31), 4, &node(0, "its zero bits are not 0"));
     refused(&with(24, 0x80), 4, &node(4, "its kind is above 7"));
@@ -133,7 +134,7 @@ fn loans() {
         "the text has 5 bytes, and there is room for 4",
     );
     let long = vec![b'1'; MOST_BYTES + 1];
-    let words = "the text has 65536 bytes, and there is room for 65535";
+    let words = "the text has 65536 bytes, and at most 65,535 are allowed";
     says(grammar.read(&long).err(), 8, words);
 }
 
@@ -142,8 +143,10 @@ fn edits_and_look_ups() {
     let mut sheet = Sheet::open(&digits(), "12a", 8).expect("opened");
     #[allow(clippy::reversed_empty_ranges)]
     let reversed = sheet.edit(2..1, "");
-    let words = "the edit ends at byte 1, before its start at byte 2 (the text has 3)";
+    let words = "the edit ends at byte 1, before its start at byte 2";
     says(reversed.err(), 9, words);
+    let words = "the edit starts at byte 5, behind the text, which has 3 bytes";
+    says(sheet.edit(5.., "x").err(), 9, words);
     let words = "the edit of bytes 1 to 4 ends behind the text, which has 3 bytes";
     says(sheet.edit(1..4, "").err(), 9, words);
     says(

@@ -3,7 +3,7 @@
 use bannelgo::grammar::{
     any, call, choice, literal, not, one_of, plus, range, sequence, star, Grammar,
 };
-use bannelgo::{Node, Place, Row, Sheet, Tree};
+use bannelgo::{Call, Place, Row, Sheet, Tree};
 
 /// Sum <- Value (Sign Value)*; Value <- "(" Sum ")" / Number.
 fn sums() -> Grammar {
@@ -49,25 +49,24 @@ fn a_tree_prints_its_calls() {
     assert!(tree.reading().reading.is_whole());
 }
 
-/// Every node's parent has it among its children, and the children are just the nodes with that parent.
+/// Every call's parent has it among its children, and the children are just the calls with that parent.
 #[test]
 fn parents_and_children_agree() {
     for text in ["1", "1+2", "1+(23-4)", "((((7))))-(1+(2-3)+4)"] {
         let tree = tree(text);
-        let same = |one: &Node<'_>, other: &Node<'_>| one.row() == other.row();
         assert_eq!(
-            tree.nodes().filter(|node| node.parent().is_none()).count(),
+            tree.calls().filter(|call| call.parent().is_none()).count(),
             1
         );
-        for node in tree.nodes() {
-            let children: Vec<Node<'_>> = node.children().collect();
-            let is_child = |other: &Node<'_>| other.parent().is_some_and(|up| same(&up, &node));
-            let expected: Vec<Node<'_>> = tree.nodes().filter(is_child).collect();
-            assert_eq!(format!("{children:?}"), format!("{expected:?}"));
+        for call in tree.calls() {
+            let children: Vec<Call<'_>> = call.children().collect();
+            let is_child = |other: &Call<'_>| other.parent() == Some(call);
+            let expected: Vec<Call<'_>> = tree.calls().filter(is_child).collect();
+            assert_eq!(children, expected);
             for child in children {
-                assert_eq!(child.depth(), node.depth() + 1);
-                assert!(node.range().start <= child.range().start);
-                assert!(child.range().end <= node.range().end);
+                assert_eq!(child.depth(), call.depth() + 1);
+                assert!(call.range().start <= child.range().start);
+                assert!(child.range().end <= call.range().end);
             }
         }
     }
@@ -125,10 +124,10 @@ fn any_rows_make_a_tree() {
         length,
     });
     let odd = Tree::new(&sums(), b"1", reading, rows.to_vec());
-    assert_eq!(odd.nodes().count(), 5);
+    assert_eq!(odd.calls().count(), 5);
     assert!(odd
-        .nodes()
-        .all(|node| node.children().count() < 5 && node.text().len() < 2));
+        .calls()
+        .all(|call| call.children().count() < 5 && call.text().len() < 2));
     assert!(odd.to_string().lines().count() >= 5);
     assert!(odd.at(0).is_none());
 }
@@ -191,7 +190,7 @@ fn places_are_lines_and_columns() {
         .map(|offset| Place::of(text, offset))
         .map(|place| (place.line, place.column))
         .collect();
-    // The second byte of ä is in its column's middle.
+    // Both bytes of ä are in one column.
     let expected = [
         (1, 1),
         (1, 2),
@@ -199,7 +198,7 @@ fn places_are_lines_and_columns() {
         (2, 1),
         (3, 1),
         (3, 2),
-        (3, 3),
+        (3, 2),
         (3, 3),
         (3, 4),
         (4, 1),
@@ -207,5 +206,11 @@ fn places_are_lines_and_columns() {
     ];
     assert_eq!(places, expected);
     assert_eq!(Place::of(text, 99).offset, text.len());
+    // Bytes in no character have a column each; a newline ends what is cut off before it.
+    let odd = b"\xA4\xC3\xC3\xA4\xE2\x82\n\xA4x";
+    let columns: Vec<usize> = (0..=odd.len())
+        .map(|at| Place::of(odd, at).column)
+        .collect();
+    assert_eq!(columns, [1, 2, 3, 3, 4, 5, 6, 1, 2, 3]);
     assert_eq!(Place::of(&[], 0).to_string(), "line 1, column 1");
 }

@@ -7,6 +7,7 @@
 pub mod big_images;
 pub mod calls;
 pub mod expr;
+pub mod figures;
 pub mod gap_sheet;
 pub mod gap_text;
 pub mod generate;

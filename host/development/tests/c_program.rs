@@ -80,3 +80,37 @@ fn tells_a_wrong_answer(program: &Path) {
         }
     }
 }
+
+const README: &str = include_str!("../../../README.md");
+
+/// What stands between a line of three backticks with this name and the next three.
+fn fenced<'d>(document: &'d str, name: &str) -> &'d str {
+    let opening = format!("```{name}\n");
+    let (_, behind) = document.split_once(&opening).expect("the document has one");
+    behind.split_once("```").expect("it is closed").0
+}
+
+/// The README's C lines compile, warnings as errors, and say what the library answers.
+#[test]
+fn the_readmes_c_runs() {
+    let image: Vec<String> = bannelgo_development::samples::D2
+        .iter()
+        .map(u8::to_string)
+        .collect();
+    let program = format!(
+        "#include \"bannelgo.h\"\n#include <stdio.h>\n\
+         static const uint8_t image[] = {{{}}};\nenum {{ image_length = sizeof image }};\n\
+         int main(void) {{\n{}return 0;\n}}\n",
+        image.join(", "),
+        fenced(README, "c")
+    );
+    let folder = scratch("readme");
+    let (source, executable) = (folder.join("readme.c"), folder.join("readme"));
+    std::fs::write(&source, program).expect("the folder can be written to");
+    let mut compiler = C.compiler(None);
+    compiler.arg("-I").arg(repository().join("include"));
+    compiler.arg(&source);
+    compiler.arg(Path::new(env!("BANNELGO_LIB_FOLDER")).join("libbannelgo.a"));
+    succeed(compiler.arg("-o").arg(&executable));
+    assert_eq!(succeed(&mut Command::new(executable)), "2 bytes matched\n");
+}

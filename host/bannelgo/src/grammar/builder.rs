@@ -57,7 +57,7 @@ impl Builder {
     /// use bannelgo::grammar::{call, Grammar};
     ///
     /// let refused = Grammar::builder().rule("Sheet", call("Line")).build().unwrap_err();
-    /// assert_eq!(refused.to_string(), "rule Sheet calls Line, and no rule has that name");
+    /// assert_eq!(refused.to_string(), r#"rule Sheet calls "Line", and no rule has that name"#);
     /// ```
     pub fn build(self) -> Result<Grammar, GrammarError> {
         self.check_counts()?;

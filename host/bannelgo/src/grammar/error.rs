@@ -1,7 +1,6 @@
 //! Why rules make no grammar.
 
-use super::{MOST_NODES, MOST_RULES};
-use crate::image::{ring_in_words, Fault};
+use crate::image::{ring_in_words, star_in_words, Fault};
 use crate::refusal::Refusal;
 use std::fmt;
 
@@ -14,7 +13,7 @@ use std::fmt;
 /// let Err(error) = Grammar::builder().rule("Sum", sum).build() else {
 ///     panic!("no rule has the name Nunber");
 /// };
-/// assert_eq!(error.to_string(), "rule Sum calls Nunber, and no rule has that name");
+/// assert_eq!(error.to_string(), r#"rule Sum calls "Nunber", and no rule has that name"#);
 /// assert!(matches!(error, GrammarError::UndefinedRule { name, .. } if name == "Nunber"));
 /// ```
 #[derive(Clone, Debug, PartialEq, Eq)]
@@ -112,14 +111,7 @@ impl GrammarError {
     }
 }
 
-impl std::error::Error for GrammarError {
-    fn source(&self) -> Option<&(dyn std::error::Error + 'static)> {
-        match self {
-            GrammarError::Refused(refusal) => Some(refusal),
-            _ => None,
-        }
-    }
-}
+impl std::error::Error for GrammarError {}
 
 impl fmt::Display for GrammarError {
     fn fmt(&self, out: &mut fmt::Formatter<'_>) -> fmt::Result {
@@ -127,27 +119,26 @@ impl fmt::Display for GrammarError {
             GrammarError::NoRules => out.write_str("the grammar has no rule"),
             GrammarError::TooManyRules { rule, rules } => write!(
                 out,
-                "the grammar has {rules} rules; {rule} is the first after the {MOST_RULES} that it can have"
+                "the grammar has {rules} rules; {rule} is the first after the 64 that it can have"
             ),
             GrammarError::TooManyNodes { rule, nodes } => write!(
                 out,
-                "the grammar has {nodes} nodes; in rule {rule} it passes the {MOST_NODES} that it can have"
+                "the grammar has {nodes} nodes; in rule {rule} it passes the 1,024 that it can have"
             ),
             GrammarError::DefinedTwice { rule } => write!(out, "two rules have the name {rule}"),
             GrammarError::UndefinedRule { rule, name } => {
-                write!(out, "rule {rule} calls {name}, and no rule has that name")
+                write!(out, "rule {rule} calls {name:?}, and no rule has that name")
             }
             GrammarError::UndefinedStart { name } => {
-                write!(out, "the start rule is {name}, and no rule has that name")
+                write!(out, "the start rule is {name:?}, and no rule has that name")
             }
             GrammarError::EmptyRange { rule, low, high } => write!(
                 out,
                 "rule {rule} has a range from {low:#04x} to {high:#04x}, which ends below its beginning"
             ),
-            GrammarError::RepeatsNothing { rule } => write!(
-                out,
-                "rule {rule} repeats something that can match without consuming"
-            ),
+            GrammarError::RepeatsNothing { rule } => {
+                out.write_str(&star_in_words(&format!("rule {rule}")))
+            }
             GrammarError::CallsItself { rules } => {
                 let names: Vec<String> = rules.iter().map(|rule| format!("rule {rule}")).collect();
                 out.write_str(&ring_in_words(&names))

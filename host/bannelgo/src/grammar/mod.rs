@@ -148,8 +148,10 @@ impl Grammar {
         self.start
     }
 
-    /// Reads a text without records, as [`plain_reading`] does. A refusal has
-    /// number 8 or 14.
+    /// Reads a text without records, as [`plain_reading`] does. A refusal has number 8 or 14.
+    ///
+    /// With some grammars the time grows exponentially with the text; a [`Sheet`](crate::Sheet) reads each
+    /// rule at each position once.
     ///
     /// ```
     /// use bannelgo::grammar::{plus, range, Grammar};

@@ -3,6 +3,7 @@
 use super::outcomes::{outcome_sets, ZERO};
 use super::ring::shortest_ring;
 use super::words::{Header, NodeWord, Words};
+use crate::grammar::{MOST_NODES, MOST_RULES};
 use crate::refusal::counted;
 use std::fmt;
 
@@ -56,10 +57,12 @@ pub enum Fault {
         /// The length that the header asks for.
         expected: usize,
     },
-    /// Number 4: a rule's word has other than zero bits in front, or names no node.
+    /// Number 4: a rule's word is not lawful.
     RuleWord {
         /// The rule.
         rule: usize,
+        /// What is wrong with it.
+        why: &'static str,
     },
     /// Number 4: a node's word is not lawful.
     NodeWord {
@@ -120,9 +123,9 @@ fn of_header(header: &Header, bytes: usize) -> Option<Fault> {
     let expected = header.image_bytes();
     if edition != 1 {
         Some(Fault::Edition { edition })
-    } else if !(1..=64).contains(&rules) {
+    } else if !(1..=MOST_RULES).contains(&rules) {
         Some(Fault::Rules { rules })
-    } else if !(1..=1_024).contains(&nodes) {
+    } else if !(1..=MOST_NODES).contains(&nodes) {
         Some(Fault::Nodes { nodes })
     } else if start >= rules {
         Some(Fault::Start { start, rules })
@@ -133,10 +136,16 @@ fn of_header(header: &Header, bytes: usize) -> Option<Fault> {
     }
 }
 
+const ZERO_BITS: &str = "its zero bits are not 0";
+
 fn unlawful_word(header: &Header, words: &Words) -> Option<Fault> {
     let unlawful = |&word: &u16| usize::from(word) >= header.nodes;
     if let Some(rule) = words.rules.iter().position(unlawful) {
-        return Some(Fault::RuleWord { rule });
+        let why = match words.rules[rule] >> 12 {
+            0 => "it names no node",
+            _ => ZERO_BITS,
+        };
+        return Some(Fault::RuleWord { rule, why });
     }
     let mut nodes = words.nodes.iter().enumerate();
     nodes.find_map(|(node, word)| {
@@ -153,7 +162,7 @@ fn why_unlawful(header: &Header, node: usize, word: &NodeWord) -> Option<&'stati
     };
     let mut children = word.children();
     match word.kind {
-        _ if word.zero != 0 => Some("its zero bits are not 0"),
+        _ if word.zero != 0 => Some(ZERO_BITS),
         8.. => Some("its kind is above 7"),
         _ if unused => Some("a field that its kind does not use is not 0"),
         2 if word.a > word.b => Some("its range ends below its beginning"),
@@ -228,7 +237,9 @@ impl fmt::Display for Fault {
                 "the image has {}, and its header asks for {expected}",
                 counted(*bytes, "byte")
             ),
-            Fault::RuleWord { rule } => write!(out, "the word of rule {rule} names no node"),
+            Fault::RuleWord { rule, why } => {
+                write!(out, "the word of rule {rule} is not lawful: {why}")
+            }
             Fault::NodeWord { node, why } => {
                 write!(out, "the word of node {node} is not lawful: {why}")
             }
@@ -237,10 +248,7 @@ impl fmt::Display for Fault {
                 "node {node} is {} a root or a child and not once",
                 counted(*times, "time")
             ),
-            Fault::StarBody { rule, .. } => write!(
-                out,
-                "rule {rule} repeats something that can match without consuming"
-            ),
+            Fault::StarBody { rule, .. } => out.write_str(&star_in_words(&format!("rule {rule}"))),
             Fault::Ring { rules } => {
                 let names: Vec<String> = rules.iter().map(|rule| format!("rule {rule}")).collect();
                 out.write_str(&ring_in_words(&names))
@@ -249,14 +257,19 @@ impl fmt::Display for Fault {
     }
 }
 
+/// A star that can match nothing long, by the name of its rule.
+pub(crate) fn star_in_words(rule: &str) -> String {
+    format!("{rule} repeats something that can match without consuming")
+}
+
 /// A ring in words, by the names of its rules.
 pub(crate) fn ring_in_words(names: &[String]) -> String {
     match names {
-        [] => "a rule is called from itself without consuming".to_string(),
+        [] => ring_in_words(&["a rule".to_string()]),
         [alone] => format!("{alone} is called from itself without consuming"),
-        [first, others @ ..] => format!(
-            "{first} is called from itself without consuming, through {}",
-            others.join(" and ")
-        ),
+        [first, others @ ..] => {
+            let first = ring_in_words(std::slice::from_ref(first));
+            format!("{first}, through {}", others.join(" and "))
+        }
     }
 }

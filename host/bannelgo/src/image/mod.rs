@@ -5,8 +5,8 @@ mod outcomes;
 mod ring;
 mod words;
 
-pub(crate) use fault::ring_in_words;
 pub use fault::Fault;
+pub(crate) use fault::{ring_in_words, star_in_words};
 pub(crate) use words::Header;
 
 use crate::raw;

@@ -1,10 +1,10 @@
 //! The calls that made a match: as a list of rows, and as a tree.
 
-mod node;
+mod call;
 mod shown;
 mod tree;
 
-pub use node::{Children, Node};
+pub use call::{Call, Children};
 pub use shown::DownTo;
 pub use tree::Tree;
 

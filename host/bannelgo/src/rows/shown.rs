@@ -1,6 +1,6 @@
 //! A tree in print.
 
-use super::{Node, Tree};
+use super::{Call, Tree};
 use std::fmt;
 
 /// Of a longer text only so many characters are printed.
@@ -14,7 +14,7 @@ pub struct DownTo<'t> {
 }
 
 /// The rule's name, the bytes, and the beginning of the text that it matched.
-impl fmt::Display for Node<'_> {
+impl fmt::Display for Call<'_> {
     fn fmt(&self, out: &mut fmt::Formatter<'_>) -> fmt::Result {
         let (name, range) = (self.name(), self.range());
         let mut shown = characters(self.text());
@@ -42,11 +42,11 @@ impl fmt::Display for DownTo<'_> {
         if tree.is_empty() {
             return writeln!(out, "no match; read as far as {}", tree.reached());
         }
-        let shown = |node: &Node<'_>| node.depth() <= self.depth;
-        for node in tree.nodes().filter(shown) {
-            writeln!(out, "{}{node}", "  ".repeat(node.depth()))?;
+        let shown = |call: &Call<'_>| call.depth() <= self.depth;
+        for call in tree.calls().filter(shown) {
+            writeln!(out, "{}{call}", "  ".repeat(call.depth()))?;
         }
-        let deeper = tree.nodes().filter(|node| !shown(node)).count();
+        let deeper = tree.calls().filter(|call| !shown(call)).count();
         if deeper > 0 {
             writeln!(out, "and {deeper} deeper")?;
         }

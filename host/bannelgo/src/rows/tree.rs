@@ -1,6 +1,6 @@
 //! The rows of a listing as a tree.
 
-use super::{DownTo, Node, Row};
+use super::{Call, DownTo, Row};
 use crate::grammar::Grammar;
 use crate::place::Place;
 use crate::reading::SheetReading;
@@ -75,8 +75,8 @@ impl Tree {
     }
 
     /// The call of the start rule; nothing where the text did not match.
-    pub fn root(&self) -> Option<Node<'_>> {
-        self.node(0)
+    pub fn root(&self) -> Option<Call<'_>> {
+        self.call(0)
     }
 
     /// All calls: parents first, left to right.
@@ -88,12 +88,12 @@ impl Tree {
     /// #     .rule("Digit", range(b'0', b'9'))
     /// #     .build()?;
     /// let tree = bannelgo::Sheet::open(&grammar, "12", 8)?.tree()?;
-    /// let digits = tree.nodes().filter(|node| node.name() == "Digit");
+    /// let digits = tree.calls().filter(|call| call.name() == "Digit");
     /// assert_eq!(digits.count(), 2);
     /// # Ok::<(), Box<dyn std::error::Error>>(())
     /// ```
-    pub fn nodes(&self) -> impl Iterator<Item = Node<'_>> {
-        (0..self.rows.len()).filter_map(|place| self.node(place))
+    pub fn calls(&self) -> impl Iterator<Item = Call<'_>> {
+        (0..self.rows.len()).filter_map(|place| self.call(place))
     }
 
     /// The number of calls.
@@ -148,8 +148,8 @@ impl Tree {
     /// assert_eq!(digit.parent().map(|number| number.name()), Some("Number"));
     /// # Ok::<(), Box<dyn std::error::Error>>(())
     /// ```
-    pub fn at(&self, position: usize) -> Option<Node<'_>> {
-        let covers = |node: &Node<'_>| node.range().contains(&position);
+    pub fn at(&self, position: usize) -> Option<Call<'_>> {
+        let covers = |call: &Call<'_>| call.range().contains(&position);
         let mut found = self.root().filter(covers)?;
         while let Some(inner) = found.children().find(covers) {
             found = inner;
@@ -173,8 +173,8 @@ impl Tree {
         DownTo { tree: self, depth }
     }
 
-    pub(super) fn node(&self, place: usize) -> Option<Node<'_>> {
-        (place < self.rows.len()).then_some(Node { tree: self, place })
+    pub(super) fn call(&self, place: usize) -> Option<Call<'_>> {
+        (place < self.rows.len()).then_some(Call { tree: self, place })
     }
 }
 

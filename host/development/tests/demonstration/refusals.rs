@@ -8,7 +8,7 @@ use bannelgo_development::gap_text::PLANNERS_SHEET;
 fn the_refusals_have_number_and_words() {
     let length = PLANNERS_SHEET.len();
     let expected = [
-        Refusal::Loan(LoanFault::Text { length, cap: 100 }),
+        Refusal::Loan(LoanFault::Text { length, most: 100 }),
         Refusal::EditRange {
             start: length,
             end: length + 1,

@@ -43,13 +43,58 @@ fn is_so(image: &[u8], number: u64, fault: &Fault) -> bool {
             let asked = 4 + 2 * rules_now() + 4 * nodes_now();
             (*bytes, *expected) == (image.len(), asked) && bytes != expected
         }
-        (4, Fault::RuleWord { rule }) => unlawful_word(image) == Some(Word::Rule(*rule)),
-        (4, Fault::NodeWord { node, .. }) => unlawful_word(image) == Some(Word::Node(*node)),
+        (4, Fault::RuleWord { rule, why }) => {
+            let word = field(32 + 16 * rule, 4);
+            let why_so = if word == 0 {
+                "it names no node"
+            } else {
+                ZERO_BITS
+            };
+            unlawful_word(image) == Some(Word::Rule(*rule)) && *why == why_so
+        }
+        (4, Fault::NodeWord { node, why }) => {
+            let word = 32 + 16 * rules_now() + 32 * node;
+            let [kind, zero] = [0, 4].map(|first| field(word + first, 4));
+            let [a, b] = [8, 20].map(|first| field(word + first, 12));
+            let counts = (rules_now(), nodes_now());
+            unlawful_word(image) == Some(Word::Node(*node))
+                && node_is_so(why, (kind, zero, a, b), *node, counts)
+        }
         (5, Fault::Occurrences { node, times }) => {
             occurrences(image, *node) == Some(*times) && *times != 1
         }
         (6, Fault::StarBody { rule, node }) => star_over_nothing(image, *rule, *node) == Some(true),
         (7, Fault::Ring { rules }) => shortest_ring(image, rules),
+        _ => false,
+    }
+}
+
+const ZERO_BITS: &str = "its zero bits are not 0";
+
+/// Whether this is wrong with a node's word, by its fields.
+fn node_is_so(
+    why: &str,
+    (kind, zero, a, b): (usize, usize, usize, usize),
+    node: usize,
+    (rules, nodes): (usize, usize),
+) -> bool {
+    let no_child = |field: usize| field <= node || field >= nodes;
+    match why {
+        ZERO_BITS => zero != 0,
+        "its kind is above 7" => kind > 7,
+        "a field that its kind does not use is not 0" => match kind {
+            0 | 1 => a != 0 || b != 0,
+            5..=7 => b != 0,
+            _ => false,
+        },
+        "its range ends below its beginning" => kind == 2 && a > b,
+        "its range ends above 255" => kind == 2 && b > 255,
+        "it calls a rule that is not there" => kind == 7 && a >= rules,
+        "a child's number is not above its own, or names no node" => match kind {
+            3 | 4 => no_child(a) || no_child(b),
+            5 | 6 => no_child(a),
+            _ => false,
+        },
         _ => false,
     }
 }

@@ -21,7 +21,7 @@ impl Compared {
         }
     }
 
-    /// The last line of all.
+    /// How many answers were compared, in a line.
     pub fn show(&self, out: &mut impl Write) -> Shown {
         let answers = grouped(self.answers);
         write!(

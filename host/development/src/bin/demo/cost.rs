@@ -22,11 +22,7 @@ pub struct Cost {
 }
 
 impl Cost {
-    pub fn of(
-        grammar: &Grammar,
-        steps: &[&Step],
-        compared: &mut Compared,
-    ) -> Result<Cost, Refusal> {
+    pub fn of(grammar: &Grammar, steps: &[Step], compared: &mut Compared) -> Result<Cost, Refusal> {
         let text = steps.last().map_or(&[][..], |step| &step.text);
         let firsts = (0..FIRST_READINGS).map(|_| FirstReading::of(grammar, text));
         let firsts: Vec<FirstReading> = firsts.collect::<Result<_, _>>()?;

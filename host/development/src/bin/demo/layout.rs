@@ -1,5 +1,6 @@
 //! How headings, lines of a text and numbers are written.
 
+use bannelgo_development::figures;
 use std::io::{self, Write};
 
 const WIDTH: usize = 80;
@@ -20,23 +21,14 @@ pub fn mark_under(column: usize) -> String {
     format!("      {:>column$}", "^")
 }
 
-/// A number with a comma between thousands.
+/// A number with a comma before every three digits.
 pub fn grouped(number: usize) -> String {
-    match number {
-        0..=999 => number.to_string(),
-        _ => format!("{},{:03}", grouped(number / 1_000), number % 1_000),
-    }
+    figures::grouped(number as u64)
 }
 
 #[cfg(test)]
 mod tests {
-    use super::{grouped, mark_under, numbered};
-
-    #[test]
-    fn thousands_are_grouped() {
-        let texts = [0, 999, 1_000, 65_535, 1_234_567].map(grouped);
-        assert_eq!(texts, ["0", "999", "1,000", "65,535", "1,234,567"]);
-    }
+    use super::{mark_under, numbered};
 
     #[test]
     fn a_mark_stands_under_its_column() {

@@ -49,8 +49,9 @@ fn show(out: &mut impl Write, compared: &mut Compared) -> Shown {
     let line = keys::typed_line(compared)?;
     keys::show(out, &line)?;
     stopped::show(out, &line)?;
-    summary::show(out, &line, compared)?;
+    summary::show(out, compared)?;
     refusals::show(out, compared)?;
     images::show(out, compared)?;
-    compared.show(out)
+    compared.show(out)?;
+    summary::show_in_words(out, &line)
 }

@@ -39,14 +39,14 @@ pub fn show(out: &mut impl Write, compared: &mut Compared) -> Shown {
 fn listed(tree: &Tree) -> Result<Answer, u64> {
     Ok(Answer::Listing(Listing {
         read: tree.reading(),
-        rows: tree.nodes().map(|node| node.row()).collect(),
+        rows: tree.calls().map(|call| call.row()).collect(),
     }))
 }
 
 fn show_entry(out: &mut impl Write, tree: &Tree) -> Shown {
-    let mut nodes = tree.nodes();
-    let shown = nodes
-        .find(|node| node.name() == "Entry" && node.text().starts_with(SHOWN_ENTRY.as_bytes()));
+    let mut calls = tree.calls();
+    let shown = calls
+        .find(|call| call.name() == "Entry" && call.text().starts_with(SHOWN_ENTRY.as_bytes()));
     if let Some(entry) = shown {
         writeln!(out, "\nOne entry with the calls made in it:\n\n{entry}")?;
         for child in entry.children() {

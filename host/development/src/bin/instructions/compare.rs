@@ -2,7 +2,8 @@
 
 use crate::callgrind::Count;
 use crate::calls::Counted;
-use crate::file::{self, grouped, Row};
+use crate::file::{self, Row};
+use bannelgo_development::figures::grouped;
 use std::process::ExitCode;
 
 /// A count may be so much above the file's, in hundredths of it.

@@ -2,6 +2,7 @@
 
 use crate::callgrind::{count, Count};
 use crate::calls::Counted;
+use bannelgo_development::figures::grouped;
 
 pub const NAME: &str = "docs/INSTRUCTIONS.md";
 
@@ -66,19 +67,6 @@ pub fn rows() -> Result<Vec<Row>, String> {
 pub fn write(rows: &[Row]) -> Result<(), String> {
     let lines: String = rows.iter().map(Row::line).collect();
     std::fs::write(PATH, format!("{HEAD}{lines}")).map_err(|error| format!("{NAME}: {error}"))
-}
-
-/// A number with a comma before every three digits.
-pub fn grouped(number: u64) -> String {
-    let digits = number.to_string();
-    let mut text = String::new();
-    for (index, digit) in digits.chars().enumerate() {
-        if index > 0 && (digits.len() - index).is_multiple_of(3) {
-            text.push(',');
-        }
-        text.push(digit);
-    }
-    text
 }
 
 #[test]

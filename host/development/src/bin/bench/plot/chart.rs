@@ -2,6 +2,7 @@
 
 use super::axis::Axis;
 use super::svg::{Picture, END, MIDDLE, START};
+use bannelgo_development::figures::grouped;
 
 pub struct Chart {
     pub title: &'static str,
@@ -77,21 +78,13 @@ impl Series {
 /// A line with its value at every step of both axes.
 fn draw_axes(picture: &mut Picture, x: &Axis, y: &Axis) {
     for value in x.steps() {
-        let (at, name) = (x.place(value), with_commas(value as usize));
+        let (at, name) = (x.place(value), grouped(value as u64));
         picture.grid_line((at, TOP), (at, BOTTOM));
         picture.write("value", (at, BOTTOM + 20.0), MIDDLE, name);
     }
     for value in y.steps() {
-        let (at, name) = (y.place(value), with_commas(value as usize));
+        let (at, name) = (y.place(value), grouped(value as u64));
         picture.grid_line((LEFT, at), (RIGHT, at));
         picture.write("value", (LEFT - 10.0, at + 4.5), END, name);
-    }
-}
-
-/// A whole number below a million with a comma before its last three digits.
-fn with_commas(number: usize) -> String {
-    match number {
-        0..=999 => number.to_string(),
-        _ => format!("{},{:03}", number / 1_000, number % 1_000),
     }
 }

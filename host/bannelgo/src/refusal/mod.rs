@@ -1,8 +1,11 @@
 //! Why a call has no answer.
 
+mod words;
+
+pub(crate) use words::counted;
+
 use crate::image::Fault;
 use crate::raw::Unanswered;
-use std::fmt;
 
 /// Why a call has no answer. Each has a number, which the C header and the README list too.
 ///
@@ -92,12 +95,12 @@ pub enum LoanFault {
         /// The room in bytes.
         cap: usize,
     },
-    /// The text is longer than its room.
+    /// The text is longer than its room, or than the 65,535 bytes of a plain reading.
     Text {
         /// The text's length.
         length: usize,
-        /// The room for it.
-        cap: usize,
+        /// The most that it could have.
+        most: usize,
     },
     /// The table has fewer words than rules × (cap + 1).
     Table {
@@ -133,102 +136,3 @@ impl Refusal {
 }
 
 impl std::error::Error for Refusal {}
-
-impl fmt::Display for Refusal {
-    fn fmt(&self, out: &mut fmt::Formatter<'_>) -> fmt::Result {
-        match self {
-            Refusal::Image {
-                fault: Some(fault), ..
-            } => write!(out, "{fault}"),
-            Refusal::Image { number, .. } => out.write_str(image_in_words(*number)),
-            Refusal::Loan(fault) => write!(out, "{fault}"),
-            Refusal::EditRange { start, end, length } if end < start => write!(
-                out,
-                "the edit ends at byte {end}, before its start at byte {start} (the text has {length})"
-            ),
-            Refusal::EditRange { start, end, length } => write!(
-                out,
-                "the edit of bytes {start} to {end} ends behind the text, which has {}",
-                counted(*length, "byte")
-            ),
-            Refusal::EditRoom {
-                removed,
-                inserted,
-                length,
-                cap,
-            } => {
-                let after = length.saturating_sub(*removed).saturating_add(*inserted);
-                let bytes = counted(after, "byte");
-                write!(out, "the text would have {bytes}, and there is room for {cap}")
-            }
-            Refusal::Pair { rule, rules, .. } if rule >= rules => {
-                let rules = counted(*rules, "rule");
-                write!(out, "there is no rule {rule}: the grammar has {rules}")
-            }
-            Refusal::Pair {
-                position, length, ..
-            } => write!(
-                out,
-                "there is no position {position}: the text has {}",
-                counted(*length, "byte")
-            ),
-            Refusal::Records => {
-                out.write_str("the lent table held a word that no reading of this text leaves there")
-            }
-            Refusal::Nesting => {
-                out.write_str("the text nests too deep: more than 4,096 evaluations inside each other")
-            }
-            Refusal::Rows { slots } => {
-                write!(out, "the match has more than {}", counted(*slots, "row"))
-            },
-            Refusal::Unknown(words) => write!(
-                out,
-                "the linked library is not the proved one: it answered {words:x?}"
-            ),
-        }
-    }
-}
-
-/// A number of things in words.
-pub(crate) fn counted(number: usize, thing: &str) -> String {
-    match number {
-        1 => format!("1 {thing}"),
-        _ => format!("{number} {thing}s"),
-    }
-}
-
-/// What an image with this number is, where nothing nearer is known.
-fn image_in_words(number: u8) -> &'static str {
-    match number {
-        1 => "the image is not of edition 1",
-        2 => "the image's counts are out of their limits",
-        3 => "the image's length is not the one that its header asks for",
-        4 => "a word of the image is not lawful",
-        5 => "a node of the image is not just once a root or a child",
-        6 => "a rule repeats something that can match without consuming",
-        _ => "a rule is called from itself without consuming",
-    }
-}
-
-impl fmt::Display for LoanFault {
-    fn fmt(&self, out: &mut fmt::Formatter<'_>) -> fmt::Result {
-        match self {
-            LoanFault::Cap { cap } => write!(
-                out,
-                "there is room for {} of text, and at most 65,535 are allowed",
-                counted(*cap, "byte")
-            ),
-            LoanFault::Text { length, cap } => {
-                write!(
-                    out,
-                    "the text has {}, and there is room for {cap}",
-                    counted(*length, "byte")
-                )
-            }
-            LoanFault::Table { words, needed } => {
-                let words = counted(*words, "word");
-                write!(out, "the table has {words}, and {needed} are needed")
-            }
-        }
-    }
-}

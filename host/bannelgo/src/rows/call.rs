@@ -8,13 +8,13 @@ use std::ops::Range;
 ///
 /// ```
 /// use bannelgo::grammar::{call, literal, plus, range, sequence, star, Grammar};
-/// use bannelgo::{Node, Sheet};
+/// use bannelgo::{Call, Sheet};
 ///
 /// /// The value of a call of Sum or Number; nothing where a number is too great.
-/// fn value(node: Node<'_>) -> Option<u64> {
-///     match node.name() {
-///         "Sum" => node.children().map(value).sum(),
-///         _ => std::str::from_utf8(node.text()).ok()?.parse().ok(),
+/// fn value(call: Call<'_>) -> Option<u64> {
+///     match call.name() {
+///         "Sum" => call.children().map(value).sum(),
+///         _ => std::str::from_utf8(call.text()).ok()?.parse().ok(),
 ///     }
 /// }
 ///
@@ -28,12 +28,12 @@ use std::ops::Range;
 /// # Ok::<(), Box<dyn std::error::Error>>(())
 /// ```
 #[derive(Clone, Copy)]
-pub struct Node<'t> {
+pub struct Call<'t> {
     pub(super) tree: &'t Tree,
     pub(super) place: usize,
 }
 
-impl<'t> Node<'t> {
+impl<'t> Call<'t> {
     /// Rule, depth, start and length.
     pub fn row(&self) -> Row {
         self.tree.rows[self.place]
@@ -65,9 +65,9 @@ impl<'t> Node<'t> {
     }
 
     /// The call that it was made in; nothing for the start rule's.
-    pub fn parent(&self) -> Option<Node<'t>> {
+    pub fn parent(&self) -> Option<Call<'t>> {
         let parent = self.tree.links[self.place].parent?;
-        self.tree.node(parent)
+        self.tree.call(parent)
     }
 
     /// The calls that were made in it, left to right.
@@ -80,7 +80,7 @@ impl<'t> Node<'t> {
     }
 }
 
-/// The calls made in a call, left to right: what [`Node::children`] gives.
+/// The calls made in a call, left to right: what [`Call::children`] gives.
 #[derive(Clone)]
 pub struct Children<'t> {
     tree: &'t Tree,
@@ -89,21 +89,30 @@ pub struct Children<'t> {
 }
 
 impl<'t> Iterator for Children<'t> {
-    type Item = Node<'t>;
+    type Item = Call<'t>;
 
-    fn next(&mut self) -> Option<Node<'t>> {
+    fn next(&mut self) -> Option<Call<'t>> {
         let place = self.next;
         if place >= self.behind {
             return None;
         }
         self.next = self.tree.links[place].behind;
-        self.tree.node(place)
+        self.tree.call(place)
     }
 }
 
-impl fmt::Debug for Node<'_> {
+/// The same call of the same tree.
+impl PartialEq for Call<'_> {
+    fn eq(&self, other: &Self) -> bool {
+        std::ptr::eq(self.tree, other.tree) && self.place == other.place
+    }
+}
+
+impl Eq for Call<'_> {}
+
+impl fmt::Debug for Call<'_> {
     fn fmt(&self, out: &mut fmt::Formatter<'_>) -> fmt::Result {
-        write!(out, "Node({self})")
+        write!(out, "Call({self})")
     }
 }
 
