@@ -7,9 +7,10 @@ use std::path::{Path, PathBuf};
 fn main() {
     let package = std::env::var("CARGO_MANIFEST_DIR").expect("cargo sets CARGO_MANIFEST_DIR");
     let package = Path::new(&package);
-    let folder: PathBuf = match std::env::var("BANNELGO_LIB") {
-        Ok(named) => package.join(named),
-        Err(_) => package.join("../../target/staticlib"),
+    let named = std::env::var("BANNELGO_LIB").ok().filter(|name| !name.is_empty());
+    let folder: PathBuf = match &named {
+        Some(named) => package.join(named),
+        None => package.join("../../target/staticlib"),
     };
     let library = folder.join("libbannelgo.a");
 
@@ -17,7 +18,10 @@ fn main() {
     println!("cargo:rerun-if-changed={}", library.display());
     if !library.is_file() {
         eprintln!("{} is missing", library.display());
-        eprintln!("build it with: rt staticlib bannelgo");
+        match named {
+            Some(_) => eprintln!("BANNELGO_LIB names its folder"),
+            None => eprintln!("build it at the root of the repository: rt staticlib bannelgo"),
+        }
         std::process::exit(1);
     }
     println!("cargo:rustc-link-search=native={}", folder.display());

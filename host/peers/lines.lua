@@ -1,4 +1,4 @@
--- The grammar of lines in one star for LPeg: sheet_of_lines of host/development/src/sheet.rs, rule for rule. Each rule is an entry of the
+-- The grammar of lines in one star for LPeg: named_sheet_of_lines of host/development/src/gap_sheet.rs, rule for rule. Each rule is an entry of the
 -- table and is called by its name; there are no captures.
 local lpeg = require "lpeg"
 local P, R, V = lpeg.P, lpeg.R, lpeg.V
