@@ -7,7 +7,9 @@ use std::path::{Path, PathBuf};
 fn main() {
     let package = std::env::var("CARGO_MANIFEST_DIR").expect("cargo sets CARGO_MANIFEST_DIR");
     let package = Path::new(&package);
-    let named = std::env::var("BANNELGO_LIB").ok().filter(|name| !name.is_empty());
+    let named = std::env::var("BANNELGO_LIB")
+        .ok()
+        .filter(|name| !name.is_empty());
     let folder: PathBuf = match &named {
         Some(named) => package.join(named),
         None => package.join("../../target/staticlib"),
