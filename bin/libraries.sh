@@ -1,5 +1,5 @@
-# Sourced at the root of the repository: builds the proved library where it is missing, and says on standard error how far that is. Where
-# BANNELGO_LIB is set, host/bannelgo/build.rs links the library of that folder and none is built.
+# Sourced at the root of the repository: builds the proved library where it is missing or older than a source, and says on standard error how
+# far that is. Where BANNELGO_LIB is set, host/bannelgo/build.rs links the library of that folder and none is built.
 
 # How many crates the library is made of. In crates.txt a crate stands below those that it uses.
 library_crates() {
@@ -30,16 +30,25 @@ prove_library() {
     rt staticlib bannelgo >>"$log" 2>&1
 }
 
-if [[ -z "${BANNELGO_LIB:-}" && ! -f target/staticlib/libbannelgo.a ]]; then
+archive=target/staticlib/libbannelgo.a
+
+# Whether there is no archive, or a source of a crate is newer.
+is_missing_or_old() {
+    [[ ! -f $archive || -n $(find crates.txt crates -type f -newer "$archive" -not -path '*/must-fail/*' -print -quit) ]]
+}
+
+if [[ -z "${BANNELGO_LIB:-}" ]] && is_missing_or_old; then
     if ! command -v rt >/dev/null; then
         echo "rt is not on the PATH: the Rattle kit proves and builds the library" >&2
         exit 1
     fi
     mkdir -p target
-    echo "proving and building target/staticlib/libbannelgo.a; the log is target/staticlib.log" >&2
+    echo "proving and building $archive; the log is target/staticlib.log" >&2
     if ! prove_library target/staticlib.log >&2; then
         echo "the library was not built; target/staticlib.log ends with:" >&2
         tail -n 12 target/staticlib.log | cut -c 1-300 >&2
         exit 1
     fi
+    # rt leaves an archive as it is where nothing in it changed.
+    touch "$archive"
 fi

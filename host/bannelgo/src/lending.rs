@@ -15,7 +15,7 @@
 //! let mut table = vec![0; lending::table_words(image, buffer.len())];
 //! let n = lending::open(image, b"7", &mut buffer, &mut table)?;
 //! let read = lending::read(image, &buffer, n, &mut table)?;
-//! assert!(read.reading.is_whole());
+//! assert!(read.is_whole());
 //!
 //! let mut short = vec![0; 3];
 //! let refusal = lending::open(image, b"7", &mut buffer, &mut short).unwrap_err();
@@ -184,7 +184,7 @@ pub fn look_up(
 /// let n = lending::open(image, b"12", &mut buffer, &mut table)?;
 /// let mut slots = [0; 10];
 /// let (read, rows) = lending::list(image, &buffer, n, &mut table, &mut slots)?;
-/// assert!(read.reading.is_whole());
+/// assert!(read.is_whole());
 /// assert_eq!(rows, 3);
 /// assert_eq!(Row::from_word(slots[2]).range(), 1..2);
 /// # Ok::<(), Box<dyn std::error::Error>>(())

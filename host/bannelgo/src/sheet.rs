@@ -122,7 +122,7 @@ impl Sheet {
     /// let mut sheet = bannelgo::Sheet::open(&grammar, "12a", 8)?;
     /// let read = sheet.read()?;
     /// assert_eq!(read.to_string(), "part, length 2, examined 3, nesting 4, evaluations 4");
-    /// assert_eq!(read.reading.reached(sheet.text()).to_string(), "line 1, column 3");
+    /// assert_eq!(read.reached(sheet.text()).to_string(), "line 1, column 3");
     /// assert_eq!(sheet.read()?.evaluations, 0); // nothing was changed
     /// # Ok::<(), Box<dyn std::error::Error>>(())
     /// ```
