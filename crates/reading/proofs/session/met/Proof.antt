@@ -1,6 +1,5 @@
-use mathlib.Core.Path.{_≡_, sym, ap, _∙_}
+use mathlib.Core.Path.{sym, ap, _∙_}
 use mathlib.Core.Bool.{Bool, cond}
-use Prim.Native.Nat.{ℕ}
 use Rattle.records.specs.Words.{possible, recordOf, recordWord}
 use Rattle.packrat.proofs.Rules.{was-possible, was-impossible}
 use borrow.Author.Needs.{needs}

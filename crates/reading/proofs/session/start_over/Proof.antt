@@ -1,8 +1,5 @@
 use native.Mathlib.Omega.{arith}
-use mathlib.Core.Path.{_≡_, sym, _∙_}
-use lib.ListN.{getD}
-use Rattle.grammar.specs.Image.{rules, start}
-use Rattle.records.specs.Slots.{slotOf}
+use mathlib.Core.Path.{sym, _∙_}
 use Rattle.packrat.proofs.Start.{start-met, start-refused, start-stored}
 use borrow.Author.Needs.{needs}
 use Rattle.reading.proofs.session.start_over.Statement.{statement}
