@@ -1,5 +1,6 @@
--- The lemmas of the plain reading.
+-- The lemmas of the readings.
 pub mod Outcomes
 pub mod PlainReading
 pub mod Coding
 pub mod Consuming
+pub mod StartPair

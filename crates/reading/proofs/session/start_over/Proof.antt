@@ -1,6 +1,6 @@
-use native.Mathlib.Omega.{arith}
 use mathlib.Core.Path.{sym, _∙_}
 use Rattle.packrat.proofs.Start.{start-met, start-refused, start-stored}
+use Rattle.reading.proofs.StartPair.{start-fits}
 use borrow.Author.Needs.{needs}
 use Rattle.reading.proofs.session.start_over.Statement.{statement}
 use Rattle.reading.proofs.session.start_over.Tie as tie
@@ -12,12 +12,8 @@ look-requires : tie.Need-look-requires
 look-requires c κs =
     let after-header-of : tie.After-header-of = search in
     let start-place : tie.Start = search in
-    let counts = start-place .pre .0 .lawful .counts in
-    let header = after-header-of .header-of .ensures in (
-      omega (arith, header .its-rules, counts .few-rules),
-      omega (arith, header .its-start, counts .start-rule, counts .few-rules),
-      omega arith,
-    )
+    let header = after-header-of .header-of .ensures in
+    rw (header .its-rules, header .its-start) (start-fits (start-place .args .image .now) (start-place .pre .0))
 
 is-held-requires : tie.Need-is-held-requires
 is-held-requires c κs = search needs
@@ -69,12 +65,8 @@ put-requires : tie.Need-put-requires
 put-requires c κs =
     let after-header-of : tie.After-header-of = search in
     let start-place : tie.Start = search in
-    let counts = start-place .pre .0 .lawful .counts in
-    let header = after-header-of .header-of .ensures in (
-      omega (arith, header .its-rules, counts .few-rules),
-      omega (arith, header .its-start, counts .start-rule, counts .few-rules),
-      omega arith,
-    )
+    let header = after-header-of .header-of .ensures in
+    rw (header .its-rules, header .its-start) (start-fits (start-place .args .image .now) (start-place .pre .0))
 
 wrapping-add-u64-requires : tie.Need-wrapping-add-u64-requires
 wrapping-add-u64-requires c κs = search needs

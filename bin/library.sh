@@ -49,6 +49,4 @@ if [[ -z "${BANNELGO_LIB:-}" ]] && is_missing_or_old; then
         tail -n 12 target/staticlib.log | cut -c 1-300 >&2
         exit 1
     fi
-    # rt leaves an archive as it is where nothing in it changed.
-    touch "$archive"
 fi
