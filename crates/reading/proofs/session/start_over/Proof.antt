@@ -1,3 +1,4 @@
+use native.Mathlib.Omega.{arith}
 use mathlib.Core.Path.{sym, _∙_}
 use Rattle.packrat.proofs.Start.{start-met, start-refused, start-stored}
 use Rattle.reading.proofs.StartPair.{start-fits}
@@ -13,7 +14,8 @@ look-requires c κs =
     let after-header-of : tie.After-header-of = search in
     let start-place : tie.Start = search in
     let header = after-header-of .header-of .ensures in
-    rw (header .its-rules, header .its-start) (start-fits (start-place .args .image .now) (start-place .pre .0))
+    let fits = start-fits (start-place .args .image .now) (start-place .pre .0) in
+    (rw (header .its-rules) (fits .0), rw (header .its-start) (fits .1), omega arith)
 
 is-held-requires : tie.Need-is-held-requires
 is-held-requires c κs = search needs
@@ -66,7 +68,8 @@ put-requires c κs =
     let after-header-of : tie.After-header-of = search in
     let start-place : tie.Start = search in
     let header = after-header-of .header-of .ensures in
-    rw (header .its-rules, header .its-start) (start-fits (start-place .args .image .now) (start-place .pre .0))
+    let fits = start-fits (start-place .args .image .now) (start-place .pre .0) in
+    (rw (header .its-rules) (fits .0), rw (header .its-start) (fits .1), omega arith)
 
 wrapping-add-u64-requires : tie.Need-wrapping-add-u64-requires
 wrapping-add-u64-requires c κs = search needs
