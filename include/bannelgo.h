@@ -41,10 +41,10 @@ enum bannelgo_number {
     BANNELGO_EDIT_RANGE = 9,   /* Edit: s <= e <= n? */
     BANNELGO_EDIT_ROOM = 10,   /* Edit: n' <= cap? */
     BANNELGO_PAIR = 11,        /* Look-up: rule below rules, position <= n? */
-    BANNELGO_RECORDS = 12,     /* Reading: is each record met possible, and no star round of length 0? */
+    BANNELGO_RECORDS = 12,     /* Reading, listing: is each record met possible, and no star round of length 0? */
     BANNELGO_STAR_ROUNDS = 13, /* Plain reading: did every star round consume? Under an accepted image every round does. */
     BANNELGO_NESTING = 14,     /* Is the start pair's nesting at most 4,096? */
-    BANNELGO_ROWS = 15         /* Rows: do the rows fit? */
+    BANNELGO_ROWS = 15         /* Listing: do the rows fit? */
 };
 
 /* How much of the text a reading matched. */

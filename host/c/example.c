@@ -184,6 +184,9 @@ static void refusals(struct sheet *sheet) {
     expect_answer("9: edit (1, 0, empty)", edit(sheet, 1, 0, ""), refused(BANNELGO_EDIT_RANGE));
     expect_answer("9: edit (0, 4, empty)", edit(sheet, 0, 4, ""), refused(BANNELGO_EDIT_RANGE));
     expect_answer("10: edit (3, 3, 6 bytes)", edit(sheet, 3, 3, "456789"), refused(BANNELGO_EDIT_ROOM));
+    expect_answer("10: edit (3, 3, a length that no memory has)",
+                  bannelgo_edit(D2, sizeof D2, sheet->buffer, CAP, sheet->n, sheet->table, TABLE, 3, 3, bytes("4"), SIZE_MAX),
+                  refused(BANNELGO_EDIT_ROOM));
     expect_answer("11: rule 2 of 2 rules", look_up(sheet, 2, 0), refused(BANNELGO_PAIR));
     expect_answer("11: position 4 of 3 bytes", look_up(sheet, 0, 4), refused(BANNELGO_PAIR));
     expect_answer("3: an image without its last byte",
@@ -207,15 +210,52 @@ static void refused_record(struct sheet *sheet) {
 /* The image check and the plain reading. */
 
 static void images(void) {
-    uint8_t image[sizeof D2];
-    memcpy(image, D2, sizeof D2);
+    /* A shortest image that gets each number but 1. */
+    const uint8_t counts[4] = {0x10, 0, 0, 0};
+    const uint8_t size[4] = {0x10, 0x10, 1, 0};
+    const uint8_t word[10] = {0x10, 0x10, 1, 0, 0, 0, 0, 0, 0, 1};
+    const uint8_t twice[12] = {0x10, 0x20, 1};
+    const uint8_t star[14] = {0x10, 0x10, 2, 0, 0, 0, 0x50, 0, 0x10};
+    const uint8_t ring[10] = {0x10, 0x10, 1, 0, 0, 0, 0x70};
     printf("images\n");
     expect("  D2", bannelgo_check_image(D2, sizeof D2), BANNELGO_NONE);
     expect("  no byte", bannelgo_check_image(D2, 0), BANNELGO_EDITION);
-    expect("  one byte missing", bannelgo_check_image(D2, sizeof D2 - 1), BANNELGO_SIZE);
-    image[27] = 0x2F;
-    expect("  0x30 to 0x2F", bannelgo_check_image(image, sizeof image), BANNELGO_WORDS);
+    expect("  no rule", bannelgo_check_image(counts, sizeof counts), BANNELGO_COUNTS);
+    expect("  a header alone", bannelgo_check_image(size, sizeof size), BANNELGO_SIZE);
+    expect("  a field that is not used", bannelgo_check_image(word, sizeof word), BANNELGO_WORDS);
+    expect("  a root of two rules", bannelgo_check_image(twice, sizeof twice), BANNELGO_OCCURRENCES);
+    expect("  a star over empty", bannelgo_check_image(star, sizeof star), BANNELGO_STAR_BODIES);
+    expect("  S = S", bannelgo_check_image(ring, sizeof ring), BANNELGO_WELL_FORMED);
+    expect("  never given", BANNELGO_STAR_ROUNDS, 13);
+}
+
+/* The largest loan by an image of one rule. */
+static void limits(void) {
+    static uint8_t buffer[BANNELGO_MAX_CAP + 1];
+    static uint64_t table[BANNELGO_MAX_CAP + 2];
+    printf("limits\n");
     expect("  words of a table", bannelgo_table_words(D2, CAP), TABLE);
+    for (size_t more = 0; more < 2; more++) {
+        struct bannelgo_answer answer = bannelgo_open(M10, sizeof M10, bytes(""), 0, buffer, BANNELGO_MAX_CAP + more, table,
+                                                      bannelgo_table_words(M10, BANNELGO_MAX_CAP + more));
+        expect("  the largest buffer, and one byte more", answer.number, more == 0 ? BANNELGO_NONE : BANNELGO_LOAN);
+    }
+}
+
+/* The fields of words, each at its largest. */
+static void words(void) {
+    const uint64_t failed = UINT64_C(0x8000200100000000), matched = UINT64_C(0xC00000000000FFFF);
+    printf("words\n");
+    expect("  held", (uint64_t)bannelgo_is_held(failed), 1);
+    expect("  not held", (uint64_t)bannelgo_is_held(~failed), 0);
+    expect("  matched", (uint64_t)bannelgo_is_matched(matched), 1);
+    expect("  not matched", (uint64_t)bannelgo_is_matched(failed), 0);
+    expect("  nesting", bannelgo_nesting(failed), 4096);
+    expect("  examined", bannelgo_examined(failed), 65536);
+    expect("  length", bannelgo_length(matched), 65535);
+    expect("  no nesting", bannelgo_nesting(matched), 0);
+    expect("  no examined", bannelgo_examined(matched), 0);
+    expect("  no length", bannelgo_length(failed), 0);
 }
 
 static void plain_readings(void) {
@@ -244,6 +284,8 @@ int main(void) {
     refusals(&sheet);
     refused_record(&sheet);
     images();
+    limits();
+    words();
     plain_readings();
     printf("%d differences\n", differences);
     return differences == 0 ? 0 : 1;

@@ -29,7 +29,8 @@ pub fn edit(
     if n < e {
         return EditAnswer::Refused(numbers::EDIT_RANGE);
     }
-    if cap < n - (e - s) + k {
+    // n' itself is not computed: it could wrap for a k that no memory has.
+    if cap - (n - (e - s)) < k {
         return EditAnswer::Refused(numbers::EDIT_ROOM);
     }
     let header = image::header_of(image);

@@ -7,6 +7,7 @@ mod programs;
 use package::flags;
 use programs::{gets_the_papers_answers, repository, run, said, scratch, succeed, C, CPP};
 use std::fs;
+use std::os::unix::fs::PermissionsExt;
 use std::path::{Path, PathBuf};
 use std::process::Command;
 
@@ -42,6 +43,10 @@ fn files_below(folder: &Path) -> Vec<PathBuf> {
 fn installed_in(folder: &Path) {
     let expected: Vec<PathBuf> = FILES.iter().map(|file| folder.join(file)).collect();
     assert_eq!(files_below(folder), expected);
+    for file in expected {
+        let mode = fs::metadata(&file).expect("it is there").permissions();
+        assert_eq!(mode.mode() & 0o777, 0o644, "{}", file.display());
+    }
 }
 
 /// The folder is moved before it is used, to a name with a space. The sources are copied, so that nothing of the repository is beside them.
@@ -126,9 +131,12 @@ fn a_relative_folder_is_the_callers() {
 
 #[test]
 fn destdir_is_put_in_front() {
-    let folder = scratch("destdir");
-    succeed(install().arg("/usr/local").env("DESTDIR", &folder));
-    installed_in(&folder.join("usr/local"));
+    let folder = fs::canonicalize(scratch("destdir")).expect("it is there");
+    let (front, prefix) = (folder.join("front"), folder.join("prefix"));
+    succeed(install().arg(&prefix).env("DESTDIR", &front));
+    let below = prefix.strip_prefix("/").expect("an absolute name");
+    installed_in(&front.join(below));
+    assert!(!prefix.exists());
 }
 
 #[test]
@@ -148,6 +156,20 @@ fn it_refuses_what_is_not_one_folder() {
             said(&output)
         );
     }
+    assert_eq!(files_below(&folder), [] as [PathBuf; 0]);
+}
+
+#[test]
+fn a_folder_in_the_way_is_refused() {
+    let folder = scratch("folder_in_the_way");
+    fs::create_dir_all(folder.join("include/bannelgo.h")).expect("it can be made");
+    let output = run(install().arg(&folder));
+    assert_eq!(output.status.code(), Some(2), "{}", said(&output));
+    assert!(
+        said(&output).contains("bannelgo.h is a folder"),
+        "{}",
+        said(&output)
+    );
     assert_eq!(files_below(&folder), [] as [PathBuf; 0]);
 }
 

@@ -35,7 +35,7 @@ fn the_long_sheet_is_true() {
     );
     let times = words.trim().strip_prefix(&begins).expect(&words);
     let times = times
-        .strip_suffix("; a tenth of each took less.")
+        .strip_suffix("; the fastest tenth of each took less.")
         .expect(&words);
     let times: Vec<&str> = times
         .split(" microseconds, and the first reading ")

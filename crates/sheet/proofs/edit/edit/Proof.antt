@@ -56,8 +56,8 @@ returns-3 c =
 sub-if4 : tie.Need-sub-if4
 sub-if4 c = search needs
 
-add-if4 : tie.Need-add-if4
-add-if4 c =
+sub-if4-2 : tie.Need-sub-if4-2
+sub-if4-2 c =
     let else1 : tie.Else1 = search in
     let after-asked : tie.After-asked = search in
     let start : tie.Start = search in
@@ -66,7 +66,7 @@ add-if4 c =
     let n = start .args .n in
     let table = start .args .table .now in
     let good = passed image (length buffer) n (length table) (after-asked .asked .ensures) (else1 .if1 .left) in
-    let q = loan image (length buffer) n (length table) good in omega (arith, q .short, q .text-fits)
+    let fits = loan image (length buffer) n (length table) good .text-fits in omega (arith, fits)
 
 returns-4 : tie.Need-returns-4
 returns-4 c =
@@ -102,7 +102,9 @@ edit-table-requires c κs =
     let n = start .args .n in
     let table = start .args .table .now in
     let good = passed image (length buffer) n (length table) (after-asked .asked .ensures) (else1 .if1 .left) in
-    (table-lent image (length buffer) n (length table) good (after-header-of .header-of .ensures .its-rules) (omega arith) table refl, record { lent = loan image (length buffer) n (length table) good .text-fits; ordered = else2 .if2 .left; within = else3 .if3 .left; room = else4 .if4 .left })
+    let fits = loan image (length buffer) n (length table) good .text-fits in
+    let room = else4 .if4 .left in
+    (table-lent image (length buffer) n (length table) good (after-header-of .header-of .ensures .its-rules) (omega arith) table refl, record { lent = fits; ordered = else2 .if2 .left; within = else3 .if3 .left; room = omega (arith, fits, room) })
 
 edit-text-requires : tie.Need-edit-text-requires
 edit-text-requires c κs =
@@ -120,7 +122,7 @@ edit-text-requires c κs =
     let fits = loan image (length buffer) n (length table) good .text-fits in
     let within = else3 .if3 .left in
     let room = else4 .if4 .left in
-    record { lent = omega (arith, fits, within); ordered = else2 .if2 .left; within = omega (arith, within); room = omega (arith, room) }
+    record { lent = omega (arith, fits, within); ordered = else2 .if2 .left; within = omega (arith, within); room = omega (arith, fits, room) }
 
 same-length : tie.Need-same-length
 same-length c = search needs
@@ -147,8 +149,10 @@ returns-5 c =
     let e = start .args .e in
     let replacement = start .args .replacement .now in
     let good = passed image (length buffer) n (length table) (after-asked .asked .ensures) (else1 .if1 .left) in
+    let fits = loan image (length buffer) n (length table) good .text-fits in
+    let room = else4 .if4 .left in
     record {
-      first = edit-0 image (length buffer) n (length table) good s e (length replacement) (record { ordered = else2 .if2 .left; in-text = else3 .if3 .left }) (record { room = else4 .if4 .left });
+      first = edit-0 image (length buffer) n (length table) good s e (length replacement) (record { ordered = else2 .if2 .left; in-text = else3 .if3 .left }) (record { room = omega (arith, fits, room) });
       values =
           record {
             length-is = after-edit-text .edit-text .ensures .0;
@@ -167,7 +171,7 @@ edit-spec =
     returns-2
     returns-3
     sub-if4
-    add-if4
+    sub-if4-2
     returns-4
     header-of-requires
     edit-table-requires

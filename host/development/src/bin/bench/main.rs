@@ -1,4 +1,4 @@
-//! Times the proved libraries against Rust code written apart from them, in one run.
+//! Times the proved library against Rust code written apart from it, in one run.
 
 mod checks;
 mod keys;

@@ -14,7 +14,8 @@ pub fn show(out: &mut impl Write, compared: &mut Compared) -> Shown {
     writeln!(
         out,
         "The library reads a grammar from bytes, its image, and checks it first. The\n\
-         paper marks five images with the number that the check gives; 0 is accepted.\n"
+         customer's paper has five images, each with the number that the check gives; 0\n\
+         is accepted.\n"
     )?;
     for sample in &SAMPLES {
         show_sample(out, sample, compared)?;

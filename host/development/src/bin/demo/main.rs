@@ -41,8 +41,8 @@ fn show(out: &mut impl Write, compared: &mut Compared) -> Shown {
     writeln!(
         out,
         "Bannelgo reads a text by a grammar. What a rule gave at a position is kept, so\n\
-         that after a key only what the key changed is evaluated. The functions that do\n\
-         this are proved."
+         that after a key only what the key can have changed is evaluated. The functions\n\
+         that do this are proved. docs/WORDS.md explains the words, a ledger among them."
     )?;
     planner::show(out, compared)?;
     rows::show(out, compared)?;

@@ -26,7 +26,8 @@ pub fn show(out: &mut impl Write, compared: &mut Compared) -> Shown {
         out,
         "In a sheet of {} bytes, its lines grouped by day, a key evaluates {} pairs, and a\n\
          first reading {}. On this machine the key, which is an edit and a reading, takes\n\
-         {} microseconds, and the first reading {}; a tenth of each took less.",
+         {} microseconds, and the first reading {}; the fastest tenth of each took\n\
+         less.",
         grouped(cost.bytes),
         grouped(cost.key_pairs),
         grouped(cost.first_pairs),

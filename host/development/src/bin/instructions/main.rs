@@ -1,4 +1,4 @@
-//! Counts the instructions of single calls of the proved libraries, by valgrind's callgrind. They do not hang on the machine's load,
+//! Counts the instructions of single calls of the proved library, by valgrind's callgrind. They do not hang on the machine's load,
 //! and `moved` makes them the same on every machine.
 //!
 //!     instructions              prints the counts beside those of docs/INSTRUCTIONS.md
@@ -24,7 +24,10 @@ fn main() -> ExitCode {
         [] => installed().and_then(|()| compare::with_file(&calls::all())),
         ["write"] => installed().and_then(|()| write(&calls::all())),
         ["call", name] => call(name),
-        _ => Err("instructions [write | call NAME]".to_string()),
+        _ => Err(format!(
+            "there is no part {} of instructions; the only one is write",
+            words.join(" ")
+        )),
     };
     done.unwrap_or_else(|trouble| {
         eprintln!("{trouble}");

@@ -1,6 +1,6 @@
 //! memcpy and memset, for x86-64 as the library is, of one instruction for each byte, which this program has in the place of the C library's.
 //!
-//! They are all that the proved libraries call. The C library chooses its own by the processor, so that their counts differ from one
+//! They are all that the proved library calls. The C library chooses its own by the processor, so that their counts differ from one
 //! machine to the next; these take an instruction for each byte, and no more than six for each call.
 
 std::arch::global_asm!(

@@ -21,7 +21,7 @@ pub fn find() -> Result<Peer, Lack> {
         })
     });
     found.ok_or_else(|| {
-        let line = "LPeg and a Lua interpreter are not installed: apt-get install lua5.4 lua-lpeg";
+        let line = "no Lua interpreter finds LPeg: apt-get install lua5.4 lua-lpeg";
         Lack::NotInstalled(line.to_string())
     })
 }
