@@ -3,7 +3,7 @@
 use bannelgo::grammar::{
     any, byte, call, choice, literal, not, plus, range, sequence, star, Grammar,
 };
-use bannelgo::{Outcome, Reading, Sheet};
+use bannelgo::{Outcome, Reading, Record, Sheet, MOST_BYTES};
 
 /// Line <- Word ("," Word)* "\n"; Word <- '"' (!'"' .)* '"' / [a-z]+.
 fn words() -> Grammar {
@@ -86,4 +86,45 @@ fn an_unclosed_quote_is_read_to_the_end() {
     let read = words().read(text).expect("read");
     assert_eq!(read.outcome, Outcome::Nothing);
     assert_eq!(read.reached(text).to_string(), "line 3, column 1");
+}
+
+/// Each field alone and all at once, at the most that a reading gives.
+#[test]
+fn a_record_has_its_fields_apart() {
+    for (matched, nesting, examined, length) in [
+        (false, 0, 0, 0),
+        (true, 0, 0, 0),
+        (false, 4_096, 0, 0),
+        (false, 0, 65_536, 0),
+        (false, 0, 65_535, 0),
+        (false, 0, 0, 65_535),
+        (true, 4_096, 65_536, 65_535),
+    ] {
+        let fields = nesting << 33 | examined << 16 | length;
+        let word = u64::from(matched) << 62 | fields as u64;
+        let record = Record {
+            matched,
+            length,
+            examined,
+            nesting,
+        };
+        assert_eq!(Record::from_word(1 << 63 | word), Some(record));
+        assert_eq!(Record::from_word(word), None);
+    }
+}
+
+#[test]
+fn the_longest_text_has_its_record() {
+    let grammar = Grammar::builder().rule("All", star(any())).build();
+    let grammar = grammar.expect("accepted");
+    let text = vec![b'x'; MOST_BYTES];
+    let mut sheet = Sheet::open(&grammar, &text, MOST_BYTES).expect("opened");
+    assert!(sheet.read().expect("read").is_whole());
+    let record = Record {
+        matched: true,
+        length: 65_535,
+        examined: 65_536,
+        nesting: 2,
+    };
+    assert_eq!(sheet.look_up(0, 0), Ok(Some(record)));
 }

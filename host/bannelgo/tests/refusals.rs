@@ -198,6 +198,14 @@ fn readings() {
 }
 
 #[test]
+fn words_of_another_library() {
+    let refusal = Refusal::Unknown(vec![16, 0, u64::MAX]);
+    let words = "the linked library is not the proved one: it answered [10, 0, ffffffffffffffff]";
+    assert_eq!(refusal.to_string(), words);
+    assert_eq!(refusal.number(), None);
+}
+
+#[test]
 fn a_refusal_is_an_error() {
     fn opened(cap: usize) -> Result<Sheet, Box<dyn Error>> {
         Ok(Sheet::open(&digits(), "1", cap)?)

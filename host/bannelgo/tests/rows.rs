@@ -1,9 +1,9 @@
 //! The tree of a match, its print, and places.
 
 use bannelgo::grammar::{
-    any, call, choice, literal, not, one_of, plus, range, sequence, star, Grammar,
+    any, call, choice, empty, literal, not, one_of, plus, range, sequence, star, times, Grammar,
 };
-use bannelgo::{Call, Place, Row, Sheet, Tree};
+use bannelgo::{Call, Place, Refusal, Row, Sheet, Tree};
 
 /// Sum <- Value (Sign Value)*; Value <- "(" Sum ")" / Number.
 fn sums() -> Grammar {
@@ -181,6 +181,23 @@ fn a_listing_grows_its_slots() {
         assert_eq!(sheet.list(length).unwrap_err().number(), Some(15));
         assert_eq!(sheet.list(length + 1).expect("it fits").rows, listing.rows);
     }
+}
+
+/// Each of 25 rules calls the next one twice, and the last is empty: 33,554,431 rows, all nothing long.
+#[test]
+fn a_listing_of_too_many_rows_is_refused() {
+    let name = |rule: usize| format!("R{rule}");
+    let twice = (0..24).fold(Grammar::builder(), |builder, rule| {
+        builder.rule(name(rule), times(2, call(name(rule + 1))))
+    });
+    let grammar = twice.rule(name(24), empty()).build().expect("accepted");
+    let mut sheet = Sheet::open(&grammar, "", 0).expect("opened");
+    let listed = sheet.list(usize::MAX);
+    assert_eq!(listed, Err(Refusal::Rows { slots: 16_777_216 }));
+    let refusal = sheet.tree().expect_err("more rows than MOST_ROWS");
+    assert_eq!(refusal.number(), Some(15));
+    assert_eq!(refusal.to_string(), "the match has more than 16777216 rows");
+    assert_eq!(sheet.read().expect("read").evaluations, 0);
 }
 
 #[test]
