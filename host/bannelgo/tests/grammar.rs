@@ -267,3 +267,51 @@ fn a_ring_names_its_rules() {
     let consumes = of_rules(&[("Sum", optional(sequence([byte(b'('), call("Sum")])))]);
     assert!(consumes.build().is_ok());
 }
+
+/// Every message about a rule of this name, which is printed so.
+fn names_in_messages(name: &str, printed: &str) {
+    let of = |body: Expr| of_rules(&[(name, body)]);
+    let rule = |words: &str| format!("rule {printed} {words}");
+    let words = rule("calls \"zz\", and no rule has that name");
+    refused(of(call("zz")), None, &words);
+    let words = rule("has a range from 0x02 to 0x01, which ends below its beginning");
+    refused(of(range(2, 1)), Some(4), &words);
+    let words = rule("repeats something that can match without consuming");
+    refused(of(star(empty())), Some(6), &words);
+    let words = rule("is called from itself without consuming");
+    refused(of(call(name)), Some(7), &words);
+    let ring = of_rules(&[("A", call(name)), (name, call("A"))]);
+    let words = format!("rule A is called from itself without consuming, through rule {printed}");
+    refused(ring, Some(7), &words);
+    let twice = of_rules(&[(name, any()), (name, any())]);
+    refused(twice, None, &format!("two rules have the name {printed}"));
+    let words = format!(
+        "the grammar has 1027 nodes; in rule {printed} it passes the 1,024 that it can have"
+    );
+    refused(of(times(514, any())), Some(2), &words);
+    let first = (0..MOST_RULES).map(|rule| format!("R{rule}"));
+    let rules = first.fold(Grammar::builder(), |builder, name| {
+        builder.rule(name, any())
+    });
+    let words =
+        format!("the grammar has 65 rules; {printed} is the first after the 64 that it can have");
+    refused(rules.rule(name, any()), Some(2), &words);
+}
+
+#[test]
+fn names_are_quoted_where_they_would_not_be_seen() {
+    for name in [
+        "Sum", "rule 0", "a b", "Sum'", "'", "größe", "e\u{301}", "→",
+    ] {
+        names_in_messages(name, name);
+    }
+    names_in_messages("", "\"\"");
+    names_in_messages("a\nb", "\"a\\nb\"");
+    names_in_messages("\t'", "\"\\t'\"");
+    names_in_messages("\"", "\"\\\"\"");
+    names_in_messages("\\", "\"\\\\\"");
+    names_in_messages("\u{2028}", "\"\\u{2028}\"");
+    let start = Grammar::builder().rule("A", any()).start("");
+    let words = "the start rule is \"\", and no rule has that name";
+    refused(start, None, words);
+}

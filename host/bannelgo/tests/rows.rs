@@ -49,6 +49,19 @@ fn a_tree_prints_its_calls() {
     assert!(tree.reading().reading.is_whole());
 }
 
+#[test]
+fn a_tree_has_a_line_for_each_call_whatever_the_names_are() {
+    let bodies = [call("a\nb"), call("it's"), any()];
+    let rules = ["", "a\nb", "it's"].into_iter().zip(bodies);
+    let builder = rules.fold(Grammar::builder(), |builder, (name, body)| {
+        builder.rule(name, body)
+    });
+    let grammar = builder.build().expect("accepted");
+    let tree = Sheet::open(&grammar, "x", 1).expect("opened").tree();
+    let expected = "\"\" 0..1 \"x\"\n  \"a\\nb\" 0..1 \"x\"\n    it's 0..1 \"x\"\n";
+    assert_eq!(tree.expect("3 rows").to_string(), expected);
+}
+
 /// Every call's parent has it among its children, and the children are just the calls with that parent.
 #[test]
 fn parents_and_children_agree() {

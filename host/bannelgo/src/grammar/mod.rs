@@ -38,6 +38,7 @@ mod builder;
 mod encode;
 mod error;
 mod expr;
+mod name;
 
 pub use builder::Builder;
 pub use error::GrammarError;
@@ -45,6 +46,7 @@ pub use expr::{
     and, any, byte, call, choice, empty, literal, not, one_of, optional, plus, range, sequence,
     star, times, Expr,
 };
+pub(crate) use name::shown_name;
 
 use crate::image::{check_image, Header};
 use crate::plain::plain_reading;
