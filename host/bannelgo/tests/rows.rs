@@ -113,10 +113,13 @@ fn no_match_says_how_far_it_got() {
 
 #[test]
 fn a_part_says_how_far_it_got() {
-    let printed = tree("1+").to_string();
+    let tree = tree("1+");
     let expected = "Sum 0..1 \"1\"\n  Value 0..1 \"1\"\n    Number 0..1 \"1\"\n\
                     only a part; read as far as line 1, column 3\n";
-    assert_eq!(printed, expected);
+    assert_eq!(tree.to_string(), expected);
+    let expected = "Sum 0..1 \"1\"\nand 2 deeper\n\
+                    only a part; read as far as line 1, column 3\n";
+    assert_eq!(tree.down_to(0).to_string(), expected);
 }
 
 /// Rows that no listing gives make an odd tree and no panic.
