@@ -158,10 +158,10 @@ fn nodes_up_to_1_024() {
     let most = literal(vec![b'a'; MOST_NODES / 2]);
     let two = |more: Expr| of_rules(&[("A", most.clone()), ("B", more)]);
     assert!(two(any()).build().is_ok());
-    let words = "the grammar has 1025 nodes; in rule B it passes the 1,024 that it can have";
+    let words = "the grammar has 1,025 nodes; in rule B it passes the 1,024 that it can have";
     refused(two(star(any())), Some(2), words);
     let first = of_rules(&[("A", literal(vec![b'a'; 513])), ("B", any())]);
-    let words = "the grammar has 1026 nodes; in rule A it passes the 1,024 that it can have";
+    let words = "the grammar has 1,026 nodes; in rule A it passes the 1,024 that it can have";
     refused(first, Some(2), words);
 }
 
@@ -286,7 +286,7 @@ fn names_in_messages(name: &str, printed: &str) {
     let twice = of_rules(&[(name, any()), (name, any())]);
     refused(twice, None, &format!("two rules have the name {printed}"));
     let words = format!(
-        "the grammar has 1027 nodes; in rule {printed} it passes the 1,024 that it can have"
+        "the grammar has 1,027 nodes; in rule {printed} it passes the 1,024 that it can have"
     );
     refused(of(times(514, any())), Some(2), &words);
     let first = (0..MOST_RULES).map(|rule| format!("R{rule}"));

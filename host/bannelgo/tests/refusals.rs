@@ -60,7 +60,7 @@ fn images() {
     refused(
         &[0x10, 0x14, 1, 0],
         2,
-        "the image has 1025 nodes and not 1 to 1,024",
+        "the image has 1,025 nodes and not 1 to 1,024",
     );
     refused(
         &with(3, 2),
@@ -112,13 +112,11 @@ fn loans() {
         8,
         "the text has 3 bytes, and there is room for 2",
     );
-    let cap = "there is room for 65536 bytes of text, and at most 65,535 are allowed";
+    let cap = "there is room for 65,536 bytes of text, and at most 65,535 are allowed";
     says(opening("123", MOST_BYTES + 1), 8, cap);
-    let most = format!(
-        "there is room for {} bytes of text, and at most 65,535 are allowed",
-        usize::MAX
-    );
-    says(opening("123", usize::MAX), 8, &most);
+    let most = "there is room for 18,446,744,073,709,551,615 bytes of text, \
+                and at most 65,535 are allowed";
+    says(opening("123", usize::MAX), 8, most);
     for cap in [3, MOST_BYTES] {
         assert!(opening("123", cap).is_none());
     }
@@ -134,7 +132,7 @@ fn loans() {
         "the text has 5 bytes, and there is room for 4",
     );
     let long = vec![b'1'; MOST_BYTES + 1];
-    let words = "the text has 65536 bytes, and at most 65,535 are allowed";
+    let words = "the text has 65,536 bytes, and at most 65,535 are allowed";
     says(grammar.read(&long).err(), 8, words);
 }
 
@@ -195,6 +193,44 @@ fn readings() {
     let words = "the lent table held a word that no reading of this text leaves there";
     says(read.err(), 12, words);
     assert_eq!(table, [0; 4]);
+}
+
+/// Counts have commas as the limits do, positions and numbers of rules have none.
+#[test]
+fn counts_have_commas() {
+    for (slots, words) in [
+        (0, "0 rows"),
+        (1, "1 row"),
+        (999, "999 rows"),
+        (1_000, "1,000 rows"),
+        (12_345, "12,345 rows"),
+        (999_999, "999,999 rows"),
+        (1_000_000, "1,000,000 rows"),
+    ] {
+        let refusal = Refusal::Rows { slots };
+        says(refusal, 15, &format!("the match has more than {words}"));
+    }
+    let grammar = digits();
+    let mut sheet = Sheet::open(&grammar, "1".repeat(2_000), 3_000).expect("opened");
+    let words = "the text would have 3,001 bytes, and there is room for 3,000";
+    says(sheet.edit(0..0, "1".repeat(1_001)).err(), 10, words);
+    let words = "the edit of bytes 1999 to 2001 ends behind the text, which has 2,000 bytes";
+    says(sheet.edit(1_999..2_001, "").err(), 9, words);
+    let words = "there is no position 2001: the text has 2,000 bytes";
+    says(sheet.look_up(0, 2_001).err(), 11, words);
+    let words = "there is no rule 1000: the grammar has 2 rules";
+    says(sheet.look_up(1_000, 0).err(), 11, words);
+    let opened = Sheet::open(&grammar, "1".repeat(2_000), 1_000);
+    let words = "the text has 2,000 bytes, and there is room for 1,000";
+    says(opened.err(), 8, words);
+    let table = lending::open(grammar.image(), b"1", &mut [0; 1_000], &mut [0; 2_001]);
+    says(
+        table.err(),
+        8,
+        "the table has 2,001 words, and 2,002 are needed",
+    );
+    let words = "the image has 4 bytes, and its header asks for 4,102";
+    says(check_image(&[0x10, 0x14, 0x00, 0x00]).err(), 3, words);
 }
 
 #[test]

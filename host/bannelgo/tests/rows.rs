@@ -212,7 +212,10 @@ fn a_listing_of_too_many_rows_is_refused() {
     assert_eq!(listed, Err(Refusal::Rows { slots: 16_777_216 }));
     let refusal = sheet.tree().expect_err("more rows than MOST_ROWS");
     assert_eq!(refusal.number(), Some(15));
-    assert_eq!(refusal.to_string(), "the match has more than 16777216 rows");
+    assert_eq!(
+        refusal.to_string(),
+        "the match has more than 16,777,216 rows"
+    );
     assert_eq!(sheet.read().expect("read").evaluations, 0);
 }
 

@@ -2,7 +2,7 @@
 
 use super::name::shown_name;
 use crate::image::{ring_in_words, star_in_words, Fault};
-use crate::refusal::Refusal;
+use crate::refusal::{counted, Refusal};
 use std::fmt;
 
 /// Why [`Builder::build`](super::Builder::build) made no grammar.
@@ -120,12 +120,14 @@ impl fmt::Display for GrammarError {
             GrammarError::NoRules => out.write_str("the grammar has no rule"),
             GrammarError::TooManyRules { rule, rules } => write!(
                 out,
-                "the grammar has {rules} rules; {} is the first after the 64 that it can have",
+                "the grammar has {}; {} is the first after the 64 that it can have",
+                counted(*rules, "rule"),
                 shown_name(rule)
             ),
             GrammarError::TooManyNodes { rule, nodes } => write!(
                 out,
-                "the grammar has {nodes} nodes; in {} it passes the 1,024 that it can have",
+                "the grammar has {}; in {} it passes the 1,024 that it can have",
+                counted(*nodes, "node"),
                 named(rule)
             ),
             GrammarError::DefinedTwice { rule } => {

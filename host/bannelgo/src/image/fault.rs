@@ -4,7 +4,7 @@ use super::outcomes::{outcome_sets, ZERO};
 use super::ring::shortest_ring;
 use super::words::{Header, NodeWord, Words};
 use crate::grammar::{MOST_NODES, MOST_RULES};
-use crate::refusal::counted;
+use crate::refusal::{counted, grouped};
 use std::fmt;
 
 /// What is wrong with an image. Rules and nodes are given by their numbers, from 0 on.
@@ -226,7 +226,8 @@ impl fmt::Display for Fault {
             }
             Fault::Rules { rules } => write!(out, "the image has {rules} rules and not 1 to 64"),
             Fault::Nodes { nodes } => {
-                write!(out, "the image has {nodes} nodes and not 1 to 1,024")
+                let nodes = counted(*nodes, "node");
+                write!(out, "the image has {nodes} and not 1 to 1,024")
             }
             Fault::Start { start, rules } => {
                 let rules = counted(*rules, "rule");
@@ -234,8 +235,9 @@ impl fmt::Display for Fault {
             }
             Fault::Size { bytes, expected } => write!(
                 out,
-                "the image has {}, and its header asks for {expected}",
-                counted(*bytes, "byte")
+                "the image has {}, and its header asks for {}",
+                counted(*bytes, "byte"),
+                grouped(*expected)
             ),
             Fault::RuleWord { rule, why } => {
                 write!(out, "the word of rule {rule} is not lawful: {why}")
