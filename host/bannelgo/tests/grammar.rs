@@ -165,6 +165,14 @@ fn nodes_up_to_1_024() {
     refused(first, Some(2), words);
 }
 
+/// A rule R with this body is refused because of its nodes.
+fn too_many(body: Expr, nodes: usize) -> GrammarError {
+    let error = one_rule(body).expect_err("too many nodes");
+    let rule = "R".to_string();
+    assert_eq!(error, GrammarError::TooManyNodes { rule, nodes });
+    error
+}
+
 /// Nothing wraps and no stack is used up, however large an expression becomes.
 #[test]
 fn expressions_past_every_limit() {
@@ -172,43 +180,22 @@ fn expressions_past_every_limit() {
     for _ in 0..80 {
         doubled = plus(doubled);
     }
-    let refused = one_rule(doubled).expect_err("too many nodes");
-    let nodes = usize::MAX;
-    assert_eq!(
-        refused,
-        GrammarError::TooManyNodes {
-            rule: "R".into(),
-            nodes
-        }
-    );
+    let words = "the grammar has at least 18,446,744,073,709,551,615 nodes; \
+                 in rule R it passes the 1,024 that it can have";
+    assert_eq!(too_many(doubled, usize::MAX).to_string(), words);
 
     let mut deep = any();
     for _ in 0..1_000_000 {
         deep = not(deep);
     }
-    let nodes = 1_000_001;
-    let refused = one_rule(deep).expect_err("too many nodes");
-    assert_eq!(
-        refused,
-        GrammarError::TooManyNodes {
-            rule: "R".into(),
-            nodes
-        }
-    );
+    too_many(deep, 1_000_001);
     for (count, nodes) in [
         (513, 1_025),
         (1_025, 2_049),
         (1_026, 2_051),
         (1 << 40, (1 << 41) - 1),
     ] {
-        let refused = one_rule(times(count, any())).expect_err("too many nodes");
-        assert_eq!(
-            refused,
-            GrammarError::TooManyNodes {
-                rule: "R".into(),
-                nodes
-            }
-        );
+        too_many(times(count, any()), nodes);
     }
     assert!(one_rule(times(usize::MAX, literal("ab"))).is_err());
     assert!(one_rule(times(512, any())).is_ok());

@@ -33,7 +33,7 @@ pub enum GrammarError {
     TooManyNodes {
         /// The rule in which the limit is passed.
         rule: String,
-        /// The number of nodes of all rules.
+        /// The number of nodes of all rules; `usize::MAX` where there are so many or more.
         nodes: usize,
     },
     /// Two rules have one name.
@@ -127,7 +127,7 @@ impl fmt::Display for GrammarError {
             GrammarError::TooManyNodes { rule, nodes } => write!(
                 out,
                 "the grammar has {}; in {} it passes the 1,024 that it can have",
-                counted(*nodes, "node"),
+                nodes_in_words(*nodes),
                 named(rule)
             ),
             GrammarError::DefinedTwice { rule } => {
@@ -158,4 +158,13 @@ impl fmt::Display for GrammarError {
 /// A rule by its name.
 fn named(rule: &str) -> String {
     format!("rule {}", shown_name(rule))
+}
+
+/// The nodes of all rules. They are not counted further than `usize::MAX`.
+fn nodes_in_words(nodes: usize) -> String {
+    let counted = counted(nodes, "node");
+    match nodes {
+        usize::MAX => format!("at least {counted}"),
+        _ => counted,
+    }
 }
