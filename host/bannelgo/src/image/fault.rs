@@ -160,7 +160,6 @@ fn why_unlawful(header: &Header, node: usize, word: &NodeWord) -> Option<&'stati
         5..=7 => word.b != 0,
         _ => false,
     };
-    let mut children = word.children();
     match word.kind {
         _ if word.zero != 0 => Some(ZERO_BITS),
         8.. => Some("its kind is above 7"),
@@ -168,10 +167,20 @@ fn why_unlawful(header: &Header, node: usize, word: &NodeWord) -> Option<&'stati
         2 if word.a > word.b => Some("its range ends below its beginning"),
         2 if word.b > 255 => Some("its range ends above 255"),
         7 if word.a >= header.rules => Some("it calls a rule that is not there"),
-        _ if children.any(|child| child <= node || child >= header.nodes) => {
-            Some("a child's number is not above its own, or names no node")
-        }
-        _ => None,
+        _ => word
+            .children()
+            .find_map(|child| why_no_child(header, node, child)),
+    }
+}
+
+/// Why a node cannot have this child.
+fn why_no_child(header: &Header, node: usize, child: usize) -> Option<&'static str> {
+    if child <= node {
+        Some("a child's number is not above its own")
+    } else if child >= header.nodes {
+        Some("a child is a node that is not there")
+    } else {
+        None
     }
 }
 
