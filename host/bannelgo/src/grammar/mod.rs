@@ -152,8 +152,8 @@ impl Grammar {
 
     /// Reads a text without records, as [`plain_reading`] does. A refusal has number 8 or 14.
     ///
-    /// With some grammars the time grows exponentially with the text; a [`Sheet`](crate::Sheet) reads each
-    /// rule at each position once.
+    /// With some grammars the time grows exponentially with the text; a [`Sheet`](crate::Sheet) evaluates
+    /// each rule at most once at each position.
     ///
     /// ```
     /// use bannelgo::grammar::{plus, range, Grammar};
