@@ -109,7 +109,7 @@ pub fn edit(
 /// Reads the first `n` bytes of the buffer; the table gains a record of each pair that is evaluated. A
 /// refusal is one of 1 to 8, or 12 or 14, which make the table 0.
 ///
-/// Near the limit of 14 it needs up to 2 MiB of the thread's stack.
+/// A thread's stack of 2 MiB is enough for it, also near the limit of 14.
 pub fn read(
     image: &[u8],
     buffer: &[u8],

@@ -1,9 +1,10 @@
 //! A formally verified, incremental reader for parsing expression grammars.
 //!
 //! A [`Sheet`] is a text that is being typed. It is read by a [`Grammar`], and what a rule gave at a
-//! position is kept as a record, so that the reading after a key evaluates only what the key changed.
-//! The library that reads, edits and lists is proved to give exactly what Ford's rules give. What this
-//! crate puts around it is tested and not proved: the builder, the words of refusals, trees and places.
+//! position is kept as a record. A key drops only the records that it can have changed, and the reading
+//! after it evaluates only what has no record. The library that reads, edits and lists is proved to give
+//! exactly what Ford's rules give. What this crate puts around it is tested and not proved: the builder,
+//! the words of refusals, trees and places.
 //!
 //! ```
 //! use bannelgo::grammar::{call, range, sequence, star, Grammar};
@@ -41,8 +42,8 @@
 //! The package's examples/ has three programs: `typing`, the shortest one to begin with; `json`, RFC 8259
 //! as a grammar and a document typed key by key; `highlight`, colours by rows over buffers of its own.
 //!
-//! A reading, a plain reading or a listing of great nesting needs up to 2 MiB of the thread's stack,
-//! which is what Rust gives a thread by default.
+//! A stack of 2 MiB, which Rust gives a thread by default, is enough for every reading, plain reading and
+//! listing: at the greatest nesting they take up to 1.5 MiB of it.
 
 #![deny(missing_docs, missing_debug_implementations)]
 

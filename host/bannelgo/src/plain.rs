@@ -9,9 +9,9 @@ use crate::MOST_BYTES;
 /// Reads `text` by the grammar in `image`. Every two byte strings have an answer; a refusal is one of
 /// 1 to 8, or 14.
 ///
-/// Where the nesting comes near 4,096 the call needs a stack of up to 2 MiB. Without records some
-/// grammars take a time that grows exponentially with the text; a [`Sheet`](crate::Sheet) reads each
-/// rule at each position once.
+/// A thread's stack of 2 MiB is enough for it, also where the nesting comes near 4,096. Without records
+/// some grammars take a time that grows exponentially with the text; a [`Sheet`](crate::Sheet) evaluates
+/// each rule at most once at each position.
 ///
 /// ```
 /// use bannelgo::grammar::{literal, Grammar};

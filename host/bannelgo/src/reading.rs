@@ -78,8 +78,9 @@ impl Reading {
 
     /// The last place that the reading looked at, as line and column of the text that was read.
     ///
-    /// Where a text does not match as a whole, this is how far it could be followed. A grammar that looks
-    /// far ahead, by `and` or `not`, can put it behind the mistake.
+    /// Where a text does not match as a whole, this is how far it could be followed. It can lie behind
+    /// the mistake: where the grammar looks far ahead, by `and` or `not`, and where a part is tried and
+    /// given up, such as one whose closing quote is missing.
     ///
     /// ```
     /// use bannelgo::grammar::{any, literal, not, sequence, star, Grammar};
@@ -100,14 +101,16 @@ impl Reading {
 
     /// Whether the reading looked at the end of the text that was read.
     ///
-    /// Where it did not, it stays the same whatever is typed behind the text: a text that does not match
-    /// as a whole is then wrong, and not only unfinished.
+    /// Where it did not, length, examined and nesting stay the same whatever is typed behind the text. So
+    /// a text that does not match as a whole is then wrong, and not only unfinished; one that does match
+    /// as a whole matches only in part once more is typed behind it.
     ///
     /// ```
     /// # use bannelgo::grammar::{literal, Grammar};
     /// let grammar = Grammar::builder().rule("Red", literal("red")).build()?;
     /// assert!(grammar.read("re")?.saw_end("re")); // unfinished
     /// assert!(!grammar.read("ro")?.saw_end("ro")); // wrong
+    /// assert!(!grammar.read("red")?.saw_end("red")); // whole, and only a part of "redx"
     /// # Ok::<(), Box<dyn std::error::Error>>(())
     /// ```
     pub fn saw_end(&self, text: impl AsRef<[u8]>) -> bool {

@@ -37,6 +37,10 @@ pub struct Sheet {
 
 /// The most rows that a listing of a [`Sheet`] gives. A listing with more slots of its own is
 /// [`lending::list`].
+///
+/// A [`Tree`] takes 64 bytes for each row, with the most rows 1 GiB; a [`Listing`] takes 32, and 8 more
+/// for each slot while it is made. For a lower limit [`Sheet::list`] is told the most rows, and
+/// [`Tree::new`] makes a tree of them.
 pub const MOST_ROWS: usize = 1 << 24;
 
 /// The slots that a listing begins with where it grows them by itself.
@@ -111,7 +115,11 @@ impl Sheet {
 
     /// Reads the text by the grammar's start rule. A refusal has number 14.
     ///
-    /// Near that limit it needs up to 2 MiB of the thread's stack.
+    /// Each rule is evaluated at most once at each position. The parts of its body have no records: where
+    /// a star looks through the rest of the text from each position, as one under a `not` can, the time
+    /// grows with the square of the text's length.
+    ///
+    /// A thread's stack of 2 MiB is enough for it, also near the limit of 14.
     ///
     /// ```
     /// # use bannelgo::grammar::{call, plus, range, Grammar};

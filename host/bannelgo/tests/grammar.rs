@@ -158,11 +158,19 @@ fn nodes_up_to_1_024() {
     let most = literal(vec![b'a'; MOST_NODES / 2]);
     let two = |more: Expr| of_rules(&[("A", most.clone()), ("B", more)]);
     assert!(two(any()).build().is_ok());
-    let words = "the grammar has 1025 nodes; in rule B it passes the 1,024 that it can have";
+    let words = "the grammar has 1,025 nodes; in rule B it passes the 1,024 that it can have";
     refused(two(star(any())), Some(2), words);
     let first = of_rules(&[("A", literal(vec![b'a'; 513])), ("B", any())]);
-    let words = "the grammar has 1026 nodes; in rule A it passes the 1,024 that it can have";
+    let words = "the grammar has 1,026 nodes; in rule A it passes the 1,024 that it can have";
     refused(first, Some(2), words);
+}
+
+/// A rule R with this body is refused because of its nodes.
+fn too_many(body: Expr, nodes: usize) -> GrammarError {
+    let error = one_rule(body).expect_err("too many nodes");
+    let rule = "R".to_string();
+    assert_eq!(error, GrammarError::TooManyNodes { rule, nodes });
+    error
 }
 
 /// Nothing wraps and no stack is used up, however large an expression becomes.
@@ -172,43 +180,22 @@ fn expressions_past_every_limit() {
     for _ in 0..80 {
         doubled = plus(doubled);
     }
-    let refused = one_rule(doubled).expect_err("too many nodes");
-    let nodes = usize::MAX;
-    assert_eq!(
-        refused,
-        GrammarError::TooManyNodes {
-            rule: "R".into(),
-            nodes
-        }
-    );
+    let words = "the grammar has at least 18,446,744,073,709,551,615 nodes; \
+                 in rule R it passes the 1,024 that it can have";
+    assert_eq!(too_many(doubled, usize::MAX).to_string(), words);
 
     let mut deep = any();
     for _ in 0..1_000_000 {
         deep = not(deep);
     }
-    let nodes = 1_000_001;
-    let refused = one_rule(deep).expect_err("too many nodes");
-    assert_eq!(
-        refused,
-        GrammarError::TooManyNodes {
-            rule: "R".into(),
-            nodes
-        }
-    );
+    too_many(deep, 1_000_001);
     for (count, nodes) in [
         (513, 1_025),
         (1_025, 2_049),
         (1_026, 2_051),
         (1 << 40, (1 << 41) - 1),
     ] {
-        let refused = one_rule(times(count, any())).expect_err("too many nodes");
-        assert_eq!(
-            refused,
-            GrammarError::TooManyNodes {
-                rule: "R".into(),
-                nodes
-            }
-        );
+        too_many(times(count, any()), nodes);
     }
     assert!(one_rule(times(usize::MAX, literal("ab"))).is_err());
     assert!(one_rule(times(512, any())).is_ok());
@@ -266,4 +253,52 @@ fn a_ring_names_its_rules() {
     refused(three, Some(7), words);
     let consumes = of_rules(&[("Sum", optional(sequence([byte(b'('), call("Sum")])))]);
     assert!(consumes.build().is_ok());
+}
+
+/// Every message about a rule of this name, which is printed so.
+fn names_in_messages(name: &str, printed: &str) {
+    let of = |body: Expr| of_rules(&[(name, body)]);
+    let rule = |words: &str| format!("rule {printed} {words}");
+    let words = rule("calls \"zz\", and no rule has that name");
+    refused(of(call("zz")), None, &words);
+    let words = rule("has a range from 0x02 to 0x01, which ends below its beginning");
+    refused(of(range(2, 1)), Some(4), &words);
+    let words = rule("repeats something that can match without consuming");
+    refused(of(star(empty())), Some(6), &words);
+    let words = rule("is called from itself without consuming");
+    refused(of(call(name)), Some(7), &words);
+    let ring = of_rules(&[("A", call(name)), (name, call("A"))]);
+    let words = format!("rule A is called from itself without consuming, through rule {printed}");
+    refused(ring, Some(7), &words);
+    let twice = of_rules(&[(name, any()), (name, any())]);
+    refused(twice, None, &format!("two rules have the name {printed}"));
+    let words = format!(
+        "the grammar has 1,027 nodes; in rule {printed} it passes the 1,024 that it can have"
+    );
+    refused(of(times(514, any())), Some(2), &words);
+    let first = (0..MOST_RULES).map(|rule| format!("R{rule}"));
+    let rules = first.fold(Grammar::builder(), |builder, name| {
+        builder.rule(name, any())
+    });
+    let words =
+        format!("the grammar has 65 rules; {printed} is the first after the 64 that it can have");
+    refused(rules.rule(name, any()), Some(2), &words);
+}
+
+#[test]
+fn names_are_quoted_where_they_would_not_be_seen() {
+    for name in [
+        "Sum", "rule 0", "a b", "Sum'", "'", "größe", "e\u{301}", "→",
+    ] {
+        names_in_messages(name, name);
+    }
+    names_in_messages("", "\"\"");
+    names_in_messages("a\nb", "\"a\\nb\"");
+    names_in_messages("\t'", "\"\\t'\"");
+    names_in_messages("\"", "\"\\\"\"");
+    names_in_messages("\\", "\"\\\\\"");
+    names_in_messages("\u{2028}", "\"\\u{2028}\"");
+    let start = Grammar::builder().rule("A", any()).start("");
+    let words = "the start rule is \"\", and no rule has that name";
+    refused(start, None, words);
 }

@@ -33,42 +33,35 @@ fn with(place: usize, value: u8) -> Vec<u8> {
     image
 }
 
+/// Every call that is lent the image refuses it.
+fn refused(image: &[u8], number: u8, words: &str) {
+    says(check_image(image).err(), number, words);
+    says(Grammar::from_image(image).err(), number, words);
+    says(plain_reading(image, b"1").err(), number, words);
+    let opened = lending::open(image, b"1", &mut [0; 9], &mut [0; 99]);
+    says(opened.err(), number, words);
+}
+
 #[test]
-fn images() {
-    let refused = |image: &[u8], number, words: &str| {
-        says(check_image(image).err(), number, words);
-        says(Grammar::from_image(image).err(), number, words);
-        says(plain_reading(image, b"1").err(), number, words);
-        let opened = lending::open(image, b"1", &mut [0; 9], &mut [0; 99]);
-        says(opened.err(), number, words);
-    };
+fn headers() {
     let short = "the image has 3 bytes, fewer than the 4 of its header";
     refused(&digits().image()[..3], 1, short);
     let edition = "the image is of edition 2 and not of edition 1";
     refused(&with(0, 0x20), 1, edition);
-    refused(&[0x10, 0, 1, 0], 2, "the image has 0 rules and not 1 to 64");
-    refused(
-        &[0x14, 0x10, 1, 0],
-        2,
-        "the image has 65 rules and not 1 to 64",
-    );
-    refused(
-        &[0x10, 0x10, 0, 0],
-        2,
-        "the image has 0 nodes and not 1 to 1,024",
-    );
-    refused(
-        &[0x10, 0x14, 1, 0],
-        2,
-        "the image has 1025 nodes and not 1 to 1,024",
-    );
-    refused(
-        &with(3, 2),
-        2,
-        "the image has 2 rules and starts with rule 2",
-    );
+    let rules = |count: usize| format!("the image has {count} rules and not 1 to 64");
+    refused(&[0x10, 0, 1, 0], 2, &rules(0));
+    refused(&[0x14, 0x10, 1, 0], 2, &rules(65));
+    let nodes = |count: &str| format!("the image has {count} nodes and not 1 to 1,024");
+    refused(&[0x10, 0x10, 0, 0], 2, &nodes("0"));
+    refused(&[0x10, 0x14, 1, 0], 2, &nodes("1,025"));
+    let start = "the image has 2 rules and starts with rule 2";
+    refused(&with(3, 2), 2, start);
     let size = "the image has 27 bytes, and its header asks for 28";
     refused(&digits().image()[..27], 3, size);
+}
+
+#[test]
+fn words_that_are_not_lawful() {
     let rule = |rule: usize, why: &str| format!("the word of rule {rule} is not lawful: {why}");
     refused(&with(7, 5), 4, &rule(1, "it names no node"));
     refused(&with(4, 0x10), 4, &rule(0, "its zero bits are not 0"));
@@ -78,23 +71,40 @@ fn images() {
     let unused = "a field that its kind does not use is not 0";
     refused(&with(15, 1), 4, &node(1, unused));
     refused(&with(24, 0x10), 4, &node(4, unused));
+    refused(&with(24, 0x00), 4, &node(4, unused));
     let range = "its range ends below its beginning";
     refused(&with(27, 0x2F), 4, &node(4, range));
     refused(&with(26, 0x01), 4, &node(4, "its range ends above 255"));
-    refused(
-        &with(14, 0x20),
-        4,
-        &node(1, "it calls a rule that is not there"),
-    );
-    let child = "a child's number is not above its own, or names no node";
-    refused(&with(11, 5), 4, &node(0, child));
-    refused(&with(18, 0x20), 4, &node(2, child));
-    refused(
-        &with(11, 1),
-        5,
-        "node 1 is 2 times a root or a child and not once",
-    );
-    refused(&with(24, 0x00), 4, &node(4, unused));
+    let call = "it calls a rule that is not there";
+    refused(&with(14, 0x20), 4, &node(1, call));
+}
+
+/// Where both children are wrong, the first one is said.
+#[test]
+fn children_that_are_not_lawful() {
+    let node = |node: usize, why: &str| format!("the word of node {node} is not lawful: {why}");
+    let not_above = "a child's number is not above its own";
+    let not_there = "a child is a node that is not there";
+    // Node 0 is a sequence, node 2 a star.
+    let children = |first: u8, second: u8| {
+        let mut image = with(10, first << 4);
+        image[11] = second;
+        image
+    };
+    refused(&children(1, 5), 4, &node(0, not_there));
+    refused(&children(5, 2), 4, &node(0, not_there));
+    refused(&children(1, 0), 4, &node(0, not_above));
+    refused(&children(0, 2), 4, &node(0, not_above));
+    refused(&children(0, 5), 4, &node(0, not_above));
+    refused(&children(5, 0), 4, &node(0, not_there));
+    refused(&with(18, 0x20), 4, &node(2, not_above));
+    refused(&with(18, 0x50), 4, &node(2, not_there));
+}
+
+#[test]
+fn grammars_that_are_not_well_formed() {
+    let twice = "node 1 is 2 times a root or a child and not once";
+    refused(&with(11, 1), 5, twice);
     let mut empties = with(24, 0x00);
     empties[25..].fill(0);
     let star = "rule 0 repeats something that can match without consuming";
@@ -112,13 +122,11 @@ fn loans() {
         8,
         "the text has 3 bytes, and there is room for 2",
     );
-    let cap = "there is room for 65536 bytes of text, and at most 65,535 are allowed";
+    let cap = "there is room for 65,536 bytes of text, and at most 65,535 are allowed";
     says(opening("123", MOST_BYTES + 1), 8, cap);
-    let most = format!(
-        "there is room for {} bytes of text, and at most 65,535 are allowed",
-        usize::MAX
-    );
-    says(opening("123", usize::MAX), 8, &most);
+    let most = "there is room for 18,446,744,073,709,551,615 bytes of text, \
+                and at most 65,535 are allowed";
+    says(opening("123", usize::MAX), 8, most);
     for cap in [3, MOST_BYTES] {
         assert!(opening("123", cap).is_none());
     }
@@ -134,7 +142,7 @@ fn loans() {
         "the text has 5 bytes, and there is room for 4",
     );
     let long = vec![b'1'; MOST_BYTES + 1];
-    let words = "the text has 65536 bytes, and at most 65,535 are allowed";
+    let words = "the text has 65,536 bytes, and at most 65,535 are allowed";
     says(grammar.read(&long).err(), 8, words);
 }
 
@@ -195,6 +203,52 @@ fn readings() {
     let words = "the lent table held a word that no reading of this text leaves there";
     says(read.err(), 12, words);
     assert_eq!(table, [0; 4]);
+}
+
+/// Counts have commas as the limits do, positions and numbers of rules have none.
+#[test]
+fn counts_have_commas() {
+    for (slots, words) in [
+        (0, "0 rows"),
+        (1, "1 row"),
+        (999, "999 rows"),
+        (1_000, "1,000 rows"),
+        (12_345, "12,345 rows"),
+        (999_999, "999,999 rows"),
+        (1_000_000, "1,000,000 rows"),
+    ] {
+        let refusal = Refusal::Rows { slots };
+        says(refusal, 15, &format!("the match has more than {words}"));
+    }
+    let grammar = digits();
+    let mut sheet = Sheet::open(&grammar, "1".repeat(2_000), 3_000).expect("opened");
+    let words = "the text would have 3,001 bytes, and there is room for 3,000";
+    says(sheet.edit(0..0, "1".repeat(1_001)).err(), 10, words);
+    let words = "the edit of bytes 1999 to 2001 ends behind the text, which has 2,000 bytes";
+    says(sheet.edit(1_999..2_001, "").err(), 9, words);
+    let words = "there is no position 2001: the text has 2,000 bytes";
+    says(sheet.look_up(0, 2_001).err(), 11, words);
+    let words = "there is no rule 1000: the grammar has 2 rules";
+    says(sheet.look_up(1_000, 0).err(), 11, words);
+    let opened = Sheet::open(&grammar, "1".repeat(2_000), 1_000);
+    let words = "the text has 2,000 bytes, and there is room for 1,000";
+    says(opened.err(), 8, words);
+    let table = lending::open(grammar.image(), b"1", &mut [0; 1_000], &mut [0; 2_001]);
+    says(
+        table.err(),
+        8,
+        "the table has 2,001 words, and 2,002 are needed",
+    );
+    let words = "the image has 4 bytes, and its header asks for 4,102";
+    says(check_image(&[0x10, 0x14, 0x00, 0x00]).err(), 3, words);
+}
+
+#[test]
+fn words_of_another_library() {
+    let refusal = Refusal::Unknown(vec![16, 0, u64::MAX]);
+    let words = "the linked library is not the proved one: it answered [10, 0, ffffffffffffffff]";
+    assert_eq!(refusal.to_string(), words);
+    assert_eq!(refusal.number(), None);
 }
 
 #[test]

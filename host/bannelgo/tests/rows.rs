@@ -1,9 +1,9 @@
 //! The tree of a match, its print, and places.
 
 use bannelgo::grammar::{
-    any, call, choice, literal, not, one_of, plus, range, sequence, star, Grammar,
+    any, call, choice, empty, literal, not, one_of, plus, range, sequence, star, times, Grammar,
 };
-use bannelgo::{Call, Place, Row, Sheet, Tree};
+use bannelgo::{Call, Place, Refusal, Row, Sheet, Tree};
 
 /// Sum <- Value (Sign Value)*; Value <- "(" Sum ")" / Number.
 fn sums() -> Grammar {
@@ -47,6 +47,19 @@ fn a_tree_prints_its_calls() {
     assert_eq!(tree.len(), 11);
     assert_eq!(tree.text(), b"1+(23-4)");
     assert!(tree.reading().reading.is_whole());
+}
+
+#[test]
+fn a_tree_has_a_line_for_each_call_whatever_the_names_are() {
+    let bodies = [call("a\nb"), call("it's"), any()];
+    let rules = ["", "a\nb", "it's"].into_iter().zip(bodies);
+    let builder = rules.fold(Grammar::builder(), |builder, (name, body)| {
+        builder.rule(name, body)
+    });
+    let grammar = builder.build().expect("accepted");
+    let tree = Sheet::open(&grammar, "x", 1).expect("opened").tree();
+    let expected = "\"\" 0..1 \"x\"\n  \"a\\nb\" 0..1 \"x\"\n    it's 0..1 \"x\"\n";
+    assert_eq!(tree.expect("3 rows").to_string(), expected);
 }
 
 /// Every call's parent has it among its children, and the children are just the calls with that parent.
@@ -100,10 +113,13 @@ fn no_match_says_how_far_it_got() {
 
 #[test]
 fn a_part_says_how_far_it_got() {
-    let printed = tree("1+").to_string();
+    let tree = tree("1+");
     let expected = "Sum 0..1 \"1\"\n  Value 0..1 \"1\"\n    Number 0..1 \"1\"\n\
                     only a part; read as far as line 1, column 3\n";
-    assert_eq!(printed, expected);
+    assert_eq!(tree.to_string(), expected);
+    let expected = "Sum 0..1 \"1\"\nand 2 deeper\n\
+                    only a part; read as far as line 1, column 3\n";
+    assert_eq!(tree.down_to(0).to_string(), expected);
 }
 
 /// Rows that no listing gives make an odd tree and no panic.
@@ -181,6 +197,26 @@ fn a_listing_grows_its_slots() {
         assert_eq!(sheet.list(length).unwrap_err().number(), Some(15));
         assert_eq!(sheet.list(length + 1).expect("it fits").rows, listing.rows);
     }
+}
+
+/// Each of 25 rules calls the next one twice, and the last is empty: 33,554,431 rows, all nothing long.
+#[test]
+fn a_listing_of_too_many_rows_is_refused() {
+    let name = |rule: usize| format!("R{rule}");
+    let twice = (0..24).fold(Grammar::builder(), |builder, rule| {
+        builder.rule(name(rule), times(2, call(name(rule + 1))))
+    });
+    let grammar = twice.rule(name(24), empty()).build().expect("accepted");
+    let mut sheet = Sheet::open(&grammar, "", 0).expect("opened");
+    let listed = sheet.list(usize::MAX);
+    assert_eq!(listed, Err(Refusal::Rows { slots: 16_777_216 }));
+    let refusal = sheet.tree().expect_err("more rows than MOST_ROWS");
+    assert_eq!(refusal.number(), Some(15));
+    assert_eq!(
+        refusal.to_string(),
+        "the match has more than 16,777,216 rows"
+    );
+    assert_eq!(sheet.read().expect("read").evaluations, 0);
 }
 
 #[test]

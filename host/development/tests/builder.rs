@@ -4,7 +4,7 @@ use bannelgo::grammar::{self, Builder, GrammarError};
 use bannelgo_development::expr::{Expr, Grammar};
 use bannelgo_development::generate::{change_one_node, each_grammar, guarded, wild, TASTES};
 use bannelgo_development::numbering::{image_of, Numbering};
-use bannelgo_development::reference::places::shortest_ring;
+use bannelgo_development::reference::places::{shortest_ring, star_over_nothing};
 use bannelgo_development::reference::{self, read_grammar};
 use bannelgo_development::rng::Rng;
 
@@ -46,8 +46,7 @@ fn compare(grammar: &Grammar) -> u64 {
         }
         (6, Err(GrammarError::RepeatsNothing { rule: named })) => {
             let rule = rule(&named).expect("a rule's name");
-            let body = &grammar.rules[rule];
-            assert!(has_star(body), "{grammar:?}, {named}");
+            assert!(repeats_nothing(grammar, rule), "{grammar:?}, {named}");
         }
         (7, Err(GrammarError::CallsItself { rules })) => {
             let rules: Vec<usize> = rules.iter().flat_map(rule).collect();
@@ -58,8 +57,12 @@ fn compare(grammar: &Grammar) -> u64 {
     number
 }
 
-fn has_star(expr: &Expr) -> bool {
-    matches!(expr, Expr::Star(_)) || expr.children().into_iter().any(has_star)
+/// Whether a star of the rule is over something that can match nothing long.
+fn repeats_nothing(grammar: &Grammar, rule: usize) -> bool {
+    let image = image_of(grammar, Numbering::Preorder);
+    let first: usize = grammar.rules[..rule].iter().map(Expr::nodes).sum();
+    let mut nodes = first..first + grammar.rules[rule].nodes();
+    nodes.any(|node| star_over_nothing(&image, rule, node) == Some(true))
 }
 
 #[test]

@@ -28,6 +28,8 @@ pub struct Builder {
 
 impl Builder {
     /// Adds a rule. The first one is the start rule unless [`start`](Builder::start) names another.
+    ///
+    /// Any text can be a name; messages and trees quote one that is empty or does not print.
     pub fn rule(mut self, name: impl Into<String>, body: Expr) -> Builder {
         self.rules.push((name.into(), body));
         self

@@ -1,7 +1,8 @@
 //! Why rules make no grammar.
 
+use super::name::shown_name;
 use crate::image::{ring_in_words, star_in_words, Fault};
-use crate::refusal::Refusal;
+use crate::refusal::{counted, Refusal};
 use std::fmt;
 
 /// Why [`Builder::build`](super::Builder::build) made no grammar.
@@ -32,7 +33,7 @@ pub enum GrammarError {
     TooManyNodes {
         /// The rule in which the limit is passed.
         rule: String,
-        /// The number of nodes of all rules.
+        /// The number of nodes of all rules; `usize::MAX` where there are so many or more.
         nodes: usize,
     },
     /// Two rules have one name.
@@ -119,31 +120,51 @@ impl fmt::Display for GrammarError {
             GrammarError::NoRules => out.write_str("the grammar has no rule"),
             GrammarError::TooManyRules { rule, rules } => write!(
                 out,
-                "the grammar has {rules} rules; {rule} is the first after the 64 that it can have"
+                "the grammar has {}; {} is the first after the 64 that it can have",
+                counted(*rules, "rule"),
+                shown_name(rule)
             ),
             GrammarError::TooManyNodes { rule, nodes } => write!(
                 out,
-                "the grammar has {nodes} nodes; in rule {rule} it passes the 1,024 that it can have"
+                "the grammar has {}; in {} it passes the 1,024 that it can have",
+                nodes_in_words(*nodes),
+                named(rule)
             ),
-            GrammarError::DefinedTwice { rule } => write!(out, "two rules have the name {rule}"),
+            GrammarError::DefinedTwice { rule } => {
+                write!(out, "two rules have the name {}", shown_name(rule))
+            }
             GrammarError::UndefinedRule { rule, name } => {
-                write!(out, "rule {rule} calls {name:?}, and no rule has that name")
+                let rule = named(rule);
+                write!(out, "{rule} calls {name:?}, and no rule has that name")
             }
             GrammarError::UndefinedStart { name } => {
                 write!(out, "the start rule is {name:?}, and no rule has that name")
             }
             GrammarError::EmptyRange { rule, low, high } => write!(
                 out,
-                "rule {rule} has a range from {low:#04x} to {high:#04x}, which ends below its beginning"
+                "{} has a range from {low:#04x} to {high:#04x}, which ends below its beginning",
+                named(rule)
             ),
-            GrammarError::RepeatsNothing { rule } => {
-                out.write_str(&star_in_words(&format!("rule {rule}")))
-            }
+            GrammarError::RepeatsNothing { rule } => out.write_str(&star_in_words(&named(rule))),
             GrammarError::CallsItself { rules } => {
-                let names: Vec<String> = rules.iter().map(|rule| format!("rule {rule}")).collect();
+                let names: Vec<String> = rules.iter().map(|rule| named(rule)).collect();
                 out.write_str(&ring_in_words(&names))
             }
             GrammarError::Refused(refusal) => write!(out, "{refusal}"),
         }
+    }
+}
+
+/// A rule by its name.
+fn named(rule: &str) -> String {
+    format!("rule {}", shown_name(rule))
+}
+
+/// The nodes of all rules. They are not counted further than `usize::MAX`.
+fn nodes_in_words(nodes: usize) -> String {
+    let counted = counted(nodes, "node");
+    match nodes {
+        usize::MAX => format!("at least {counted}"),
+        _ => counted,
     }
 }

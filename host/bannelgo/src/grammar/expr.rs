@@ -270,7 +270,7 @@ pub fn times(count: usize, part: Expr) -> Expr {
     // More than 1,024 parts are only counted, and each further one adds itself and a joint.
     let written = count.min(MOST_NODES + 1);
     let added = (count - written).saturating_mul(part.nodes.saturating_add(1));
-    let mut expr = sequence(vec![part; written]);
+    let mut expr = sequence(std::iter::repeat_n(part, written));
     expr.nodes = expr.nodes.saturating_add(added);
     expr
 }

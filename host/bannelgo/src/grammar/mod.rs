@@ -38,6 +38,7 @@ mod builder;
 mod encode;
 mod error;
 mod expr;
+mod name;
 
 pub use builder::Builder;
 pub use error::GrammarError;
@@ -45,6 +46,7 @@ pub use expr::{
     and, any, byte, call, choice, empty, literal, not, one_of, optional, plus, range, sequence,
     star, times, Expr,
 };
+pub(crate) use name::shown_name;
 
 use crate::image::{check_image, Header};
 use crate::plain::plain_reading;
@@ -150,8 +152,8 @@ impl Grammar {
 
     /// Reads a text without records, as [`plain_reading`] does. A refusal has number 8 or 14.
     ///
-    /// With some grammars the time grows exponentially with the text; a [`Sheet`](crate::Sheet) reads each
-    /// rule at each position once.
+    /// With some grammars the time grows exponentially with the text; a [`Sheet`](crate::Sheet) evaluates
+    /// each rule at most once at each position.
     ///
     /// ```
     /// use bannelgo::grammar::{plus, range, Grammar};

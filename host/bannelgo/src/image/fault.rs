@@ -4,7 +4,7 @@ use super::outcomes::{outcome_sets, ZERO};
 use super::ring::shortest_ring;
 use super::words::{Header, NodeWord, Words};
 use crate::grammar::{MOST_NODES, MOST_RULES};
-use crate::refusal::counted;
+use crate::refusal::{counted, grouped};
 use std::fmt;
 
 /// What is wrong with an image. Rules and nodes are given by their numbers, from 0 on.
@@ -160,7 +160,6 @@ fn why_unlawful(header: &Header, node: usize, word: &NodeWord) -> Option<&'stati
         5..=7 => word.b != 0,
         _ => false,
     };
-    let mut children = word.children();
     match word.kind {
         _ if word.zero != 0 => Some(ZERO_BITS),
         8.. => Some("its kind is above 7"),
@@ -168,10 +167,20 @@ fn why_unlawful(header: &Header, node: usize, word: &NodeWord) -> Option<&'stati
         2 if word.a > word.b => Some("its range ends below its beginning"),
         2 if word.b > 255 => Some("its range ends above 255"),
         7 if word.a >= header.rules => Some("it calls a rule that is not there"),
-        _ if children.any(|child| child <= node || child >= header.nodes) => {
-            Some("a child's number is not above its own, or names no node")
-        }
-        _ => None,
+        _ => word
+            .children()
+            .find_map(|child| why_no_child(header, node, child)),
+    }
+}
+
+/// Why a node cannot have this child.
+fn why_no_child(header: &Header, node: usize, child: usize) -> Option<&'static str> {
+    if child <= node {
+        Some("a child's number is not above its own")
+    } else if child >= header.nodes {
+        Some("a child is a node that is not there")
+    } else {
+        None
     }
 }
 
@@ -226,7 +235,8 @@ impl fmt::Display for Fault {
             }
             Fault::Rules { rules } => write!(out, "the image has {rules} rules and not 1 to 64"),
             Fault::Nodes { nodes } => {
-                write!(out, "the image has {nodes} nodes and not 1 to 1,024")
+                let nodes = counted(*nodes, "node");
+                write!(out, "the image has {nodes} and not 1 to 1,024")
             }
             Fault::Start { start, rules } => {
                 let rules = counted(*rules, "rule");
@@ -234,8 +244,9 @@ impl fmt::Display for Fault {
             }
             Fault::Size { bytes, expected } => write!(
                 out,
-                "the image has {}, and its header asks for {expected}",
-                counted(*bytes, "byte")
+                "the image has {}, and its header asks for {}",
+                counted(*bytes, "byte"),
+                grouped(*expected)
             ),
             Fault::RuleWord { rule, why } => {
                 write!(out, "the word of rule {rule} is not lawful: {why}")

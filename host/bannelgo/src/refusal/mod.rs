@@ -2,7 +2,7 @@
 
 mod words;
 
-pub(crate) use words::counted;
+pub(crate) use words::{counted, grouped};
 
 use crate::image::Fault;
 use crate::raw::Unanswered;

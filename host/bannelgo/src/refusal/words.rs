@@ -9,7 +9,16 @@ use std::fmt;
 pub(crate) fn counted(number: usize, thing: &str) -> String {
     match number {
         1 => format!("1 {thing}"),
-        _ => format!("{number} {thing}s"),
+        _ => format!("{} {thing}s", grouped(number)),
+    }
+}
+
+/// A count with commas, as the limits are written. A position has none, nor has the number of a rule or a
+/// node.
+pub(crate) fn grouped(count: usize) -> String {
+    match count {
+        0..=999 => count.to_string(),
+        _ => format!("{},{:03}", grouped(count / 1_000), count % 1_000),
     }
 }
 
@@ -31,7 +40,7 @@ impl fmt::Display for Refusal {
                 cap,
             } => {
                 let after = length.saturating_sub(*removed).saturating_add(*inserted);
-                let bytes = counted(after, "byte");
+                let (bytes, cap) = (counted(after, "byte"), grouped(*cap));
                 write!(
                     out,
                     "the text would have {bytes}, and there is room for {cap}"
@@ -96,16 +105,16 @@ impl fmt::Display for LoanFault {
                 )
             }
             LoanFault::Text { length, most } => {
-                let bytes = counted(*length, "byte");
+                let (bytes, room) = (counted(*length, "byte"), grouped(*most));
                 match *most {
                     MOST_BYTES => {
-                        write!(out, "the text has {bytes}, and at most 65,535 are allowed")
+                        write!(out, "the text has {bytes}, and at most {room} are allowed")
                     }
-                    _ => write!(out, "the text has {bytes}, and there is room for {most}"),
+                    _ => write!(out, "the text has {bytes}, and there is room for {room}"),
                 }
             }
             LoanFault::Table { words, needed } => {
-                let words = counted(*words, "word");
+                let (words, needed) = (counted(*words, "word"), grouped(*needed));
                 write!(out, "the table has {words}, and {needed} are needed")
             }
         }

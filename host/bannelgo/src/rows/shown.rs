@@ -1,6 +1,7 @@
 //! A tree in print.
 
 use super::{Call, Tree};
+use crate::grammar::shown_name;
 use std::fmt;
 
 /// Of a longer text only so many characters are printed.
@@ -16,7 +17,7 @@ pub struct DownTo<'t> {
 /// The rule's name, the bytes, and the beginning of the text that it matched.
 impl fmt::Display for Call<'_> {
     fn fmt(&self, out: &mut fmt::Formatter<'_>) -> fmt::Result {
-        let (name, range) = (self.name(), self.range());
+        let (name, range) = (shown_name(self.name()), self.range());
         let mut shown = characters(self.text());
         let text: String = shown.by_ref().take(MOST_SHOWN).collect();
         let more = if shown.next().is_some() { " .." } else { "" };

@@ -8,7 +8,8 @@ use crate::reading::SheetReading;
 /// The calls that made a match, with the text and the rule names: what [`Sheet::tree`] gives.
 ///
 /// It keeps a copy of the text, so the sheet can be edited while a tree of it is looked at. Printed, it
-/// has a line for each call: the rule, the bytes and the text that it matched.
+/// has a line for each call: the rule, the bytes and the text that it matched, of a longer one the first
+/// 32 characters. Where the text does not match as a whole, a last line says how far it was read.
 ///
 /// ```
 /// # use bannelgo::grammar::{call, plus, range, Grammar};
@@ -157,7 +158,8 @@ impl Tree {
         Some(found)
     }
 
-    /// The tree printed down to a depth; the calls below it are counted in a last line.
+    /// The tree printed down to a depth. Behind its calls a line has the number of those below that
+    /// depth, where there are any; the line that says how far a part was read comes last.
     ///
     /// ```
     /// # use bannelgo::grammar::{call, plus, range, Grammar};

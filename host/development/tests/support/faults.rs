@@ -71,14 +71,20 @@ fn is_so(image: &[u8], number: u64, fault: &Fault) -> bool {
 
 const ZERO_BITS: &str = "its zero bits are not 0";
 
-/// Whether this is wrong with a node's word, by its fields.
+/// Whether this is wrong with a node's word, by its fields; of two wrong children the first is meant.
 fn node_is_so(
     why: &str,
     (kind, zero, a, b): (usize, usize, usize, usize),
     node: usize,
     (rules, nodes): (usize, usize),
 ) -> bool {
-    let no_child = |field: usize| field <= node || field >= nodes;
+    let children = match kind {
+        3 | 4 => vec![a, b],
+        5 | 6 => vec![a],
+        _ => vec![],
+    };
+    let wrong = |child: &usize| !(node + 1..nodes).contains(child);
+    let first_wrong = children.into_iter().find(wrong);
     match why {
         ZERO_BITS => zero != 0,
         "its kind is above 7" => kind > 7,
@@ -90,11 +96,8 @@ fn node_is_so(
         "its range ends below its beginning" => kind == 2 && a > b,
         "its range ends above 255" => kind == 2 && b > 255,
         "it calls a rule that is not there" => kind == 7 && a >= rules,
-        "a child's number is not above its own, or names no node" => match kind {
-            3 | 4 => no_child(a) || no_child(b),
-            5 | 6 => no_child(a),
-            _ => false,
-        },
+        "a child's number is not above its own" => first_wrong.is_some_and(|child| child <= node),
+        "a child is a node that is not there" => first_wrong.is_some_and(|child| child >= nodes),
         _ => false,
     }
 }
