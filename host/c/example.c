@@ -258,6 +258,16 @@ static void words(void) {
     expect("  no length", bannelgo_length(failed), 0);
 }
 
+/* The fields of a row, each with its highest and its lowest bits. */
+static void row_fields(void) {
+    const uint64_t row = UINT64_C(0xF900F003F005F007);
+    printf("fields of a row\n");
+    expect("  rule", bannelgo_row_rule(row), 0xF9);
+    expect("  depth", bannelgo_row_depth(row), 0xF003);
+    expect("  start", bannelgo_row_start(row), 0xF005);
+    expect("  length", bannelgo_row_length(row), 0xF007);
+}
+
 static void plain_readings(void) {
     static uint8_t brackets[1365];
     memset(brackets, '(', sizeof brackets);
@@ -286,6 +296,7 @@ int main(void) {
     images();
     limits();
     words();
+    row_fields();
     plain_readings();
     printf("%d differences\n", differences);
     return differences == 0 ? 0 : 1;

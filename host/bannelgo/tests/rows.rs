@@ -176,6 +176,18 @@ fn long_texts_are_cut_and_odd_bytes_escaped() {
     assert_eq!(shown(b""), "All 0..0 \"\"\n");
 }
 
+/// Each field with its highest and its lowest bits.
+#[test]
+fn a_row_has_its_fields_apart() {
+    let row = Row {
+        rule: 0xF9,
+        depth: 0xF003,
+        start: 0xF005,
+        length: 0xF007,
+    };
+    assert_eq!(Row::from_word(0xF900_F003_F005_F007), row);
+}
+
 /// More rows than the slots that a listing begins with; the evaluations are those of the first reading.
 #[test]
 fn a_listing_grows_its_slots() {
@@ -189,6 +201,11 @@ fn a_listing_grows_its_slots() {
         let mut sheet = Sheet::open(&grammar, &text, length).expect("opened");
         let listing = sheet.list(usize::MAX).expect("it grows");
         assert_eq!(listing.rows.len(), length + 1);
+        assert_eq!(listing.rows[0].range(), 0..length);
+        let byte = |(start, row): (usize, &Row)| {
+            (row.rule, row.depth, row.range()) == (1, 1, start..start + 1)
+        };
+        assert!(listing.rows[1..].iter().enumerate().all(byte));
         assert_eq!(listing.read.evaluations, length + 2);
         let tree = sheet.tree().expect("it grows");
         assert_eq!(tree.len(), length + 1);

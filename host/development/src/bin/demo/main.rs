@@ -40,9 +40,10 @@ fn main() -> ExitCode {
 fn show(out: &mut impl Write, compared: &mut Compared) -> Shown {
     writeln!(
         out,
-        "Bannelgo reads a text by a grammar. What a rule gave at a position is kept, so\n\
-         that after a key only what the key can have changed is evaluated. The functions\n\
-         that do this are proved. docs/WORDS.md explains the words, a ledger among them."
+        "Bannelgo reads a text by a grammar. What a rule gave at a position is kept as a\n\
+         record. A key drops the records that it can have changed, and the next reading\n\
+         evaluates only what has no record. The functions that do this are proved.\n\
+         docs/WORDS.md explains the words, a ledger among them."
     )?;
     planner::show(out, compared)?;
     rows::show(out, compared)?;
