@@ -31,8 +31,8 @@ enum bannelgo_number {
     BANNELGO_EDITION = 1,      /* Are there 4 bytes, and edition 1? */
     BANNELGO_COUNTS = 2,       /* Rules 1 to 64, nodes 1 to 1,024, start below rules? */
     BANNELGO_SIZE = 3,         /* Are there exactly 4 + 2 * rules + 4 * nodes bytes? */
-    BANNELGO_WORDS = 4,        /* Is every word lawful: zero bits and unused fields 0, kind 0 to 7, A <= B <= 255 in kind 2,
-                                * references in range, children above parents? */
+    BANNELGO_WORDS = 4,        /* Is every word lawful: zero bits and unused fields 0, the fold bit in kind 2 only, kind 0 to 7,
+                                * A <= B <= 255 in kind 2, references in range, children above parents? */
     BANNELGO_OCCURRENCES = 5,  /* Does each node occur exactly once among roots and children? */
     BANNELGO_STAR_BODIES = 6,  /* Does every star's body lack outcome 0? */
     BANNELGO_WELL_FORMED = 7,  /* Is every node in the well-formed set? */

@@ -8,7 +8,8 @@ use records::Decoded;
 use records::Record;
 ghost use Prim.Native.Nat.{_+_, _-_, _<_};
 ghost use lib.ListN.{length};
-ghost use Rattle.grammar.specs.Image.{sequence, choice, star, not-predicate, call};
+ghost use mathlib.Core.Path.{_≡_};
+ghost use Rattle.grammar.specs.Image.{fieldsOf, foldBit, sequence, choice, star, not-predicate, call};
 ghost use Rattle.packrat.specs.Model.{pairM};
 ghost use Rattle.packrat.specs.Loaded.{rulesIn, nodeW, wordM, kindW};
 ghost use Rattle.packrat.specs.Gives.{Ready, Gives};
@@ -20,7 +21,7 @@ const RECORDS: u64 = numbers::RECORDS as u64;
 
 const NESTING: u64 = numbers::NESTING as u64;
 
-// A node at a position. A byte range is answered here, which saves the call that most visits would end in.
+// A node at a position. A byte range without the fold bit is answered here, which saves the call that most visits would end in.
 fn eval_node(
     words: &[u32; 4097],
     text: &&[u8],
@@ -38,10 +39,10 @@ fn eval_node(
     }
     let word = words[node];
     let fields = image::node_of(word);
-    if fields.kind == 2 {
+    if image::is_plain_range(fields.kind, fields.zero) {
         return terminals::byte_between(*text, fields.a, fields.b, at);
     }
-    eval_word(words, text, table, count, word, at, left)
+    eval_kind(words, text, table, count, word, at, left)
 }
 
 // A node's word at a position.
@@ -58,13 +59,33 @@ pub fn eval_word(
     ensures { λ r. ⌜ Gives (length (now (now (text .entry)))) at left (wordM (now (words .entry)) (now (now (text .entry))) (left - 1) word at (now (table .entry)) (now (count .entry))) r (now (table .exit)) (now (count .exit)) ⌝ }
 {
     let fields = image::node_of(word);
+    if image::is_plain_range(fields.kind, fields.zero) {
+        return terminals::byte_between(*text, fields.a, fields.b, at);
+    }
+    eval_kind(words, text, table, count, word, at, left)
+}
+
+// Every other word, by its kind.
+fn eval_kind(
+    words: &[u32; 4097],
+    text: &&[u8],
+    table: &mut [u64],
+    count: &mut u64,
+    word: u32,
+    at: usize,
+    left: usize,
+) -> u64
+    requires { ⌜ Ready (now (now text)) at left × (0 < left) × (fieldsOf word .kind ≡ 2 → foldBit (fieldsOf word .zero) ≡ 1) ⌝ }
+    ensures { λ r. ⌜ Gives (length (now (now (text .entry)))) at left (wordM (now (words .entry)) (now (now (text .entry))) (left - 1) word at (now (table .entry)) (now (count .entry))) r (now (table .exit)) (now (count .exit)) ⌝ }
+{
+    let fields = image::node_of(word);
     let kind = fields.kind;
     let a = fields.a;
     let b = fields.b;
     match kind {
         0 => answers::EMPTY_HERE,
         1 => terminals::any_byte(*text, at),
-        2 => terminals::byte_between(*text, a, b, at),
+        2 => terminals::byte_folded(*text, a, b, at),
         3 => eval_sequence(words, text, table, count, a, b, at, left - 1),
         4 => eval_choice(words, text, table, count, a, b, at, left - 1),
         5 => eval_star(words, text, table, count, a, at, left - 1),

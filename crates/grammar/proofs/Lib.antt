@@ -6,5 +6,6 @@ pub mod References
 pub mod First
 pub mod Acceptance
 pub mod Terminals
+pub mod Folding
 pub mod Determinism
 pub mod Tests

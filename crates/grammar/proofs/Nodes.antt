@@ -1,11 +1,26 @@
 -- Which node a word stands for, by the kind among its fields. Assumes nothing.
 use Prim.Native.Nat.{ℕ, zero, suc, _≤_, min}
 use native.Mathlib.Omega.{arith}
+use borrow.Author.Tests.{eq-eqb, ne-eqb}
 use mathlib.Core.Path.{_≡_, refl, sym, ap, _∙_}
+use mathlib.Core.Bool.{Bool, cond}
 use lib.ListN.{getD, List·getD-eq-default}
 use Rattle.grammar.specs.declared.NodeFields.{NodeFields}
-use Rattle.grammar.specs.Image.{byKind, nodeOf, byteRange, any}
+use Rattle.grammar.specs.Image.{byKind, nodeOf, foldBit, rangeBy, byteRange, Terminal, any, range, folded}
 use Rattle.grammar.specs.Image.{Node, empty, terminal, sequence, choice, star, not-predicate, call, unlawful}
+
+-- Kind 2 with the fold bit and without.
+module _ (bits from to : ℕ) where
+  by-bit : Bool → Terminal
+  by-bit b = cond b (folded from to) (range from to)
+
+  pub with-bit : foldBit bits ≡ 1 → rangeBy bits from to ≡ folded from to
+  unfolding by-bit
+  with-bit e = ap by-bit (eq-eqb (foldBit bits) 1 e)
+
+  pub without-bit : (foldBit bits ≡ 1 → ⊥) → rangeBy bits from to ≡ range from to
+  unfolding by-bit
+  without-bit e = ap by-bit (ne-eqb (foldBit bits) 1 e)
 
 module _ (f : NodeFields) where
   of-kind : {k : ℕ} → f .kind ≡ k → nodeOf f ≡ getD (byKind f) k unlawful
@@ -20,6 +35,12 @@ module _ (f : NodeFields) where
 
   pub is-range : f .kind ≡ 2 → nodeOf f ≡ terminal (byteRange f)
   is-range e = of-kind e
+
+  pub is-plain-range : f .kind ≡ 2 → foldBit (f .zero) ≡ 0 → nodeOf f ≡ terminal (range (f .a) (f .b))
+  is-plain-range e z = is-range e ∙ ap terminal (without-bit (f .zero) (f .a) (f .b) (λ o. omega arith))
+
+  pub is-folded-range : f .kind ≡ 2 → foldBit (f .zero) ≡ 1 → nodeOf f ≡ terminal (folded (f .a) (f .b))
+  is-folded-range e o = is-range e ∙ ap terminal (with-bit (f .zero) (f .a) (f .b) o)
 
   pub is-sequence : f .kind ≡ 3 → nodeOf f ≡ sequence (f .a) (f .b)
   is-sequence e = of-kind e

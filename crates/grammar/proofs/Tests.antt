@@ -2,9 +2,9 @@
 -- out, the other direction the number of an image (crate `rounds`). Assumes nothing.
 use Prim.Native.Nat.{ℕ, zero, suc, _+_, _*_, _<_}
 use native.Mathlib.Omega.{arith}
-use borrow.Author.Tests.{eqb-true, eqb-false, leb-true, ltb-true, eq-eqb, le-leb, lt-ltb}
+use borrow.Author.Tests.{eqb-true, eqb-false, leb-true, ltb-true, eq-eqb, ne-eqb, le-leb, lt-ltb, not-true}
 use mathlib.Core.Path.{_≡_, refl, sym, _∙_, ap}
-use mathlib.Core.Bool.{Bool, true, false, _&&_, true≢false}
+use mathlib.Core.Bool.{Bool, true, false, _&&_, not, true≢false}
 use mathlib.Core.List.{List, _++_}
 use lib.ListN.{length}
 use lib.Dec.{eqb, leb, ltb}
@@ -58,19 +58,21 @@ module _ (img : List ℕ) where
       let t6 = both _ _ (t5 .1) in
       let t7 = both _ _ (t6 .1) in
       let t8 = both _ _ (t7 .1) in
+      let t9 = both _ _ (t8 .1) in
       let k = kind img n in
       let a = fieldA img n in
       let b = fieldB img n in
       record {
-        zero-bits = eqb-true (nodeZero img n) 0 (t1 .0);
-        known-kind = leb-true k 7 (t2 .0);
-        unused-A = λ h. eqb-true a 0 (asked _ _ (t3 .0) (le-leb k 1 h));
-        unused-B = λ h. eqb-true b 0 (asked _ _ (t4 .0) (le-leb k 1 h));
-        unused-B-5-to-7 = λ h. eqb-true b 0 (asked _ _ (t5 .0) (le-leb 5 k h));
-        byte-range = λ h. let t = both _ _ (asked _ _ (t6 .0) (eq-eqb k 2 h)) in (leb-true a b (t .0), leb-true b 255 (t .1));
-        child-A = λ h l. let t = both _ _ (asked _ _ (t7 .0) (joined (le-leb 3 k h) (le-leb k 6 l))) in (ltb-true n a (t .0), ltb-true a (nodes img) (t .1));
-        child-B = λ h l. let t = both _ _ (asked _ _ (t8 .0) (joined (le-leb 3 k h) (le-leb k 4 l))) in (ltb-true n b (t .0), ltb-true b (nodes img) (t .1));
-        called = λ h. ltb-true a (rules img) (asked _ _ (t8 .1) (eq-eqb k 7 h));
+        zero-bits = λ h. eqb-true (nodeZero img n) 0 (asked _ _ (t1 .0) (ap not (ne-eqb k 2 h)));
+        zero-bits-2 = λ h. leb-true (nodeZero img n) _ (asked _ _ (t2 .0) (eq-eqb k 2 h));
+        known-kind = leb-true k 7 (t3 .0);
+        unused-A = λ h. eqb-true a 0 (asked _ _ (t4 .0) (le-leb k 1 h));
+        unused-B = λ h. eqb-true b 0 (asked _ _ (t5 .0) (le-leb k 1 h));
+        unused-B-5-to-7 = λ h. eqb-true b 0 (asked _ _ (t6 .0) (le-leb 5 k h));
+        byte-range = λ h. let t = both _ _ (asked _ _ (t7 .0) (eq-eqb k 2 h)) in (leb-true a b (t .0), leb-true b 255 (t .1));
+        child-A = λ h l. let t = both _ _ (asked _ _ (t8 .0) (joined (le-leb 3 k h) (le-leb k 6 l))) in (ltb-true n a (t .0), ltb-true a (nodes img) (t .1));
+        child-B = λ h l. let t = both _ _ (asked _ _ (t9 .0) (joined (le-leb 3 k h) (le-leb k 4 l))) in (ltb-true n b (t .0), ltb-true b (nodes img) (t .1));
+        called = λ h. ltb-true a (rules img) (asked _ _ (t9 .1) (eq-eqb k 7 h));
       }
 
   node-passes : (n : ℕ) → LawfulNode img n → nodeTest img n ≡ true
@@ -79,7 +81,8 @@ module _ (img : List ℕ) where
       let k = kind img n in
       let a = fieldA img n in
       let b = fieldB img n in
-      joined (eq-eqb (nodeZero img n) 0 (q .zero-bits))
+      joined (asks _ _ (λ h. eq-eqb (nodeZero img n) 0 (q .zero-bits (eqb-false k 2 (not-true (eqb k 2) h)))))
+      (joined (asks _ _ (λ h. le-leb (nodeZero img n) _ (q .zero-bits-2 (eqb-true k 2 h))))
       (joined (le-leb k 7 (q .known-kind))
       (joined (asks _ _ (λ h. eq-eqb a 0 (q .unused-A (leb-true k 1 h))))
       (joined (asks _ _ (λ h. eq-eqb b 0 (q .unused-B (leb-true k 1 h))))
@@ -89,7 +92,7 @@ module _ (img : List ℕ) where
       (asks _ _ (λ h. let t = both (leb 3 k) (leb k 6) h in let r = q .child-A (leb-true 3 k (t .0)) (leb-true k 6 (t .1)) in joined (lt-ltb n a (r .0)) (lt-ltb a (nodes img) (r .1))))
       (joined
       (asks _ _ (λ h. let t = both (leb 3 k) (leb k 4) h in let r = q .child-B (leb-true 3 k (t .0)) (leb-true k 4 (t .1)) in joined (lt-ltb n b (r .0)) (lt-ltb b (nodes img) (r .1))))
-      (asks _ _ (λ h. lt-ltb a (rules img) (q .called (eqb-true k 7 h)))))))))))
+      (asks _ _ (λ h. lt-ltb a (rules img) (q .called (eqb-true k 7 h))))))))))))
 
   -- Question 1,
   pub edition-asked : editionTest img ≡ true → Question1 img

@@ -2,8 +2,10 @@
 -- A byte string is a list of numbers; a byte past its end reads as 0. The questions on an image ask for its length before they
 -- look at a field that could lie past the end.
 use Prim.Native.Nat.{ℕ, _+_, _*_, _/_, _%_, _^_}
+use mathlib.Core.Bool.{cond}
 use mathlib.Core.List.{List, [], _∷_}
 use lib.ListN.{getD}
+use lib.Dec.{eqb}
 use Rattle.grammar.specs.declared.NodeFields.{NodeFields}
 
 -- The byte at a place of a byte string.
@@ -68,10 +70,11 @@ fieldA img n = fieldsAt img n .a
 abbrev pub fieldB : List ℕ → ℕ → ℕ
 fieldB img n = fieldsAt img n .b
 
--- The kinds that look at the text itself: "1 any byte; 2 byte from A to B inclusive".
+-- The kinds that look at the text itself: "1 any byte; 2 byte from A to B inclusive", and kind 2 with the fold bit set.
 pub data Terminal : Type 0 where
   any : Terminal
   range : (from to : ℕ) → Terminal
+  folded : (from to : ℕ) → Terminal
 
 -- What a node's word stands for. A number in it is a child node, or the called rule; `unlawful` is a kind above 7.
 pub data Node : Type 0 where
@@ -84,9 +87,16 @@ pub data Node : Type 0 where
   call : (rule : ℕ) → Node
   unlawful : Node
 
--- Kind 2: "byte from A to B inclusive".
+-- "The lowest of a node's four zero bits becomes a fold bit for kind 2." (02, R-1, which coins the term)
+abbrev pub foldBit : (zero-bits : ℕ) → ℕ
+foldBit bits = bits % 2
+
+-- Kind 2: "byte from A to B inclusive", folded where the fold bit is set.
+abbrev pub rangeBy : (zero-bits from to : ℕ) → Terminal
+rangeBy bits from to = cond (eqb (foldBit bits) 1) (folded from to) (range from to)
+
 abbrev pub byteRange : NodeFields → Terminal
-byteRange f = range (f .a) (f .b)
+byteRange f = rangeBy (f .zero) (f .a) (f .b)
 
 -- "Kinds: 0 empty; 1 any byte; 2 byte from A to B inclusive; 3 A then B; 4 A, else B; 5 A zero or more times; 6 not A; 7 call of
 -- rule A."

@@ -1,4 +1,5 @@
--- The definitions of the language. "The paper" is document 01; a sentence in quotation marks is the paper's.
+-- The definitions of the language. "The paper" is document 01; a sentence in quotation marks is the paper's, or
+-- where (02, R-n) stands with it, that of a request in document 02.
 pub mod Image
 pub mod Outcomes
 pub mod WellFormed

@@ -47,9 +47,11 @@ pub record LawfulRule (img : List ℕ) (r : ℕ) : Type 0 where
   pub root-node : root img r < nodes img
 
 -- "Fields that a kind doesn't use are zero. A child's number is above its parent's." Kinds 0 and 1 use neither field, kinds 5 to 7
--- only A; A is a child in kinds 3 to 6 and B in kinds 3 and 4; in kind 7 A is a rule.
+-- only A; A is a child in kinds 3 to 6 and B in kinds 3 and 4; in kind 7 A is a rule. "Question 4 allows the bit [the fold bit] in kind 2
+-- only." (02, R-1) So in every other kind all four zero bits are 0, and in kind 2 the three above the fold bit.
 pub record LawfulNode (img : List ℕ) (n : ℕ) : Type 0 where
-  pub zero-bits : nodeZero img n ≡ 0
+  pub zero-bits : (kind img n ≡ 2 → ⊥) → nodeZero img n ≡ 0
+  pub zero-bits-2 : kind img n ≡ 2 → nodeZero img n ≤ 1
   pub known-kind : kind img n ≤ 7
   pub unused-A : kind img n ≤ 1 → fieldA img n ≡ 0
   pub unused-B : kind img n ≤ 1 → fieldB img n ≡ 0

@@ -1,7 +1,7 @@
 -- Questions 1 to 5 as tests that compute. What they say is proved in proofs/Tests.antt: a test passes exactly when its question
 -- holds.
 use Prim.Native.Nat.{ℕ, zero, suc, _+_, _*_}
-use mathlib.Core.Bool.{Bool, true, false, _&&_}
+use mathlib.Core.Bool.{Bool, true, false, _&&_, not}
 use mathlib.Core.List.{List, _++_}
 use lib.ListN.{length}
 use lib.Dec.{eqb, leb, ltb}
@@ -43,7 +43,8 @@ module _ (img : List ℕ) where
 
   unfoldable pub nodeTest : ℕ → Bool
   nodeTest n =
-      eqb (nodeZero img n) 0
+      where-so (not (eqb (kind img n) 2)) (eqb (nodeZero img n) 0)
+      && (where-so (eqb (kind img n) 2) (leb (nodeZero img n) 1)
       && (leb (kind img n) 7
       && (where-so (leb (kind img n) 1) (eqb (fieldA img n) 0)
       && (where-so (leb (kind img n) 1) (eqb (fieldB img n) 0)
@@ -51,7 +52,7 @@ module _ (img : List ℕ) where
       && (where-so (eqb (kind img n) 2) (leb (fieldA img n) (fieldB img n) && leb (fieldB img n) 255)
       && (where-so (leb 3 (kind img n) && leb (kind img n) 6) (ltb n (fieldA img n) && ltb (fieldA img n) (nodes img))
       && (where-so (leb 3 (kind img n) && leb (kind img n) 4) (ltb n (fieldB img n) && ltb (fieldB img n) (nodes img))
-      && where-so (eqb (kind img n) 7) (ltb (fieldA img n) (rules img)))))))))
+      && where-so (eqb (kind img n) 7) (ltb (fieldA img n) (rules img))))))))))
 
   unfoldable pub wordsTest : Bool
   wordsTest = every (rules img) ruleTest && every (nodes img) nodeTest

@@ -11,7 +11,7 @@ pub const COUNTS: u8 = 2;
 pub const SIZE: u8 = 3;
 
 // "Is every word lawful: zero bits and unused fields 0, kind 0 to 7, A ≤ B ≤ 255 in kind 2, references in range, children above
-// parents?"
+// parents?" "Question 4 allows the bit [the fold bit] in kind 2 only." (02, R-1)
 pub const WORDS: u8 = 4;
 
 // "Does each node occur exactly once among roots and children?"

@@ -2,8 +2,10 @@
 // as 0. Which bits are which field is said in the crate `grammar`, specs/Image.antt.
 use grammar::NodeFields;
 ghost use mathlib.Core.Path.{_≡_};
+ghost use mathlib.Core.Bool.{_&&_};
+ghost use lib.Dec.{eqb};
 ghost use Prim.Native.Nat.{_<_};
-ghost use Rattle.grammar.specs.Image.{byteAt, word16, word32, nodeWord, fieldsOf, fieldsAt};
+ghost use Rattle.grammar.specs.Image.{byteAt, word16, word32, nodeWord, fieldsOf, fieldsAt, foldBit};
 ghost use Rattle.image.specs.Fields.{HeaderFields, RuleFields, SameFields};
 ghost use Rattle.image.specs.Linked.{linkedFrom};
 
@@ -124,6 +126,13 @@ pub fn node_of(word: u32) -> NodeFields
         a: bits / 4096 % 4096,
         b: bits % 4096,
     }
+}
+
+// Whether the fields of a word, its kind and its zero bits, are those of a byte range without the fold bit.
+pub fn is_plain_range(kind: usize, zero: usize) -> bool
+    ensures { λ r. ⌜ r ≡ (eqb kind 2 && eqb (foldBit zero) 0) ⌝ }
+{
+    (kind == 2) & (zero % 2 == 0)
 }
 
 // The fields of a node's word.

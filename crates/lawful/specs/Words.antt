@@ -11,6 +11,11 @@ pub record RulesLawful (img : List ℕ) : Type 0 where
 pub record NodesLawful (img : List ℕ) : Type 0 where
   pub node-words : (n : ℕ) → n < nodes img → LawfulNode img n
 
+-- The zero bits of a node's word: all of them but the fold bit, which kind 2 may have.
+pub record ZeroBits (kind zero : ℕ) : Type 0 where
+  pub all-zero : (kind ≡ 2 → ⊥) → zero ≡ 0
+  pub all-but-fold : kind ≡ 2 → zero ≤ 1
+
 -- A field that can be a child of node n.
 pub record Child (img : List ℕ) (n field : ℕ) : Type 0 where
   pub above : n < field

@@ -2,7 +2,7 @@
 // children above parents?"
 ghost use Rattle.grammar.specs.Questions.{Question4, LawfulRule, LawfulNode};
 ghost use Rattle.lawful.specs.Tells.{Tells};
-ghost use Rattle.lawful.specs.Words.{RulesLawful, NodesLawful, Child, Unused, ByteRange, TwoChildren, OneChild, CallOf};
+ghost use Rattle.lawful.specs.Words.{RulesLawful, NodesLawful, ZeroBits, Child, Unused, ByteRange, TwoChildren, OneChild, CallOf};
 
 // Whether the word of rule r is lawful: its zero bits are 0, its root is a node.
 fn rule_lawful(image: &[u8], r: usize) -> bool
@@ -40,6 +40,22 @@ fn child_lawful(image: &[u8], n: usize, field: usize) -> bool
         return false;
     }
     if header.nodes <= field {
+        return false;
+    }
+    true
+}
+
+// The zero bits of a node's word. "Question 4 allows the bit [the fold bit] in kind 2 only." (02, R-1)
+fn zero_bits_lawful(kind: usize, zero: usize) -> bool
+    ensures { λ yes. ⌜ Tells yes (ZeroBits kind zero) ⌝ }
+{
+    if zero == 0 {
+        return true;
+    }
+    if kind != 2 {
+        return false;
+    }
+    if zero / 2 != 0 {
         return false;
     }
     true
@@ -111,12 +127,12 @@ fn call_lawful(image: &[u8], a: usize, b: usize) -> bool
     true
 }
 
-// Whether the word of node n is lawful: its zero bits are 0, and its fields are as its kind has them.
+// Whether the word of node n is lawful: its zero bits and its fields are as its kind has them.
 fn node_lawful(image: &[u8], n: usize) -> bool
     ensures { λ yes. ⌜ Tells yes (LawfulNode (now (image .entry)) n) ⌝ }
 {
     let word = image::node_at(image, n);
-    if word.zero != 0 {
+    if !zero_bits_lawful(word.kind, word.zero) {
         return false;
     }
     let kind = word.kind;

@@ -8,7 +8,11 @@ use lib.ListN.{length, getD, set}
 use lib.Dec.{leb}
 use borrow.Author.Tests.{le-leb, lt-leb, ltb-true, ltb-false}
 use lib.Dec.{ltb}
-use Rattle.grammar.specs.Image.{Node, empty, terminal, Terminal, unlawful}
+use Rattle.grammar.specs.Image.{Node, empty, terminal, Terminal, any, unlawful, fieldsOf, byteRange}
+use Rattle.grammar.specs.declared.NodeFields.{NodeFields}
+use Rattle.grammar.proofs.Nodes.{is-empty, is-any, is-range}
+use Rattle.image.specs.Fields.{SameFields}
+use Rattle.packrat.proofs.LoadedRuns.{word-is}
 use Rattle.grammar.specs.Terminal.{terminalAt}
 use Rattle.records.specs.Words.{isHeld, possible, matchedOf, lengthOf}
 use Rattle.records.specs.Slots.{slotOf}
@@ -18,7 +22,7 @@ use Rattle.rows.specs.Rows.{rowWord}
 use Rattle.rows.specs.Window.{touches}
 use Rattle.rows.specs.Walk.{walked, stopped, Trail, trail, Walker, bind, after, met, entered, pairV, kindV, nodeV}
 use Rattle.rows.proofs.Bounds.{Stays}
-use Rattle.listing.specs.Gives.{Gives, toldLength}
+use Rattle.listing.specs.Gives.{Gives, Leaf, toldLength}
 use Rattle.listing.proofs.Gives.{found, failed, halted, at-once, just, and-then, and-stop}
 use Rattle.listing.proofs.Paths.{prefixed}
 
@@ -152,10 +156,6 @@ module _ (room : ℕ) (ws text table : List ℕ) (i at lo hi k c : ℕ) (l : Lis
   node-goes (suc n) ne {m} e {r} {d} {l1} g =
       just (node-is n e) (subst (λ (j : ℕ). Gives c l r l1 d (Kind j m)) (omega arith) g)
 
-  pub empty-goes : (left : ℕ) → Gives c l 0 l c (Kind left empty)
-  unfolding kindV
-  empty-goes left = at-once (walked true 0 c) refl refl
-
   pub unlawful-goes : (left : ℕ) → Gives c l 65548 l c (Kind left unlawful)
   unfolding kindV
   unlawful-goes left = at-once (stopped 12) refl refl
@@ -163,3 +163,16 @@ module _ (room : ℕ) (ws text table : List ℕ) (i at lo hi k c : ℕ) (l : Lis
   pub terminal-goes : (left : ℕ) (t : Terminal) {r : ℕ} → r ≡ toldLength (terminalAt t text at) → Gives c l r l c (Kind left (terminal t))
   unfolding kindV
   terminal-goes left t e = at-once (walked (terminalAt t text at .matched) (terminalAt t text at .length) c) refl e
+
+  pub leaf-goes :
+      (left : ℕ) → (left ≡ 0 → ⊥) → (f : NodeFields) → SameFields f (fieldsOf (getD ws i 0)) → f .kind < 3 → {r : ℕ}
+      → Leaf text (f .kind) (f .zero) (f .a) (f .b) at r → Gives c l r l c (nodeV room ws text table left i at lo hi k c)
+  unfolding kindV
+  leaf-goes left ne f s few {r} q = by-kind (f .kind) refl few
+    where
+      by-kind : (n : ℕ) → f .kind ≡ n → n < 3 → Gives c l r l c (nodeV room ws text table left i at lo hi k c)
+      by-kind zero e h = node-goes left ne (word-is (getD ws i 0) s (is-empty f e)) (at-once (walked true 0 c) refl (q .of-empty e))
+      by-kind (suc zero) e h = node-goes left ne (word-is (getD ws i 0) s (is-any f e)) (terminal-goes (left - 1) any (q .of-any e))
+      by-kind (suc (suc zero)) e h =
+          node-goes left ne (word-is (getD ws i 0) s (is-range f e)) (terminal-goes (left - 1) (byteRange f) (q .of-range e))
+      by-kind (suc (suc (suc n))) e h = absurd (omega arith)

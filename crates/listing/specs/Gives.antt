@@ -6,6 +6,8 @@ use mathlib.Core.List.{List}
 use lib.ListN.{length}
 use lib.Seq.{sets}
 use Rattle.grammar.specs.declared.Evaluation.{Evaluation}
+use Rattle.grammar.specs.Image.{any, rangeBy}
+use Rattle.grammar.specs.Terminal.{terminalAt}
 use Rattle.rows.specs.Walk.{Walked, walked, stopped, Trail, trail}
 
 -- An answer as one number: the length of a match; 65,536 for a failure; 65,536 and the number of a refusal.
@@ -19,6 +21,12 @@ coded (stopped k) = 65536 + k
 
 abbrev pub toldLength : Evaluation → ℕ
 toldLength x = lengthOr (x .matched) (x .length)
+
+-- What a kind with nothing inside tells: empty, any byte, and a byte range by its zero bits.
+pub record Leaf (text : List ℕ) (kind zero-bits from to at told : ℕ) : Type 0 where
+  pub of-empty : kind ≡ 0 → told ≡ 0
+  pub of-any : kind ≡ 1 → told ≡ toldLength (terminalAt any text at)
+  pub of-range : kind ≡ 2 → told ≡ toldLength (terminalAt (rangeBy zero-bits from to) text at)
 
 -- A walk that starts with c rows and the row slots `before`: what it leaves.
 pub record Gives (c : ℕ) (before : List ℕ) (number : ℕ) (left : List ℕ) (count : ℕ) (o : Trail) : Type 0 where

@@ -1,9 +1,7 @@
 // The terminals, by the evaluator's tests: the length of a match, or the number that says a failure.
 ghost use mathlib.Core.Path.{_≡_};
-ghost use Rattle.grammar.specs.Image.{any, range};
-ghost use Rattle.grammar.specs.Terminal.{terminalAt};
 ghost use Rattle.records.specs.Words.{valueOf};
-ghost use Rattle.listing.specs.Gives.{toldLength};
+ghost use Rattle.listing.specs.Gives.{toldLength, Leaf};
 
 // A number that no length has.
 pub const FAILED: usize = records::LENGTH_VALUES;
@@ -19,16 +17,15 @@ fn told(word: u64) -> usize
     }
 }
 
-// "1 any byte"
-pub fn any_byte(text: &[u8], at: usize) -> usize
-    ensures { λ r. ⌜ r ≡ toldLength (terminalAt any (now (text .entry)) at) ⌝ }
+// A kind below 3, which has nothing inside: "0 empty; 1 any byte; 2 byte from A to B inclusive".
+pub fn leaf(text: &[u8], kind: usize, zero: usize, from: usize, to: usize, at: usize) -> usize
+    ensures { λ r. ⌜ Leaf (now (text .entry)) kind zero from to at r ⌝ }
 {
-    told(terminals::any_byte(text, at))
-}
-
-// "2 byte from A to B inclusive"
-pub fn byte_between(text: &[u8], from: usize, to: usize, at: usize) -> usize
-    ensures { λ r. ⌜ r ≡ toldLength (terminalAt (range from to) (now (text .entry)) at) ⌝ }
-{
-    told(terminals::byte_between(text, from, to, at))
+    if kind == 2 {
+        return told(terminals::byte_range(text, zero, from, to, at));
+    }
+    if kind == 1 {
+        return told(terminals::any_byte(text, at));
+    }
+    0
 }

@@ -46,10 +46,10 @@ fn walk_node(
     let kind = fields.kind;
     let a = fields.a;
     let b = fields.b;
+    if kind < 3 {
+        return bytes::leaf(*text, kind, fields.zero, a, b, at);
+    }
     match kind {
-        0 => 0,
-        1 => bytes::any_byte(*text, at),
-        2 => bytes::byte_between(*text, a, b, at),
         3 => walk_sequence(
             words,
             text,

@@ -2,12 +2,12 @@
 use Prim.Native.Nat.{ℕ, _≤_, _<_}
 use borrow.Author.Tests.{lt-ltb, le-ltb, le-leb, lt-leb}
 use mathlib.Core.Path.{_≡_, sym, ap, _∙_}
-use mathlib.Core.Bool.{Bool, true, false, _&&_, and-false}
+use mathlib.Core.Bool.{Bool, true, false, _&&_, _||_, and-false}
 use mathlib.Core.List.{List}
 use lib.ListN.{length}
 use lib.Dec.{ltb, leb}
-use Rattle.grammar.specs.Image.{byteAt, Terminal, range}
-use Rattle.grammar.specs.Terminal.{accepts, tested, terminalAt}
+use Rattle.grammar.specs.Image.{byteAt, Terminal, range, folded}
+use Rattle.grammar.specs.Terminal.{between, otherCase, accepts, tested, terminalAt}
 use Rattle.records.specs.Words.{wordOf}
 
 module _ (t : Terminal) (text : List ℕ) (p : ℕ) where
@@ -37,9 +37,9 @@ module _ (t : Terminal) (text : List ℕ) (p : ℕ) where
 
 -- The test of a byte between two.
 module _ (from to byte : ℕ) where
-  pub between : from ≤ byte → byte ≤ to → accepts (range from to) byte ≡ true
+  pub inside : from ≤ byte → byte ≤ to → accepts (range from to) byte ≡ true
   unfolding accepts
-  between h k = simp (le-leb from byte h, le-leb byte to k)
+  inside h k = simp (le-leb from byte h, le-leb byte to k)
 
   pub below : byte < from → accepts (range from to) byte ≡ false
   unfolding accepts
@@ -48,3 +48,8 @@ module _ (from to byte : ℕ) where
   pub above : to < byte → accepts (range from to) byte ≡ false
   unfolding accepts
   above h = ap (λ (b : Bool). leb from byte && b) (lt-leb byte to h) ∙ and-false (leb from byte)
+
+  -- The test of a folded range, of the byte and of its other case.
+  pub folds : {b : Bool} → (between from to byte || between from to (otherCase byte)) ≡ b → accepts (folded from to) byte ≡ b
+  unfolding accepts
+  folds e = e

@@ -2,8 +2,8 @@
 ghost use Prim.Native.Nat.{_<_};
 ghost use mathlib.Core.Path.{_≡_};
 ghost use lib.ListN.{length};
-ghost use Rattle.grammar.specs.Image.{byteAt, any, range};
-ghost use Rattle.grammar.specs.Terminal.{terminalAt};
+ghost use Rattle.grammar.specs.Image.{byteAt, any, range, folded, rangeBy};
+ghost use Rattle.grammar.specs.Terminal.{between, otherCase, terminalAt};
 ghost use Rattle.records.specs.Words.{wordOf};
 
 // A match of one byte, and a failure that examined one place.
@@ -40,7 +40,7 @@ fn byte_at(text: &[u8], at: usize) -> usize
     wide(text[at])
 }
 
-// "2 byte from A to B inclusive"
+// "2 byte from A to B inclusive", without the fold bit.
 pub fn byte_between(text: &[u8], from: usize, to: usize, at: usize) -> u64
     ensures { λ r. ⌜ r ≡ wordOf (terminalAt (range from to) (now (text .entry)) at) ⌝ }
 {
@@ -55,4 +55,48 @@ pub fn byte_between(text: &[u8], from: usize, to: usize, at: usize) -> u64
         return NO_BYTE;
     }
     ONE_BYTE
+}
+
+fn is_between(from: usize, to: usize, byte: usize) -> bool
+    ensures { λ r. ⌜ r ≡ between from to byte ⌝ }
+{
+    (from <= byte) & (byte <= to)
+}
+
+// The other ASCII case of a letter; any other byte stands for itself.
+fn other_case(byte: usize) -> usize
+    ensures { λ r. ⌜ r ≡ otherCase byte ⌝ }
+{
+    if is_between(65, 90, byte) {
+        return byte + 32;
+    }
+    if is_between(97, 122, byte) {
+        return byte - 32;
+    }
+    byte
+}
+
+// Kind 2 with the fold bit: "a byte matches if it or its other ASCII case is between A and B" (02, R-1).
+pub fn byte_folded(text: &[u8], from: usize, to: usize, at: usize) -> u64
+    ensures { λ r. ⌜ r ≡ wordOf (terminalAt (folded from to) (now (text .entry)) at) ⌝ }
+{
+    if end_of(text) <= at {
+        return NO_BYTE;
+    }
+    let byte = byte_at(text, at);
+    if is_between(from, to, byte) | is_between(from, to, other_case(byte)) {
+        return ONE_BYTE;
+    }
+    NO_BYTE
+}
+
+// Kind 2, by its zero bits, the lowest of which is the fold bit.
+pub fn byte_range(text: &[u8], zero: usize, from: usize, to: usize, at: usize) -> u64
+    ensures { λ r. ⌜ r ≡ wordOf (terminalAt (rangeBy zero from to) (now (text .entry)) at) ⌝ }
+{
+    if zero % 2 == 1 {
+        byte_folded(text, from, to, at)
+    } else {
+        byte_between(text, from, to, at)
+    }
 }

@@ -7,8 +7,8 @@
 //! grammar has a rule for it. Then come an edit and a listing that are refused, and wrong grammars.
 
 use bannelgo::grammar::{
-    and, any, call, choice, literal, not, one_of, plus, range, sequence, star, Builder, Expr,
-    GrammarError,
+    and, any, call, choice, either_case, literal, not, one_of, plus, range, sequence, star,
+    Builder, Expr, GrammarError,
 };
 use bannelgo::{lending, Grammar, Row};
 use std::error::Error;
@@ -28,7 +28,7 @@ const COLOURS: [(&str, u8); 6] = [
 /// A line is tried as what it may be, up to its end; any other line is wrong.
 fn settings() -> Result<Grammar, GrammarError> {
     let rest_byte = || sequence([not(literal("\n")), any()]);
-    let letters = || plus(choice([range(b'a', b'z'), range(b'A', b'Z')]));
+    let letters = || plus(either_case(range(b'a', b'z')));
     let right = choice(["Comment", "Section", "Setting", "Blank"].map(call));
     let value = choice([to_the_end(call("Number")), call("Words")]);
     // A star must consume, and a line can be empty: the star is over a line with its newline.

@@ -1,8 +1,8 @@
 //! The grammar builder: images byte for byte, and what it refuses.
 
 use bannelgo::grammar::{
-    and, any, byte, call, choice, empty, literal, not, one_of, optional, plus, range, sequence,
-    star, times, Builder, Expr, Grammar, GrammarError, MOST_NODES, MOST_RULES,
+    and, any, byte, call, choice, either_case, empty, literal, not, one_of, optional, plus, range,
+    sequence, star, times, Builder, Expr, Grammar, GrammarError, MOST_NODES, MOST_RULES,
 };
 
 fn one_rule(body: Expr) -> Result<Grammar, GrammarError> {
@@ -196,6 +196,7 @@ fn expressions_past_every_limit() {
         (1 << 40, (1 << 41) - 1),
     ] {
         too_many(times(count, any()), nodes);
+        too_many(either_case(times(count, any())), nodes);
     }
     assert!(one_rule(times(usize::MAX, literal("ab"))).is_err());
     assert!(one_rule(times(512, any())).is_ok());

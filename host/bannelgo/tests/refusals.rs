@@ -1,6 +1,6 @@
 //! What refusals say, and that no argument makes a call panic.
 
-use bannelgo::grammar::{byte, call, choice, empty, range, sequence, star, Grammar};
+use bannelgo::grammar::{any, byte, call, choice, empty, not, range, sequence, star, Grammar};
 use bannelgo::{check_image, lending, plain_reading, Refusal, Sheet, MOST_BYTES};
 use std::error::Error;
 
@@ -60,29 +60,93 @@ fn headers() {
     refused(&digits().image()[..27], 3, size);
 }
 
+fn rule(rule: usize, why: &str) -> String {
+    format!("the word of rule {rule} is not lawful: {why}")
+}
+
+fn node(node: usize, why: &str) -> String {
+    format!("the word of node {node} is not lawful: {why}")
+}
+
 #[test]
 fn words_that_are_not_lawful() {
-    let rule = |rule: usize, why: &str| format!("the word of rule {rule} is not lawful: {why}");
     refused(&with(7, 5), 4, &rule(1, "it names no node"));
-    refused(&with(4, 0x10), 4, &rule(0, "its zero bits are not 0"));
-    let node = |node: usize, why: &str| format!("the word of node {node} is not lawful: {why}");
-    refused(&with(8, 0x31), 4, &node(0, "its zero bits are not 0"));
     refused(&with(24, 0x80), 4, &node(4, "its kind is above 7"));
     let unused = "a field that its kind does not use is not 0";
     refused(&with(15, 1), 4, &node(1, unused));
     refused(&with(24, 0x10), 4, &node(4, unused));
     refused(&with(24, 0x00), 4, &node(4, unused));
-    let range = "its range ends below its beginning";
-    refused(&with(27, 0x2F), 4, &node(4, range));
-    refused(&with(26, 0x01), 4, &node(4, "its range ends above 255"));
     let call = "it calls a rule that is not there";
     refused(&with(14, 0x20), 4, &node(1, call));
+}
+
+/// With the fold bit as without it.
+#[test]
+fn ranges_that_are_not_lawful() {
+    for front in [0x20, 0x21] {
+        let range = |place, value| {
+            let mut image = with(24, front);
+            image[place] = value;
+            image
+        };
+        assert_eq!(check_image(&range(27, 0x30)), Ok(()));
+        let falls = "its range ends below its beginning";
+        refused(&range(27, 0x2F), 4, &node(4, falls));
+        refused(&range(26, 0x01), 4, &node(4, "its range ends above 255"));
+    }
+}
+
+/// R <- . !R 'a'* / '': a node of each kind.
+fn each_kind() -> Vec<u8> {
+    let long = sequence([any(), not(call("R")), star(byte(b'a'))]);
+    let rule = Grammar::builder().rule("R", choice([long, empty()]));
+    rule.build().expect("accepted").image().to_vec()
+}
+
+/// The image with these bits set in the byte at that place.
+fn with_bits(image: &[u8], place: usize, bits: u8) -> Vec<u8> {
+    let mut image = image.to_vec();
+    image[place] |= bits;
+    image
+}
+
+const ZERO_BITS: &str = "its zero bits are not 0";
+const FOLD_BIT: &str = "it has the fold bit and is no byte range";
+
+/// The lowest of the four is the fold bit, which a byte range may have. Where another one is set too, the
+/// zero bits are said.
+#[test]
+fn bits_behind_the_kind_of_a_node() {
+    let image = each_kind();
+    let mut kinds = vec![];
+    for (place, word) in image[6..].chunks_exact(4).enumerate() {
+        let kind = word[0] >> 4;
+        for bits in 1..16 {
+            let changed = with_bits(&image, 6 + 4 * place, bits);
+            match (kind, bits) {
+                (2, 1) => assert_eq!(check_image(&changed), Ok(())),
+                (_, 1) => refused(&changed, 4, &node(place, FOLD_BIT)),
+                _ => refused(&changed, 4, &node(place, ZERO_BITS)),
+            }
+        }
+        kinds.push(kind);
+    }
+    assert_eq!(kinds, [4, 3, 1, 3, 6, 7, 5, 2, 0]);
+    refused(&with(24, 0x91), 4, &node(4, FOLD_BIT));
+}
+
+#[test]
+fn bits_in_front_of_a_root() {
+    let image = digits().image().to_vec();
+    for (number, bits) in (0..2).flat_map(|rule| (1..16).map(move |bits| (rule, bits))) {
+        let changed = with_bits(&image, 4 + 2 * number, bits << 4);
+        refused(&changed, 4, &rule(number, ZERO_BITS));
+    }
 }
 
 /// Where both children are wrong, the first one is said.
 #[test]
 fn children_that_are_not_lawful() {
-    let node = |node: usize, why: &str| format!("the word of node {node} is not lawful: {why}");
     let not_above = "a child's number is not above its own";
     let not_there = "a child is a node that is not there";
     // Node 0 is a sequence, node 2 a star.

@@ -2,13 +2,15 @@
 
 use std::fmt;
 
-/// One expression. The variants are the paper's kinds 0 to 7, in that order.
+/// One expression. The variants are the paper's kinds 0 to 7, in that order; kind 2 has two.
 #[derive(Clone, Debug, PartialEq, Eq)]
 pub enum Expr {
     Empty,
     AnyByte,
     /// A byte from the first to the second, both included.
     Bytes(u8, u8),
+    /// The same with the fold bit: a byte that is one of these, or whose other ASCII case is.
+    Folded(u8, u8),
     Then(Box<Expr>, Box<Expr>),
     Else(Box<Expr>, Box<Expr>),
     Star(Box<Expr>),
@@ -65,9 +67,25 @@ pub fn choice<const N: usize>(parts: [Expr; N]) -> Expr {
 impl Expr {
     pub fn children(&self) -> Vec<&Expr> {
         match self {
-            Expr::Empty | Expr::AnyByte | Expr::Bytes(..) | Expr::Call(_) => vec![],
+            Expr::Empty | Expr::AnyByte | Expr::Bytes(..) | Expr::Folded(..) | Expr::Call(_) => {
+                vec![]
+            }
             Expr::Star(a) | Expr::Not(a) => vec![a],
             Expr::Then(a, b) | Expr::Else(a, b) => vec![a, b],
+        }
+    }
+
+    /// Gives each leaf of the tree to `change`.
+    fn change_leaves(&mut self, change: &mut impl FnMut(&mut Expr)) {
+        match self {
+            Expr::Star(a) | Expr::Not(a) => a.change_leaves(change),
+            Expr::Then(a, b) | Expr::Else(a, b) => {
+                a.change_leaves(change);
+                b.change_leaves(change);
+            }
+            Expr::Empty | Expr::AnyByte | Expr::Bytes(..) | Expr::Folded(..) | Expr::Call(_) => {
+                change(self)
+            }
         }
     }
 
@@ -81,6 +99,13 @@ impl Grammar {
     pub fn nodes(&self) -> usize {
         self.rules.iter().map(Expr::nodes).sum()
     }
+
+    /// Gives each leaf of each rule to `change`.
+    pub fn change_leaves(&mut self, mut change: impl FnMut(&mut Expr)) {
+        for body in &mut self.rules {
+            body.change_leaves(&mut change);
+        }
+    }
 }
 
 impl fmt::Display for Expr {
@@ -90,6 +115,7 @@ impl fmt::Display for Expr {
             Expr::AnyByte => write!(out, "any byte"),
             Expr::Bytes(a, b) if a == b => write!(out, "0x{a:02X}"),
             Expr::Bytes(a, b) => write!(out, "0x{a:02X} to 0x{b:02X}"),
+            Expr::Folded(a, b) => write!(out, "{} in either case", Expr::Bytes(*a, *b)),
             Expr::Then(a, b) => write!(out, "{} then {}", Operand(a), Operand(b)),
             Expr::Else(a, b) => write!(out, "{} else {}", Operand(a), Operand(b)),
             Expr::Star(a) => write!(out, "{} zero or more times", Operand(a)),

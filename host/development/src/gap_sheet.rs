@@ -4,21 +4,35 @@
 //! meter's or a colour's, two times and values; a question mark stands for a value that is missing.
 //!
 //! Two more grammars read a sheet while it is typed. They take any line, so that a sheet with an
-//! unfinished line is whole too. In the second the lines are grouped by day.
+//! unfinished line is whole too. In the second the lines are grouped by day. The demonstration has a grammar
+//! in which an entry has a unit too, in either case.
 
 use crate::expr;
 use crate::reference::read_grammar;
 use bannelgo::grammar::{
-    any, byte, call, choice, empty, literal, not, one_of, optional, plus, range, sequence, star,
-    Expr,
+    any, byte, call, choice, either_case, empty, literal, not, one_of, optional, plus, range,
+    sequence, star, Expr,
 };
 use bannelgo::Grammar;
 
 /// The rules of a sheet, by name: 16 rules, 122 nodes.
 pub fn named_sheet() -> Grammar {
-    grammar(
+    built(sheet_rules(entry(None)))
+}
+
+/// The same with a unit behind the values, kWh in either case: 17 rules.
+pub fn named_sheet_with_units() -> Grammar {
+    let unit = optional(sequence([call("Space"), call("Unit")]));
+    let mut rules = sheet_rules(entry(Some(unit)));
+    rules.push(("Unit", either_case(literal("kWh"))));
+    built(rules)
+}
+
+fn sheet_rules(entry: Expr) -> Vec<(&'static str, Expr)> {
+    rules(
         sequence([call("Title"), star(call("Line")), call("End")]),
         choice([call("Comment"), call("Entry"), call("Blank")]),
+        entry,
         [
             ("Blank", sequence([call("Space"), call("NewLine")])),
             ("End", not(any())),
@@ -28,22 +42,24 @@ pub fn named_sheet() -> Grammar {
 
 /// 16 rules; the lines are in one star.
 pub fn named_sheet_of_lines() -> Grammar {
-    grammar(
+    built(rules(
         sequence([call("Title"), star(call("Line")), not(any())]),
         choice([call("Comment"), call("Entry"), call("Blank"), call("Other")]),
+        entry(None),
         [
             ("Blank", sequence([call("Space"), call("NewLine")])),
             ("Other", sequence([rest_of_line(), call("NewLine")])),
         ],
-    )
+    ))
 }
 
 /// 16 rules; a line that begins with @ is the heading of a day, and each day has its lines in a star.
 pub fn named_sheet_of_days() -> Grammar {
     let blank = sequence([call("Space"), call("NewLine")]);
-    grammar(
+    built(rules(
         sequence([call("Title"), star(call("Day")), not(any())]),
         choice([call("Comment"), call("Entry"), blank, call("Other")]),
+        entry(None),
         [
             (
                 "Day",
@@ -59,12 +75,16 @@ pub fn named_sheet_of_days() -> Grammar {
                 sequence([not(literal("@")), rest_of_line(), call("NewLine")]),
             ),
         ],
-    )
+    ))
 }
 
 /// The same grammars as trees, rules by number.
 pub fn sheet() -> expr::Grammar {
     tree_of(&named_sheet())
+}
+
+pub fn sheet_with_units() -> expr::Grammar {
+    tree_of(&named_sheet_with_units())
 }
 
 pub fn sheet_of_lines() -> expr::Grammar {
@@ -80,13 +100,18 @@ pub fn tree_of(grammar: &Grammar) -> expr::Grammar {
     read_grammar(grammar.image()).expect("an accepted image passes questions 1 to 5")
 }
 
-/// The rules that all three have, with those that differ: the first two and the sixth and the last.
-fn grammar(sheet: Expr, line: Expr, [sixth, last]: [(&str, Expr); 2]) -> Grammar {
-    let rules = [
+/// The rules that all have, with those that differ: a sheet, a line, an entry, the sixth and the last.
+fn rules(
+    sheet: Expr,
+    line: Expr,
+    entry: Expr,
+    [sixth, last]: [(&'static str, Expr); 2],
+) -> Vec<(&'static str, Expr)> {
+    vec![
         ("Sheet", sheet),
         ("Title", title()),
         ("Line", line),
-        ("Entry", entry()),
+        ("Entry", entry),
         (
             "Comment",
             sequence([literal("#"), rest_of_line(), call("NewLine")]),
@@ -105,7 +130,10 @@ fn grammar(sheet: Expr, line: Expr, [sixth, last]: [(&str, Expr); 2]) -> Grammar
         ("Space", star(one_of(" \t"))),
         ("NewLine", choice([literal("\n"), literal("\r\n")])),
         last,
-    ];
+    ]
+}
+
+fn built(rules: Vec<(&str, Expr)>) -> Grammar {
     let rules = rules.into_iter();
     let builder = rules.fold(Grammar::builder(), |builder, (name, body)| {
         builder.rule(name, body)
@@ -124,14 +152,10 @@ fn title() -> Expr {
     ])
 }
 
-fn entry() -> Expr {
-    sequence([
-        call("Name"),
-        call("Separator"),
-        two_times(),
-        values(),
-        call("NewLine"),
-    ])
+/// A name, two times and values, and a unit where the grammar has one.
+fn entry(unit: Option<Expr>) -> Expr {
+    let front = [call("Name"), call("Separator"), two_times(), values()];
+    sequence(front.into_iter().chain(unit).chain([call("NewLine")]))
 }
 
 fn rest_of_line() -> Expr {

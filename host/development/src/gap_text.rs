@@ -12,6 +12,18 @@ grey;   13:45:00 / 14:00:00;  ?
 red;    16:15:00 / 17:00:00;  0, -0.25, +4
 ";
 
+/// The same with the unit of the values, which the meter that came later writes in capitals.
+pub const SHEET_WITH_UNITS: &str = "\
+GAPS North_3
+# Week 11. Red is estimated, amber is copied from the week before, grey is open.
+amber;  06:15:00 / 07:00:00;  12.4, 12.9, 13.1 kWh
+red;    09:30:00 / 10:00:00;  8.75, ? kWh
+grey;   13:45:00 / 14:00:00;  ?
+
+# The meter was changed at 16:20.
+red;    16:15:00 / 17:00:00;  0, -0.25, +4 KWH
+";
+
 const TITLE: &str = "GAPS North_3\n";
 
 const COLOURS: [&str; 5] = ["amber", "red", "grey", "green", "light_blue"];

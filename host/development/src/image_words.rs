@@ -11,7 +11,10 @@ pub struct ImageWords {
     pub node_words: Vec<u32>,
 }
 
-/// A node's word: kind 4, zero 4, A 12, B 12.
+/// The fold bit of a node's word.
+pub const FOLD: u32 = 1 << 24;
+
+/// A node's word without its fold bit: kind 4, zero 3, fold 1, A 12, B 12.
 pub fn node_word(kind: u32, a: u32, b: u32) -> u32 {
     (kind & 0xF) << 28 | (a & 0xFFF) << 12 | (b & 0xFFF)
 }

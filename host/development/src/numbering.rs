@@ -1,7 +1,7 @@
 //! From a grammar to its image: each tree node gets a number, above its parent's, and a word.
 
 use crate::expr::{Expr, Grammar};
-use crate::image_words::{node_word, ImageWords};
+use crate::image_words::{node_word, ImageWords, FOLD};
 use crate::rng::Rng;
 
 /// The order in which the nodes get their numbers. All of them put children above parents.
@@ -61,6 +61,7 @@ enum Field {
 #[derive(Clone, Copy)]
 struct Part {
     kind: u32,
+    fold: bool,
     a: Field,
     b: Field,
 }
@@ -82,7 +83,8 @@ impl Field {
 
 impl Part {
     fn word(&self, number_of: &[u32]) -> u32 {
-        node_word(self.kind, self.a.value(number_of), self.b.value(number_of))
+        let fold = if self.fold { FOLD } else { 0 };
+        fold | node_word(self.kind, self.a.value(number_of), self.b.value(number_of))
     }
 
     fn children(&self) -> impl Iterator<Item = usize> {
@@ -114,20 +116,24 @@ impl Flat {
         let here = self.parts.len();
         self.parts.push(Part {
             kind: 0,
+            fold: false,
             a: ZERO,
             b: ZERO,
         });
         let (kind, a, b) = match expr {
             Expr::Empty => (0, ZERO, ZERO),
             Expr::AnyByte => (1, ZERO, ZERO),
-            Expr::Bytes(low, high) => (2, Field::Number(*low), Field::Number(*high)),
+            Expr::Bytes(low, high) | Expr::Folded(low, high) => {
+                (2, Field::Number(*low), Field::Number(*high))
+            }
             Expr::Then(a, b) => (3, Field::Child(self.add(a)), Field::Child(self.add(b))),
             Expr::Else(a, b) => (4, Field::Child(self.add(a)), Field::Child(self.add(b))),
             Expr::Star(a) => (5, Field::Child(self.add(a)), ZERO),
             Expr::Not(a) => (6, Field::Child(self.add(a)), ZERO),
             Expr::Call(rule) => (7, Field::Number(*rule), ZERO),
         };
-        self.parts[here] = Part { kind, a, b };
+        let fold = matches!(expr, Expr::Folded(..));
+        self.parts[here] = Part { kind, fold, a, b };
         here
     }
 

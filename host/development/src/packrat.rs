@@ -4,6 +4,7 @@
 //! is kept in one vector, which is cleared for each text and used again for the next.
 
 use crate::expr::{Expr, Grammar};
+use crate::reference::bytes::{between, between_in_either_case};
 
 pub struct Packrat<'g> {
     grammar: &'g Grammar,
@@ -62,7 +63,11 @@ impl Parser<'_> {
             Expr::Empty => Some(at),
             Expr::AnyByte => (at < self.text.len()).then_some(at + 1),
             Expr::Bytes(low, high) => match self.text.get(at) {
-                Some(byte) if low <= byte && byte <= high => Some(at + 1),
+                Some(byte) if between(*byte, *low, *high) => Some(at + 1),
+                _ => None,
+            },
+            Expr::Folded(low, high) => match self.text.get(at) {
+                Some(byte) if between_in_either_case(*byte, *low, *high) => Some(at + 1),
                 _ => None,
             },
             Expr::Then(a, b) => {

@@ -11,6 +11,8 @@ fn both_readings_are_the_same() {
         tally::settle(&[
             every::one_rule(),
             every::two_rules(),
+            every::one_rule_in_both_cases(),
+            every::two_rules_in_both_cases(),
             random::letters(1101),
             random::bytes(1102),
             shapes::shapes(1201),

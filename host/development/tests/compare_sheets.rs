@@ -4,7 +4,7 @@
 mod sheets;
 
 use bannelgo_development::small_stack::on_small_stack;
-use sheets::{deep, every, foreign, listings, lists, long, planners, tally, true_tables};
+use sheets::{cases, deep, every, foreign, listings, lists, long, planners, tally, true_tables};
 
 #[test]
 fn lists_of_calls_are_the_ledgers() {
@@ -14,6 +14,7 @@ fn lists_of_calls_are_the_ledgers() {
             lists::bytes(3102),
             lists::full(3103),
             every::edits(3104),
+            cases::changes(3108),
             planners::sheets(3105),
             deep::near_the_limit(3106),
             long::most_bytes(3107),
@@ -40,6 +41,8 @@ fn lists_of_calls_are_the_ledgers() {
             ("15", 20_000),
             ("rows", 20_000),
             ("0 rows", 20_000),
+            ("fold", 4_000),
+            ("case", 40_000),
         ];
         tally::settle(&tallies, 200_000, &fewest);
     });
@@ -61,6 +64,8 @@ fn calls_over_any_words_are_the_papers() {
             ("12", 5_000),
             ("14", 100),
             ("free", 5_000),
+            ("fold", 1_000),
+            ("case", 8_000),
         ];
         tally::settle(&tallies, 150_000, &fewest);
     });
@@ -85,6 +90,8 @@ fn listings_are_the_ledgers_and_the_papers() {
             ("14", 500),
             ("15", 5_000),
             ("free l", 5_000),
+            ("fold", 1_000),
+            ("case", 8_000),
         ];
         tally::settle(&tallies, 150_000, &fewest);
     });

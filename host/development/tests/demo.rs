@@ -32,6 +32,7 @@ fn its_parts_come_in_order() {
         "The rows",
         "Keys",
         "Where a typed line stopped matching",
+        "Letters in either case",
         "What a key costs",
         "Refusals",
         "The marked images",

@@ -30,6 +30,13 @@ fn the_digits_grammar_is_d2() {
 }
 
 #[test]
+fn a_folded_range_has_the_fold_bit() {
+    let rules = vec![Expr::Folded(b'A', b'Z'), Expr::Bytes(b'A', b'Z')];
+    let words = words_of(&Grammar { start: 0, rules }, Numbering::Preorder);
+    assert_eq!(words.node_words, [0x2104_105A, 0x2004_105A]);
+}
+
+#[test]
 fn every_numbering_reads_back() {
     let rng = &mut Rng::new(601);
     for round in 0..300 {

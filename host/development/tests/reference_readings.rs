@@ -1,7 +1,7 @@
 //! The reference's two readers against each other, and the machine's count of the work.
 
 use bannelgo_development::expr::{then, Expr, Grammar};
-use bannelgo_development::generate::{damage, fold_to_letters, guarded, text_of};
+use bannelgo_development::generate::{damage, guarded, text_of, to_letters};
 use bannelgo_development::reference::machine::evaluate_start;
 use bannelgo_development::reference::{self, read, recursive};
 use bannelgo_development::rng::Rng;
@@ -21,7 +21,7 @@ fn machine_and_recursive_reader_agree() {
             let nodes = 3 * rules + rng.below(60);
             let mut grammar = guarded(rng, rules, nodes);
             if round % 2 == 0 {
-                fold_to_letters(&mut grammar);
+                to_letters(&mut grammar);
             }
             for _ in 0..3 {
                 let mut text = text_of(rng, &grammar, 30);

@@ -140,6 +140,10 @@ impl Plain<'_> {
                 let fits = byte.is_some_and(|byte| (*low..=*high).contains(&byte));
                 fits.then_some((at + 1, vec![]))
             }
+            Expr::Folded(low, high) => {
+                let same = |byte: u8| (*low..=*high).any(|one| one.eq_ignore_ascii_case(&byte));
+                byte.is_some_and(same).then_some((at + 1, vec![]))
+            }
             Expr::Then(a, b) => {
                 let (middle, first) = self.matched(a, at, depth)?;
                 let (end, second) = self.matched(b, middle, depth)?;

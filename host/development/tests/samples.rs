@@ -2,7 +2,8 @@
 
 use bannelgo::raw::check_image;
 use bannelgo_development::expr::{byte, not, or_else, star, then, Expr, Grammar};
-use bannelgo_development::numbering::{image_of, Numbering};
+use bannelgo_development::image_words::{node_word, ImageWords, FOLD};
+use bannelgo_development::numbering::{image_of, words_of, Numbering};
 use bannelgo_development::reference;
 use bannelgo_development::samples::{D2, SAMPLES};
 
@@ -102,6 +103,70 @@ fn star_bodies_are_asked_first_and_everywhere() {
     expect_grammar("a body without outcomes", 7, &[star(Call(1)), Call(1)]);
     let late_zero = [star(Call(1)), Call(2), or_else(Any, not(Any))];
     expect_grammar("0 comes from rule 2", 6, &late_zero);
+}
+
+/// Two rules with a node of each kind.
+fn each_kind() -> ImageWords {
+    use Expr::{AnyByte as Any, Call, Empty};
+    let rules = vec![
+        or_else(then(Any, then(not(Call(0)), star(byte(b'a')))), Empty),
+        Expr::Folded(b'a', b'z'),
+    ];
+    words_of(&Grammar { start: 0, rules }, Numbering::Preorder)
+}
+
+/// "The lowest of a node's four zero bits becomes a fold bit for kind 2." The others are 0 in every kind.
+#[test]
+fn the_fold_bit_is_lawful_in_ranges_only() {
+    let mut kinds = [0; 8];
+    for node in 0..each_kind().node_words.len() {
+        let kind = each_kind().node_words[node] >> 28;
+        kinds[kind as usize] += 1;
+        for bits in 0..16 {
+            let mut words = each_kind();
+            words.node_words[node] = words.node_words[node] & !(0xF << 24) | bits << 24;
+            let number = match (kind, bits) {
+                (_, 0) | (2, 1) => 0,
+                _ => 4,
+            };
+            let name = format!("bits {bits:04b} in kind {kind}");
+            expect(&name, &words.to_bytes(), number);
+        }
+    }
+    assert!(kinds.iter().all(|&count| count > 0), "{kinds:?}");
+}
+
+/// A rule's word has no fold bit.
+#[test]
+fn the_zero_bits_of_a_rule() {
+    for rule in 0..2 {
+        for bits in 1..16 {
+            let mut words = each_kind();
+            words.rule_words[rule] |= bits << 12;
+            let name = format!("bits {bits:04b} in rule {rule}");
+            expect(&name, &words.to_bytes(), 4);
+        }
+    }
+}
+
+/// The fold bit is no excuse for a range that falls, and a range need have no letter.
+#[test]
+fn ranges_with_the_fold_bit() {
+    for (low, high, number) in [
+        (0x41, 0x5A, 0), // A to Z
+        (0x5A, 0x61, 0), // Z to a
+        (0x30, 0x39, 0),
+        (0x00, 0xFF, 0),
+        (0xFF, 0xFF, 0),
+        (0x61, 0x5A, 4), // a to Z
+        (0x62, 0x61, 4),
+        (0x00, 0x100, 4),
+        (0x100, 0x100, 4),
+    ] {
+        let word = node_word(2, low, high) | FOLD;
+        let image = ImageWords::new(0, vec![0], vec![word]).to_bytes();
+        expect(&format!("{low:#x} to {high:#x}"), &image, number);
+    }
 }
 
 /// The answer does not depend on where in memory the bytes begin.

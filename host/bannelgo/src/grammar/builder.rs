@@ -127,7 +127,7 @@ impl Builder {
                     let (rule, name) = (rule(), name.clone());
                     return Err(GrammarError::UndefinedRule { rule, name });
                 }
-                Part::Range(low, high) if low > high => {
+                Part::Range { low, high, .. } if low > high => {
                     let (rule, low, high) = (rule(), *low, *high);
                     return Err(GrammarError::EmptyRange { rule, low, high });
                 }

@@ -29,14 +29,15 @@ fn words_of(body: &Expr, root: usize, number: &impl Fn(&str) -> usize) -> Vec<u3
         let (kind, a, b) = match part {
             Part::Empty => (0, 0, 0),
             Part::Any => (1, 0, 0),
-            Part::Range(low, high) => (2, usize::from(*low), usize::from(*high)),
+            Part::Range { low, high, .. } => (2, usize::from(*low), usize::from(*high)),
             Part::Then => (3, first, second()),
             Part::Else => (4, first, second()),
             Part::Star => (5, first, 0),
             Part::Not => (6, first, 0),
             Part::Call(name) => (7, number(name), 0),
         };
-        (kind << 28 | a << 12 | b) as u32
+        let fold = usize::from(matches!(part, Part::Range { fold: true, .. }));
+        (kind << 28 | fold << 24 | a << 12 | b) as u32
     };
     body.parts.iter().enumerate().map(word).collect()
 }

@@ -31,7 +31,12 @@ pub struct Expr {
 pub(super) enum Part {
     Empty,
     Any,
-    Range(u8, u8),
+    /// With `fold` in either ASCII case.
+    Range {
+        low: u8,
+        high: u8,
+        fold: bool,
+    },
     Then,
     Else,
     Star,
@@ -43,7 +48,7 @@ impl Part {
     /// How many parts it has.
     pub(super) fn arity(&self) -> usize {
         match self {
-            Part::Empty | Part::Any | Part::Range(..) | Part::Call(_) => 0,
+            Part::Empty | Part::Any | Part::Range { .. } | Part::Call(_) => 0,
             Part::Star | Part::Not => 1,
             Part::Then | Part::Else => 2,
         }
@@ -144,7 +149,8 @@ pub fn byte(value: u8) -> Expr {
 /// # Ok::<(), Box<dyn std::error::Error>>(())
 /// ```
 pub fn range(low: u8, high: u8) -> Expr {
-    Expr::leaf(Part::Range(low, high))
+    let fold = false;
+    Expr::leaf(Part::Range { low, high, fold })
 }
 
 /// One of these characters, each by its bytes in UTF-8. None at all never matches.
@@ -172,6 +178,32 @@ pub fn one_of(characters: &str) -> Expr {
 /// ```
 pub fn literal(text: impl AsRef<[u8]>) -> Expr {
     sequence(text.as_ref().iter().map(|&value| byte(value)))
+}
+
+/// `part` with its letters in either case: each byte and each range in it also matches a letter that it
+/// has in the other case. Only A to Z and a to z have another case. A rule that `part` calls stays as it
+/// is.
+///
+/// ```
+/// use bannelgo::grammar::{call, either_case, literal, range, sequence, Grammar};
+///
+/// let unit = either_case(sequence([literal("kW"), call("Hour")]));
+/// let grammar = Grammar::builder().rule("Unit", unit).rule("Hour", literal("h")).build()?;
+/// assert!(grammar.read("KWh")?.is_whole());
+/// assert!(grammar.read("kwh")?.is_whole());
+/// assert!(!grammar.read("KWH")?.is_whole()); // Hour has only the small letter
+///
+/// let grammar = Grammar::builder().rule("Hex", either_case(range(b'a', b'f'))).build()?;
+/// assert!(grammar.read("C")?.is_whole());
+/// # Ok::<(), Box<dyn std::error::Error>>(())
+/// ```
+pub fn either_case(mut part: Expr) -> Expr {
+    for node in &mut part.parts {
+        if let Part::Range { fold, .. } = node {
+            *fold = true;
+        }
+    }
+    part
 }
 
 /// A call of the rule with this name.

@@ -43,8 +43,8 @@ mod name;
 pub use builder::Builder;
 pub use error::GrammarError;
 pub use expr::{
-    and, any, byte, call, choice, empty, literal, not, one_of, optional, plus, range, sequence,
-    star, times, Expr,
+    and, any, byte, call, choice, either_case, empty, literal, not, one_of, optional, plus, range,
+    sequence, star, times, Expr,
 };
 pub(crate) use name::shown_name;
 

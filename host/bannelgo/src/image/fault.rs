@@ -162,6 +162,7 @@ fn why_unlawful(header: &Header, node: usize, word: &NodeWord) -> Option<&'stati
     };
     match word.kind {
         _ if word.zero != 0 => Some(ZERO_BITS),
+        _ if word.fold && word.kind != 2 => Some("it has the fold bit and is no byte range"),
         8.. => Some("its kind is above 7"),
         _ if unused => Some("a field that its kind does not use is not 0"),
         2 if word.a > word.b => Some("its range ends below its beginning"),

@@ -9,11 +9,12 @@ pub(crate) struct Header {
     pub(crate) start: usize,
 }
 
-/// A node's word: kind 4 bits, zero 4, A 12, B 12.
+/// A node's word: kind 4 bits, zero 3, fold 1, A 12, B 12.
 #[derive(Clone, Copy, Debug)]
 pub(super) struct NodeWord {
     pub(super) kind: u8,
     pub(super) zero: u8,
+    pub(super) fold: bool,
     pub(super) a: usize,
     pub(super) b: usize,
 }
@@ -66,7 +67,8 @@ impl NodeWord {
         let word = u32::from_be_bytes(bytes);
         NodeWord {
             kind: (word >> 28) as u8,
-            zero: (word >> 24 & 0xF) as u8,
+            zero: (word >> 25 & 0x7) as u8,
+            fold: word >> 24 & 1 == 1,
             a: (word >> 12 & 0xFFF) as usize,
             b: (word & 0xFFF) as usize,
         }

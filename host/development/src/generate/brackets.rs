@@ -1,5 +1,6 @@
 //! Grammars of brackets whose nesting on a text is stated beforehand.
 
+use super::folds::fold_some;
 use crate::expr::{byte, not, or_else, sequence, star, then, Expr, Grammar};
 use crate::rng::Rng;
 use Expr::{Call, Empty};
@@ -12,7 +13,9 @@ pub fn brackets_of_nesting(rng: &mut Rng, nesting: usize) -> (Grammar, usize) {
     let brackets = (nesting - way.last - levels) / way.each;
     let mut rules = (way.rules)();
     rules.insert(0, body);
-    (Grammar { start: 0, rules }, brackets)
+    let mut grammar = Grammar { start: 0, rules };
+    fold_some(rng, &mut grammar);
+    (grammar, brackets)
 }
 
 /// Rule 0, a call of rule 1 with layers around it, and its levels without those of rule 1.

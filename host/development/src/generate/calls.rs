@@ -1,6 +1,6 @@
 //! Calls on an open sheet: keys close together, readings and look-ups, and some that are refused.
 
-use super::letters::some_letters;
+use super::letters::{some_letters, CASE};
 use super::texts::text_of;
 use crate::calls::Call;
 use crate::expr::Grammar;
@@ -16,6 +16,7 @@ impl Typist {
     /// A call on a sheet that has this text and room for `cap` bytes.
     pub fn call(&mut self, rng: &mut Rng, grammar: &Grammar, text: &[u8], cap: usize) -> Call {
         match rng.below(20) {
+            0 if !text.is_empty() => self.change_case(rng, text),
             0..=7 => self.edit(rng, grammar, text, cap),
             8..=14 => Call::Read,
             15..=18 => look_up(rng, grammar, text.len()),
@@ -47,6 +48,17 @@ impl Typist {
             start,
             end,
             replacement,
+        }
+    }
+
+    /// A key that writes a letter in its other case; a byte that is no letter becomes another one.
+    fn change_case(&mut self, rng: &mut Rng, text: &[u8]) -> Call {
+        let start = self.place(rng, text.len() - 1);
+        self.cursor = start + 1;
+        Call::Edit {
+            start,
+            end: self.cursor,
+            replacement: vec![text[start] ^ CASE],
         }
     }
 

@@ -7,9 +7,7 @@ use crate::rng::Rng;
 pub fn add_empty_rules(rng: &mut Rng, grammar: &mut Grammar) {
     let matches = grammar.rules.len() as u8;
     let (fails, matches_too) = (matches + 1, matches + 2);
-    for body in &mut grammar.rules {
-        surround(rng, body, matches, fails);
-    }
+    grammar.change_leaves(|leaf| surround(rng, leaf, matches, fails));
     grammar.rules.extend([
         Expr::Empty,
         not(Expr::Call(matches)),
@@ -21,21 +19,14 @@ pub fn add_empty_rules(rng: &mut Rng, grammar: &mut Grammar) {
 }
 
 fn surround(rng: &mut Rng, expr: &mut Expr, matches: u8, fails: u8) {
-    match expr {
-        Expr::Empty | Expr::Call(_) => {}
-        Expr::AnyByte | Expr::Bytes(..) => {
-            let leaf = expr.clone();
-            *expr = match rng.below(5) {
-                0 => then(Expr::Call(matches), leaf),
-                1 => then(leaf, Expr::Call(matches)),
-                2 => or_else(Expr::Call(fails), leaf),
-                _ => leaf,
-            };
-        }
-        Expr::Then(a, b) | Expr::Else(a, b) => {
-            surround(rng, a, matches, fails);
-            surround(rng, b, matches, fails);
-        }
-        Expr::Star(a) | Expr::Not(a) => surround(rng, a, matches, fails),
+    if let Expr::Empty | Expr::Call(_) = expr {
+        return;
     }
+    let byte = expr.clone();
+    *expr = match rng.below(5) {
+        0 => then(Expr::Call(matches), byte),
+        1 => then(byte, Expr::Call(matches)),
+        2 => or_else(Expr::Call(fails), byte),
+        _ => byte,
+    };
 }

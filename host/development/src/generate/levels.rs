@@ -1,7 +1,7 @@
 //! Grammars that reach a stated nesting by one kind of level: choices, or calls.
 
 use crate::expr::{byte, or_else, then, Expr, Grammar};
-use Expr::{Call, Empty};
+use Expr::{Call, Empty, Folded};
 
 /// Rules from rule 1 on. Rule 1's nesting at k brackets is `each` × (k + 1).
 pub struct Levels {
@@ -20,9 +20,10 @@ impl Levels {
         }
     }
 
-    /// So many rules, each a call of the next, and then ("(" then rule 1) else empty.
+    /// So many rules, each a call of the next, and then ("(" then rule 1) else empty; the bracket has the
+    /// fold bit.
     pub fn of_calls(calls: u8) -> Levels {
-        let last = or_else(then(byte(b'('), Call(1)), Empty);
+        let last = or_else(then(Folded(b'(', b'('), Call(1)), Empty);
         let rules = (0..calls).map(|call| Call(call + 2)).chain([last]);
         Levels {
             rules: rules.collect(),

@@ -6,6 +6,7 @@ mod change;
 mod empties;
 mod every;
 mod fields;
+mod folds;
 mod guarded;
 mod letters;
 mod levels;
@@ -20,8 +21,9 @@ pub use change::change_one_node;
 pub use empties::add_empty_rules;
 pub use every::each_grammar;
 pub use fields::{change_field, set_bits, set_root};
+pub use folds::unfolded;
 pub use guarded::{guarded, start_with_the_biggest};
-pub use letters::{fold_to_letters, letter, some_letters};
+pub use letters::{letter, some_letters, to_letters, CASE};
 pub use levels::Levels;
 pub use shapes::{Shape, SHAPES};
 pub use small::small_grammar;
@@ -30,6 +32,7 @@ pub use wild::{wild, Taste, TASTES};
 
 use crate::expr::{byte, Expr};
 use crate::rng::Rng;
+use folds::some_folded;
 
 /// Shares `nodes` among `rules`, at least one for each.
 fn shares(rng: &mut Rng, rules: usize, nodes: usize) -> Vec<usize> {
@@ -43,12 +46,13 @@ fn shares(rng: &mut Rng, rules: usize, nodes: usize) -> Vec<usize> {
     shares
 }
 
-/// A byte or a range of bytes.
+/// A byte or a range of bytes, with the fold bit or without it, or any byte.
 fn some_bytes(rng: &mut Rng) -> Expr {
     let (one, other) = (rng.byte(), rng.byte());
-    match rng.below(3) {
+    match rng.below(4) {
         0 => byte(one),
         1 => Expr::Bytes(one.min(other), one.max(other)),
+        2 => some_folded(rng),
         _ => Expr::AnyByte,
     }
 }

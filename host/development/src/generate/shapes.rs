@@ -3,7 +3,7 @@
 use super::letters::letter;
 use crate::expr::{byte, choice, not, or_else, sequence, star, then, Expr};
 use crate::rng::Rng;
-use Expr::{AnyByte, Bytes, Call, Empty};
+use Expr::{AnyByte, Bytes, Call, Empty, Folded};
 
 /// Draws the rules of a grammar that starts with rule 0.
 pub type Shape = fn(&mut Rng) -> Vec<Expr>;
@@ -20,16 +20,25 @@ pub const SHAPES: [Shape; 9] = [
     chain_of_tries,
 ];
 
+/// A letter, some in either case.
+fn one(rng: &mut Rng) -> Expr {
+    match (letter(rng), rng.one_in(3)) {
+        (letter, true) => Folded(letter, letter),
+        (letter, false) => byte(letter),
+    }
+}
+
 /// A part that consumes.
 fn part(rng: &mut Rng) -> Expr {
-    let mut one = || byte(letter(rng));
-    let (a, b) = (one(), one());
-    match rng.below(8) {
+    let (a, b) = (one(rng), one(rng));
+    match rng.below(10) {
         0..=2 => a,
         3 => Bytes(b'a', b'b'),
         4 => Bytes(b'b', b'c'),
-        5 => then(a, b),
-        6 => then(a, star(b)),
+        5 => Folded(b'A', b'B'),
+        6 => Folded(b'b', b'c'),
+        7 => then(a, b),
+        8 => then(a, star(b)),
         _ => then(a, AnyByte),
     }
 }
@@ -71,12 +80,12 @@ fn left_factored(rng: &mut Rng) -> Vec<Expr> {
     vec![star(body), then(part(rng), star(part(rng)))]
 }
 
-/// Words with spaces after them; a key word counts only where no letter follows.
+/// Words with spaces after them; a key word counts only where no letter of either case follows.
 fn key_words(rng: &mut Rng) -> Vec<Expr> {
     let key = sequence([part(rng), part(rng), not(Call(1))]);
     let name = then(Call(1), star(Call(1)));
     let word = then(or_else(key, name), or_else(byte(b' '), not(AnyByte)));
-    vec![star(word), Bytes(b'a', b'c')]
+    vec![star(word), Folded(b'a', b'c')]
 }
 
 /// S = x S x, else y S y, else a part.

@@ -1,8 +1,8 @@
-//! Small grammars over three letters for lists of calls.
+//! Small grammars over three letters in both cases, for lists of calls.
 
 use super::empties::add_empty_rules;
 use super::guarded::{guarded, start_with_the_biggest};
-use super::letters::fold_to_letters;
+use super::letters::to_letters;
 use super::shapes::SHAPES;
 use crate::expr::Grammar;
 use crate::rng::Rng;
@@ -18,7 +18,7 @@ pub fn small_grammar(rng: &mut Rng) -> Grammar {
         Grammar { start: 0, rules }
     };
     start_with_the_biggest(&mut grammar);
-    fold_to_letters(&mut grammar);
+    to_letters(&mut grammar);
     if rng.one_in(2) {
         add_empty_rules(rng, &mut grammar);
     }

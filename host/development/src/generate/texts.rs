@@ -1,7 +1,8 @@
 //! Texts that a grammar is likely to match, and damage done to them.
 
-use super::letters::letter;
+use super::letters::{letter, CASE};
 use crate::expr::{Expr, Grammar};
+use crate::reference::bytes::other_case;
 use crate::rng::Rng;
 
 /// How deep a walk goes into trees and calls, and how many nodes it passes.
@@ -43,8 +44,13 @@ impl Walk<'_> {
             Expr::AnyByte if self.rng.one_in(2) => self.text.push(self.rng.byte()),
             Expr::AnyByte => self.text.push(letter(self.rng)),
             Expr::Bytes(low, high) => {
-                let byte = self.rng.between(usize::from(*low), usize::from(*high));
-                self.text.push(byte as u8);
+                let byte = self.between(*low, *high);
+                self.text.push(byte);
+            }
+            Expr::Folded(low, high) => {
+                let byte = self.between(*low, *high);
+                let either = [byte, other_case(byte)];
+                self.text.push(*self.rng.pick(&either));
             }
             Expr::Then(a, b) => {
                 self.through(a, depth + 1);
@@ -62,9 +68,14 @@ impl Walk<'_> {
             Expr::Call(rule) => self.through(&self.rules[usize::from(*rule)], depth + 1),
         }
     }
+
+    fn between(&mut self, low: u8, high: u8) -> u8 {
+        self.rng.between(usize::from(low), usize::from(high)) as u8
+    }
 }
 
-/// Changes a text at one place: a byte more, less or other, an early end, or its tail twice.
+/// Changes a text at one place: a byte more, less or other, a letter in its other case, an early end, or
+/// its tail twice.
 pub fn damage(rng: &mut Rng, text: &mut Vec<u8>) {
     let at = rng.below(text.len() + 1);
     let new = if rng.one_in(4) {
@@ -72,11 +83,12 @@ pub fn damage(rng: &mut Rng, text: &mut Vec<u8>) {
     } else {
         letter(rng)
     };
-    match rng.below(5) {
+    match rng.below(6) {
         0 if at < text.len() => text[at] = new,
         1 if at < text.len() => drop(text.remove(at)),
-        2 => text.truncate(at),
-        3 => text.extend_from_within(at..),
+        2 if at < text.len() => text[at] ^= CASE,
+        3 => text.truncate(at),
+        4 => text.extend_from_within(at..),
         _ => text.insert(at, new),
     }
 }

@@ -21,8 +21,8 @@ impl Evaluation {
     };
 
     /// "Examined 1, also at the end, where they fail; a match has length 1."
-    pub fn of_byte(text: &[u8], at: usize, low: u8, high: u8) -> Evaluation {
-        let matched = at < text.len() && low <= text[at] && text[at] <= high;
+    pub fn of_byte(text: &[u8], at: usize, fits: impl Fn(u8) -> bool) -> Evaluation {
+        let matched = at < text.len() && fits(text[at]);
         Evaluation {
             matched,
             length: usize::from(matched),

@@ -6,6 +6,7 @@
 //! evaluation, evaluations counts the pairs whose body is evaluated in it, and the table gains just
 //! those."
 
+use super::bytes::{between, between_in_either_case};
 use super::evaluation::{Evaluation, Rounds};
 use super::lent::Loan;
 use super::machine::Pair;
@@ -110,8 +111,13 @@ impl Reader<'_> {
         let inside = allowance.checked_sub(1)?;
         Some(match expr {
             Expr::Empty => Evaluation::EMPTY,
-            Expr::AnyByte => Evaluation::of_byte(self.text, at, 0, 255),
-            Expr::Bytes(low, high) => Evaluation::of_byte(self.text, at, *low, *high),
+            Expr::AnyByte => Evaluation::of_byte(self.text, at, |_| true),
+            Expr::Bytes(low, high) => {
+                Evaluation::of_byte(self.text, at, |byte| between(byte, *low, *high))
+            }
+            Expr::Folded(low, high) => Evaluation::of_byte(self.text, at, |byte| {
+                between_in_either_case(byte, *low, *high)
+            }),
             Expr::Then(a, b) => match self.evaluate(a, at, inside)? {
                 a if a.matched => a.then(self.evaluate(b, at + a.length, inside)?),
                 a => a.around(),

@@ -8,6 +8,7 @@
 //! What a rule gave at a position is kept, together with the work that an evaluation without
 //! records has there. After the start pair's evaluation exactly the reached pairs are kept.
 
+use super::bytes::{between, between_in_either_case};
 use super::pair_map::PairMap;
 use crate::expr::{Expr, Grammar};
 
@@ -111,8 +112,11 @@ impl<'g> Machine<'g> {
         let at = open.begin;
         match open.expr {
             Expr::Empty => open.ends(Some(at)),
-            Expr::AnyByte => self.ask_byte(open, 0, 255),
-            Expr::Bytes(low, high) => self.ask_byte(open, *low, *high),
+            Expr::AnyByte => self.ask_byte(open, |_| true),
+            Expr::Bytes(low, high) => self.ask_byte(open, |byte| between(byte, *low, *high)),
+            Expr::Folded(low, high) => {
+                self.ask_byte(open, |byte| between_in_either_case(byte, *low, *high))
+            }
             Expr::Then(a, _) | Expr::Else(a, _) | Expr::Star(a) | Expr::Not(a) => {
                 self.part(open, a, at)
             }
@@ -123,12 +127,11 @@ impl<'g> Machine<'g> {
         }
     }
 
-    fn ask_byte(&self, mut open: Open<'g>, low: u8, high: u8) -> Next<'g> {
+    fn ask_byte(&self, mut open: Open<'g>, fits: impl Fn(u8) -> bool) -> Next<'g> {
         let after = open.begin + 1;
         let byte = self.text.get(open.begin);
-        let fits = byte.is_some_and(|byte| (low..=high).contains(byte));
         open.reach = after;
-        open.ends(fits.then_some(after))
+        open.ends(byte.is_some_and(|byte| fits(*byte)).then_some(after))
     }
 
     /// Begins a part of an evaluation, which stays open meanwhile.
@@ -154,7 +157,7 @@ impl<'g> Machine<'g> {
                 self.kept.insert((*rule, begin), part);
                 open.ends(end)
             }
-            (Expr::Empty | Expr::AnyByte | Expr::Bytes(..), _) => {
+            (Expr::Empty | Expr::AnyByte | Expr::Bytes(..) | Expr::Folded(..), _) => {
                 unreachable!("these kinds have no parts")
             }
         }

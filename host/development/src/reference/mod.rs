@@ -11,6 +11,7 @@
 //! The ledger is the paper's plain ledger over that recogniser, and `rows` gives the rows of its text.
 //! `lent`, `lent_reading` and `lent_listing` say what single calls do with any lent words, true or not.
 
+pub mod bytes;
 mod evaluation;
 mod header;
 pub mod ledger;

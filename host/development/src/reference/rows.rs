@@ -4,6 +4,7 @@
 //! no rule that it calls is entered: matched calls are noted, and taken back where something around
 //! them fails. A stack has the calls whose rows are still to come.
 
+use super::bytes::{between, between_in_either_case};
 use super::machine::{evaluate_pair, Found, Pair};
 use super::pair_map::PairMap;
 use crate::expr::{Expr, Grammar};
@@ -67,8 +68,11 @@ impl Body<'_> {
         let before = self.noted.len();
         let end = match expr {
             Expr::Empty => Some(at),
-            Expr::AnyByte => self.end_of_byte(0, 255, at),
-            Expr::Bytes(low, high) => self.end_of_byte(*low, *high, at),
+            Expr::AnyByte => self.end_of_byte(at, |_| true),
+            Expr::Bytes(low, high) => self.end_of_byte(at, |byte| between(byte, *low, *high)),
+            Expr::Folded(low, high) => {
+                self.end_of_byte(at, |byte| between_in_either_case(byte, *low, *high))
+            }
             Expr::Then(a, b) => {
                 let end_of_a = self.end_of(a, at);
                 end_of_a.and_then(|next| self.end_of(b, next))
@@ -97,9 +101,9 @@ impl Body<'_> {
         end
     }
 
-    fn end_of_byte(&self, low: u8, high: u8, at: usize) -> Option<usize> {
+    fn end_of_byte(&self, at: usize, fits: impl Fn(u8) -> bool) -> Option<usize> {
         let byte = *self.text.get(at)?;
-        (low <= byte && byte <= high).then_some(at + 1)
+        fits(byte).then_some(at + 1)
     }
 
     fn end_of_rounds(&mut self, a: &Expr, at: usize) -> usize {

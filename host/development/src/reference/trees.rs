@@ -14,6 +14,7 @@ pub fn tree(words: &Words, number: usize) -> Expr {
         NodeWord::Empty => Expr::Empty,
         NodeWord::AnyByte => Expr::AnyByte,
         NodeWord::Bytes(low, high) => Expr::Bytes(low, high),
+        NodeWord::Folded(low, high) => Expr::Folded(low, high),
         NodeWord::Then(a, b) => then(tree(words, a), tree(words, b)),
         NodeWord::Else(a, b) => or_else(tree(words, a), tree(words, b)),
         NodeWord::Star(a) => star(tree(words, a)),

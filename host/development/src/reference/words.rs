@@ -9,6 +9,7 @@ pub enum NodeWord {
     Empty,
     AnyByte,
     Bytes(u8, u8),
+    Folded(u8, u8),
     Then(usize, usize),
     Else(usize, usize),
     Star(usize),
@@ -28,7 +29,11 @@ impl NodeWord {
         match *self {
             NodeWord::Then(a, b) | NodeWord::Else(a, b) => vec![a, b],
             NodeWord::Star(a) | NodeWord::Not(a) => vec![a],
-            NodeWord::Empty | NodeWord::AnyByte | NodeWord::Bytes(..) | NodeWord::Call(_) => vec![],
+            NodeWord::Empty
+            | NodeWord::AnyByte
+            | NodeWord::Bytes(..)
+            | NodeWord::Folded(..)
+            | NodeWord::Call(_) => vec![],
         }
     }
 }
@@ -72,22 +77,25 @@ fn read_root(bytes: [u8; 2], header: &Header) -> Option<usize> {
 fn read_node(bytes: [u8; 4], number: usize, header: &Header) -> Option<NodeWord> {
     let mut bits = TopBits::of_four_bytes(bytes);
     let kind = bits.take(4);
-    let zero = bits.take(4);
+    let zero = bits.take(3);
+    let fold = bits.take(1);
     let a = bits.take(12);
     let b = bits.take(12);
     let is_child = |field: usize| number < field && field < header.nodes;
     if zero != 0 {
         return None;
     }
-    match kind {
-        0 if a == 0 && b == 0 => Some(NodeWord::Empty),
-        1 if a == 0 && b == 0 => Some(NodeWord::AnyByte),
-        2 if a <= b && b <= 255 => Some(NodeWord::Bytes(a as u8, b as u8)),
-        3 if is_child(a) && is_child(b) => Some(NodeWord::Then(a, b)),
-        4 if is_child(a) && is_child(b) => Some(NodeWord::Else(a, b)),
-        5 if is_child(a) && b == 0 => Some(NodeWord::Star(a)),
-        6 if is_child(a) && b == 0 => Some(NodeWord::Not(a)),
-        7 if a < header.rules && b == 0 => Some(NodeWord::Call(a as u8)),
+    // "Question 4 allows the bit in kind 2 only."
+    match (kind, fold) {
+        (0, 0) if a == 0 && b == 0 => Some(NodeWord::Empty),
+        (1, 0) if a == 0 && b == 0 => Some(NodeWord::AnyByte),
+        (2, 0) if a <= b && b <= 255 => Some(NodeWord::Bytes(a as u8, b as u8)),
+        (2, 1) if a <= b && b <= 255 => Some(NodeWord::Folded(a as u8, b as u8)),
+        (3, 0) if is_child(a) && is_child(b) => Some(NodeWord::Then(a, b)),
+        (4, 0) if is_child(a) && is_child(b) => Some(NodeWord::Else(a, b)),
+        (5, 0) if is_child(a) && b == 0 => Some(NodeWord::Star(a)),
+        (6, 0) if is_child(a) && b == 0 => Some(NodeWord::Not(a)),
+        (7, 0) if a < header.rules && b == 0 => Some(NodeWord::Call(a as u8)),
         _ => None,
     }
 }

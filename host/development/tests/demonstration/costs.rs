@@ -3,13 +3,13 @@
 use super::output::{output, part};
 use super::typed::{first_reading, typed, Typed};
 use bannelgo_development::figures::grouped;
-use bannelgo_development::gap_sheet::{sheet, sheet_of_days};
-use bannelgo_development::gap_text::{long_sheet_of_days, PLANNERS_SHEET};
+use bannelgo_development::gap_sheet::{sheet_of_days, sheet_with_units};
+use bannelgo_development::gap_text::{long_sheet_of_days, SHEET_WITH_UNITS};
 
 #[test]
 fn the_last_line_is_true() {
-    let grammar = sheet();
-    let keys = typed(&grammar, PLANNERS_SHEET, 0);
+    let grammar = sheet_with_units();
+    let keys = typed(&grammar, SHEET_WITH_UNITS, 0);
     let first = |key: &Typed| first_reading(&grammar, &key.text).evaluations;
     let firsts: Vec<usize> = keys.iter().map(first).collect();
     let (count, each, instead) = (keys.len(), average_of(&keys), average(&firsts));

@@ -2,11 +2,11 @@
 
 use super::output::part;
 use bannelgo::{LoanFault, Refusal};
-use bannelgo_development::gap_text::PLANNERS_SHEET;
+use bannelgo_development::gap_text::SHEET_WITH_UNITS;
 
 #[test]
 fn the_refusals_have_number_and_words() {
-    let length = PLANNERS_SHEET.len();
+    let length = SHEET_WITH_UNITS.len();
     let expected = [
         Refusal::Loan(LoanFault::Text { length, most: 100 }),
         Refusal::EditRange {

@@ -4,6 +4,7 @@ use bannelgo::{Outcome, SheetReading};
 use bannelgo_development::calls::{Answer, Call};
 use bannelgo_development::expr::Grammar;
 use bannelgo_development::reference::ledger::Ledger;
+use std::ops::Range;
 
 /// The keys: an entry with a slip that is taken back.
 pub const KEYS: &str = "red;  14:000\u{8}:00 / 14:15:00;  7.5\n";
@@ -19,8 +20,7 @@ pub struct Typed {
 pub fn typed(grammar: &Grammar, text: &str, from: usize) -> Vec<Typed> {
     let blank = text[from..].find("\n\n").expect("there is a blank line");
     let mut cursor = from + blank + 1;
-    let room = text.len() + KEYS.len();
-    let mut ledger = Ledger::open(grammar, room, text.as_bytes());
+    let mut ledger = Ledger::open(grammar, text.len() + KEYS.len(), text.as_bytes());
     read(&mut ledger);
     let mut keys = vec![];
     for key in KEYS.chars() {
@@ -28,18 +28,30 @@ pub fn typed(grammar: &Grammar, text: &str, from: usize) -> Vec<Typed> {
             '\u{8}' => (cursor - 1, String::new()),
             key => (cursor, key.to_string()),
         };
-        let edit = Call::Edit {
-            start,
-            end: cursor,
-            replacement: replacement.clone().into_bytes(),
-        };
-        ledger.call(&edit).expect("the edit is not refused");
+        keys.push(type_one(&mut ledger, key, start..cursor, &replacement));
         cursor = start + replacement.len();
-        let read = read(&mut ledger);
-        let text = ledger.text().to_vec();
-        keys.push(Typed { key, text, read });
     }
     keys
+}
+
+/// Types letters one after the other over the byte at a place.
+pub fn typed_over(grammar: &Grammar, text: &str, place: usize, letters: &str) -> Vec<Typed> {
+    let mut ledger = Ledger::open(grammar, text.len(), text.as_bytes());
+    read(&mut ledger);
+    let letter = |key: char| type_one(&mut ledger, key, place..place + 1, &key.to_string());
+    letters.chars().map(letter).collect()
+}
+
+fn type_one(ledger: &mut Ledger<'_>, key: char, bytes: Range<usize>, replacement: &str) -> Typed {
+    let edit = Call::Edit {
+        start: bytes.start,
+        end: bytes.end,
+        replacement: replacement.into(),
+    };
+    ledger.call(&edit).expect("the edit is not refused");
+    let read = read(ledger);
+    let text = ledger.text().to_vec();
+    Typed { key, text, read }
 }
 
 pub fn first_reading(grammar: &Grammar, text: &[u8]) -> SheetReading {

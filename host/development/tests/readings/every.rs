@@ -1,4 +1,4 @@
-//! Every small grammar with every short text over two letters.
+//! Every small grammar with every short text over two letters, and smaller ones over a letter in both cases.
 
 use super::subject::Subject;
 use super::tally::Tally;
@@ -6,23 +6,50 @@ use bannelgo_development::expr::Expr;
 use bannelgo_development::generate::each_grammar;
 use bannelgo_development::numbering::Numbering;
 
-/// The leaves besides calls.
-const LEAVES: [Expr; 3] = [Expr::Empty, Expr::AnyByte, Expr::Bytes(b'a', b'a')];
+/// The leaves besides calls, and the letters of the texts.
+struct Over {
+    leaves: &'static [Expr],
+    letters: &'static [u8],
+}
+
+const TWO_LETTERS: Over = Over {
+    leaves: &[Expr::Empty, Expr::AnyByte, Expr::Bytes(b'a', b'a')],
+    letters: b"ab",
+};
+
+const BOTH_CASES: Over = Over {
+    leaves: &[
+        Expr::AnyByte,
+        Expr::Bytes(b'a', b'a'),
+        Expr::Folded(b'a', b'a'),
+    ],
+    letters: b"aAb",
+};
 
 /// One rule of at most 6 nodes, texts of at most 4 letters.
 pub fn one_rule() -> Tally {
-    family("all of 1 rule, up to 6 nodes", 1, 6, 4)
+    family("all of 1 rule, up to 6 nodes", 1, 6, &TWO_LETTERS, 4)
 }
 
 /// Two rules of at most 6 nodes together, texts of at most 4 letters.
 pub fn two_rules() -> Tally {
-    family("all of 2 rules, up to 6 nodes", 2, 6, 4)
+    family("all of 2 rules, up to 6 nodes", 2, 6, &TWO_LETTERS, 4)
 }
 
-fn family(name: &'static str, rules: usize, nodes: usize, longest: usize) -> Tally {
+/// One rule of at most 5 nodes, texts of at most 4 letters.
+pub fn one_rule_in_both_cases() -> Tally {
+    family("all of 1 rule, both cases", 1, 5, &BOTH_CASES, 4)
+}
+
+/// Two rules of at most 5 nodes together, texts of at most 3 letters.
+pub fn two_rules_in_both_cases() -> Tally {
+    family("all of 2 rules, both cases", 2, 5, &BOTH_CASES, 3)
+}
+
+fn family(name: &'static str, rules: usize, nodes: usize, over: &Over, longest: usize) -> Tally {
     let mut tally = Tally::listed(name);
-    let texts = texts_and_more(longest);
-    each_grammar(rules, nodes, &LEAVES, &mut |grammar| {
+    let texts = texts_and_more(over.letters, longest);
+    each_grammar(rules, nodes, over.leaves, &mut |grammar| {
         let subject = Subject::of(grammar, Numbering::Preorder);
         let texts = if subject.accepted() {
             &texts
@@ -36,15 +63,16 @@ fn family(name: &'static str, rules: usize, nodes: usize, longest: usize) -> Tal
     tally
 }
 
-/// The length of each text over a and b, the shortest first, and its bytes with one letter more.
+/// The length of each text over these letters, the shortest first, and its bytes with one letter more.
 ///
 /// That letter is not lent. A reader that takes it for the text's is noticed.
-fn texts_and_more(longest: usize) -> Vec<(usize, Vec<u8>)> {
+fn texts_and_more(letters: &[u8], longest: usize) -> Vec<(usize, Vec<u8>)> {
+    let power = |place: usize| letters.len().pow(place as u32);
     let mut texts = vec![];
     for length in 0..=longest {
-        for number in 0..1u32 << length {
-            let letters = (0..length).map(|place| b'a' + (number >> place & 1) as u8);
-            texts.push((length, letters.chain([b'a']).collect()));
+        for number in 0..power(length) {
+            let text = (0..length).map(|place| letters[number / power(place) % letters.len()]);
+            texts.push((length, text.chain([b'a']).collect()));
         }
     }
     texts

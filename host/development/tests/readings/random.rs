@@ -4,7 +4,7 @@ use super::subject::Subject;
 use super::tally::Tally;
 use bannelgo_development::expr::Grammar;
 use bannelgo_development::generate::{
-    damage, fold_to_letters, guarded, some_letters, start_with_the_biggest, text_of,
+    damage, guarded, some_letters, start_with_the_biggest, text_of, to_letters,
 };
 use bannelgo_development::numbering::Numbering;
 use bannelgo_development::rng::Rng;
@@ -17,7 +17,7 @@ pub fn letters(seed: u64) -> Tally {
         let rules = 1 + rng.skewed(0, 4);
         let nodes = 3 * rules + rng.skewed(3, 6);
         let mut grammar = guarded(rng, rules, nodes);
-        fold_to_letters(&mut grammar);
+        to_letters(&mut grammar);
         start_with_the_biggest(&mut grammar);
         compare_texts(&mut tally, rng, &grammar, 30);
     }

@@ -3,7 +3,7 @@
 use super::subject::Subject;
 use super::tally::Tally;
 use bannelgo_development::generate::{
-    change_field, change_one_node, fold_to_letters, guarded, some_letters, wild, TASTES,
+    change_field, change_one_node, guarded, some_letters, to_letters, wild, TASTES,
 };
 use bannelgo_development::numbering::{words_of, Numbering};
 use bannelgo_development::rng::Rng;
@@ -42,7 +42,7 @@ pub fn careless(seed: u64) -> Tally {
             wild(rng, rules, nodes, &TASTES[round / 2 % TASTES.len()])
         };
         change_one_node(rng, &mut grammar);
-        fold_to_letters(&mut grammar);
+        to_letters(&mut grammar);
         let subject = Subject::of(&grammar, Numbering::any(rng));
         texts(&mut tally, rng, &subject);
     }

@@ -2,6 +2,7 @@
 
 use bannelgo::Reading;
 use bannelgo_development::expr::Grammar;
+use bannelgo_development::generate::unfolded;
 use bannelgo_development::numbering::{image_of, Numbering};
 use bannelgo_development::reference::{accepted_grammar, read};
 
@@ -30,5 +31,12 @@ impl Subject {
             Ok(grammar) => read(grammar, text, most_work),
             Err(number) => Some(Err(*number)),
         }
+    }
+
+    /// Whether the answer would be another one than this if no range had the fold bit.
+    pub fn folds_decide(&self, text: &[u8], most_work: u64, answer: Result<Reading, u64>) -> bool {
+        let plain = self.grammar.as_ref().ok().and_then(unfolded);
+        let plain = plain.and_then(|plain| read(&plain, text, most_work));
+        plain.is_some_and(|plain| plain != answer)
     }
 }

@@ -24,6 +24,10 @@ const ANSWERS: [(u64, &str); 12] = [
     (100, "14"),
 ];
 
+/// How many readings that fold bits decide are counted in each family, and how many there have to be.
+const MOST_FOLDS: u64 = 1_000;
+const LEAST_FOLDS: u64 = 5_000;
+
 /// The place of an answer in `ANSWERS`.
 fn place(answer: Result<Reading, u64>) -> usize {
     match answer {
@@ -44,6 +48,7 @@ pub struct Tally {
     most_work: u64,
     skipped: u64,
     counts: [u64; ANSWERS.len()],
+    folds: u64,
 }
 
 impl Tally {
@@ -55,6 +60,7 @@ impl Tally {
             most_work: MOST_WORK,
             skipped: 0,
             counts: [0; ANSWERS.len()],
+            folds: 0,
         }
     }
 
@@ -84,6 +90,9 @@ impl Tally {
             return;
         };
         self.counts[place(reference)] += 1;
+        if self.folds < MOST_FOLDS && subject.folds_decide(text, self.most_work, reference) {
+            self.folds += 1;
+        }
         let ours = plain_reading(&subject.image, text).map_err(|refusal| number_of(&refusal));
         if ours != reference {
             let (name, seed, pair) = (self.name, self.seed(), self.pairs());
@@ -139,6 +148,7 @@ pub fn settle(tallies: &[Tally]) {
             *sum += count;
         }
         total.skipped += tally.skipped;
+        total.folds += tally.folds;
     }
     print_table(tallies, &total);
     let pairs = total.pairs();
@@ -146,6 +156,11 @@ pub fn settle(tallies: &[Tally]) {
     for ((least, name), count) in ANSWERS.iter().zip(total.counts) {
         assert!(count >= *least, "{name} came up only {count} times");
     }
+    let folds = total.folds;
+    assert!(
+        folds >= LEAST_FOLDS,
+        "fold bits decided only {folds} readings"
+    );
 }
 
 /// Writes to the standard output itself, which the test harness shows also for a passed test.
@@ -157,12 +172,14 @@ fn print_table(tallies: &[Tally], total: &Tally) {
     for (_, name) in ANSWERS {
         text += &format!("{name:>8}");
     }
+    text += &format!("{:>8}", "fold");
     for tally in tallies.iter().chain([total]) {
         let (seed, pairs, skipped) = (tally.seed(), tally.pairs(), tally.skipped);
         text += &format!("\n{:<32}{seed:>5}{pairs:>9}{skipped:>8}", tally.name);
         for count in tally.counts {
             text += &format!("{count:>8}");
         }
+        text += &format!("{:>8}", tally.folds);
     }
     writeln!(std::io::stdout(), "{text}").expect("the standard output can be written");
 }

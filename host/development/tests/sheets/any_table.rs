@@ -8,6 +8,7 @@ use super::session::first_difference;
 use super::tally::Tally;
 use bannelgo_development::calls::{Answer, Call};
 use bannelgo_development::expr::Grammar;
+use bannelgo_development::generate::unfolded;
 use bannelgo_development::numbering::{image_of, Numbering};
 use bannelgo_development::reference::lent::Loan;
 use bannelgo_development::reference::{lent_listing, lent_reading, Number};
@@ -45,8 +46,12 @@ impl<'a> AnyTable<'a> {
         let left = lent.left();
         let fences = lent.fences_stand();
         assert!(fences, "a fence is down\n{}", self.story(call, &before));
+        self.tally.count_case(call, &before.buffer[..before.n]);
         match expected(self.grammar, &mut self.loan, call) {
             Some(answer) => {
+                let grammar = self.grammar;
+                self.tally
+                    .count_fold(|| folds_decide(grammar, &before, call, &answer));
                 let expected = fields_of(&answer);
                 self.tally.count_call(call, expected);
                 let rows = lent.rows_with(&row_words(&answer));
@@ -80,6 +85,18 @@ impl<'a> AnyTable<'a> {
         let lent = format!("buffer \"{text}\", n {n}, words {}", words.join(" "));
         format!("{place}\n  {:?}\n  {call}\n  {lent}", self.grammar)
     }
+}
+
+/// Whether the call would have another answer than this if no range had the fold bit.
+fn folds_decide(
+    grammar: &Grammar,
+    before: &Loan,
+    call: &Call,
+    answer: &Result<Answer, Number>,
+) -> bool {
+    let plain = unfolded(grammar);
+    let plain = plain.and_then(|plain| expected(&plain, &mut before.clone(), call));
+    plain.is_some_and(|plain| plain != *answer)
 }
 
 /// What the paper says of a call, and does with the loan; nothing for one that is free.

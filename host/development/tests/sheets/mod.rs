@@ -3,6 +3,7 @@
 pub mod answers;
 pub mod any_table;
 pub mod bad_loans;
+pub mod cases;
 pub mod deep;
 pub mod every;
 pub mod fence;

@@ -6,7 +6,7 @@ use bannelgo_development::calls::Call;
 use bannelgo_development::expr::Grammar;
 use bannelgo_development::gap_sheet::{sheet, sheet_of_days, sheet_of_lines};
 use bannelgo_development::gap_text::{keys, long_sheet, long_sheet_of_days, PLANNERS_SHEET};
-use bannelgo_development::generate::damage;
+use bannelgo_development::generate::{damage, CASE};
 use bannelgo_development::rng::Rng;
 
 pub fn sheets(seed: u64) -> Tally {
@@ -27,7 +27,8 @@ pub fn sheets(seed: u64) -> Tally {
     tally
 }
 
-/// Types up to 40 keys, with a reading or listing after each and now and then a key that deletes.
+/// Types up to 40 keys, with a reading or listing after each and now and then a key that deletes or changes
+/// the case of a letter.
 fn typing(tally: &mut Tally, rng: &mut Rng, grammars: &[Grammar], text: &[u8]) {
     let cap = text.len() + rng.between(0, 50);
     let grammar = rng.pick(grammars);
@@ -39,6 +40,9 @@ fn typing(tally: &mut Tally, rng: &mut Rng, grammars: &[Grammar], text: &[u8]) {
         if cursor > 0 && (full || rng.one_in(8)) {
             session.edit(cursor - 1, cursor, b"");
             cursor -= 1;
+        } else if cursor > 0 && rng.one_in(8) {
+            let before = session.ledger.text()[cursor - 1];
+            session.edit(cursor - 1, cursor, &[before ^ CASE]);
         } else {
             let refused = session.edit(cursor, cursor, &[key]).number != 0;
             cursor += usize::from(!refused);

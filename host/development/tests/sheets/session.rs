@@ -11,8 +11,9 @@ use super::tally::Tally;
 use bannelgo::raw::Fields;
 use bannelgo_development::calls::Call;
 use bannelgo_development::expr::Grammar;
-use bannelgo_development::generate::letter;
+use bannelgo_development::generate::{letter, unfolded};
 use bannelgo_development::numbering::{image_of, Numbering};
+use bannelgo_development::reference;
 use bannelgo_development::reference::ledger::Ledger;
 use bannelgo_development::reference::lent::Loan;
 use bannelgo_development::rng::Rng;
@@ -65,10 +66,15 @@ impl<'a> Session<'a> {
 
     /// Makes a call in both ways.
     pub fn call(&mut self, call: Call) -> Fields {
+        self.tally.count_case(&call, self.ledger.text());
         let fields = self.lent.call(&self.image, &call);
         let answer = self.ledger.call(&call);
         let expected = fields_of(&answer);
         self.tally.count_call(&call, expected);
+        if let Call::Read | Call::List { .. } = call {
+            let (grammar, text) = (self.grammar, self.ledger.text());
+            self.tally.count_fold(|| folds_decide(grammar, text));
+        }
         self.calls.push(call);
         self.compare("call", fields, expected, &row_words(&answer));
         fields
@@ -134,6 +140,12 @@ impl<'a> Session<'a> {
         }
         story
     }
+}
+
+/// Whether the text's reading would be another one if no range had the fold bit.
+fn folds_decide(grammar: &Grammar, text: &[u8]) -> bool {
+    let read = |grammar: &Grammar| reference::read(grammar, text, u64::MAX);
+    unfolded(grammar).is_some_and(|plain| read(&plain) != read(grammar))
 }
 
 /// The text, or its length where it is long.

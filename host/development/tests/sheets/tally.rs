@@ -5,16 +5,22 @@ use bannelgo_development::calls::Call;
 use std::io::Write;
 
 /// The kinds of answer: an open, an edit, a look-up, the outcomes of a reading, the refusals, a listing
-/// with rows and one without, and a reading and a listing that the paper leaves free.
-const ANSWERS: [&str; 24] = [
+/// with rows and one without, and a reading and a listing that the paper leaves free. Beside the answers two
+/// more are counted: readings and listings that fold bits decide, and edits that change only cases.
+const ANSWERS: [&str; 26] = [
     "open", "edit", "word", "whole", "part", "none", "1", "2", "3", "4", "5", "6", "7", "8", "9",
-    "10", "11", "12", "14", "15", "rows", "0 rows", "free", "free l",
+    "10", "11", "12", "14", "15", "rows", "0 rows", "free", "free l", "fold", "case",
 ];
 
 const ROWS: usize = 20;
 const NO_ROWS: usize = 21;
 const FREE: usize = 22;
 const FREE_LISTING: usize = 23;
+const FOLD: usize = 24;
+const CASE: usize = 25;
+
+/// How many readings and listings that fold bits decide are counted in each family.
+const MOST_FOLDS: u64 = 1_000;
 
 /// The counts of one family.
 pub struct Tally {
@@ -72,6 +78,29 @@ impl Tally {
             Call::List { .. } => FREE_LISTING,
             _ => FREE,
         });
+    }
+
+    /// Counts a reading or a listing where fold bits decide it, which is asked until enough are counted.
+    pub fn count_fold(&mut self, folds_decide: impl FnOnce() -> bool) {
+        if self.counts[FOLD] < MOST_FOLDS && folds_decide() {
+            self.count(FOLD);
+        }
+    }
+
+    /// Counts an edit of a text where it changes only the cases of letters.
+    pub fn count_case(&mut self, call: &Call, text: &[u8]) {
+        let Call::Edit {
+            start,
+            end,
+            replacement,
+        } = call
+        else {
+            return;
+        };
+        let only_cases = |old: &[u8]| old != replacement && old.eq_ignore_ascii_case(replacement);
+        if text.get(*start..*end).is_some_and(only_cases) {
+            self.count(CASE);
+        }
     }
 
     fn count(&mut self, place: usize) {

@@ -3,7 +3,7 @@
 use super::tally::Tally;
 use bannelgo_development::expr::Expr;
 use bannelgo_development::generate::each_grammar;
-use bannelgo_development::image_words::{node_word, ImageWords};
+use bannelgo_development::image_words::{node_word, ImageWords, FOLD};
 use bannelgo_development::numbering::{image_of, Numbering};
 
 /// One rule and one node, with lawful and unlawful values in every field.
@@ -20,8 +20,8 @@ pub fn one_node() -> Tally {
     ] {
         for kind in 0..16 {
             for (a, b) in pairs(&fields, &fields) {
-                for zero in [0, 1, 8] {
-                    let word = node_word(kind, a, b) | zero << 24;
+                for zero_and_fold in 0..16 {
+                    let word = node_word(kind, a, b) | zero_and_fold << 24;
                     tally.compare(&ImageWords::new(start, vec![root], vec![word]).to_bytes());
                 }
             }
@@ -30,7 +30,7 @@ pub fn one_node() -> Tally {
     tally
 }
 
-/// Two nodes with kinds 0 to 9 and fields 0 to 2, under one rule and under two.
+/// Two nodes with kinds 0 to 9 and fields 0 to 2, ranges also with the fold bit, under one rule and under two.
 pub fn two_nodes() -> Tally {
     let mut tally = Tally::listed("1 or 2 rules, 2 nodes");
     let fields = [0, 1, 2];
@@ -38,6 +38,7 @@ pub fn two_nodes() -> Tally {
     for kind in 0..10 {
         words.extend(pairs(&fields, &fields).map(|(a, b)| node_word(kind, a, b)));
     }
+    words.extend(pairs(&fields, &fields).map(|(a, b)| node_word(2, a, b) | FOLD));
     let roots: [&[u16]; 7] = [&[0], &[1], &[2], &[0, 0], &[0, 1], &[1, 0], &[1, 1]];
     for roots in roots {
         for (first, second) in pairs(&words, &words) {
@@ -76,13 +77,14 @@ pub fn small_grammars() -> Tally {
     tally
 }
 
-/// Gives `visit` every list of lawful node words; ranges of bytes are left out.
+/// Gives `visit` every list of lawful node words; the only range is one with the fold bit.
 fn each_lawful(nodes: u32, rules: u32, words: &mut Vec<u32>, visit: &mut impl FnMut(&[u32])) {
     let number = words.len() as u32;
     if number == nodes {
         return visit(words);
     }
-    let mut choices = vec![node_word(0, 0, 0), node_word(1, 0, 0)];
+    let letter = node_word(2, 0x61, 0x61) | FOLD;
+    let mut choices = vec![node_word(0, 0, 0), node_word(1, 0, 0), letter];
     choices.extend((0..rules).map(|rule| node_word(7, rule, 0)));
     for a in number + 1..nodes {
         choices.extend([node_word(5, a, 0), node_word(6, a, 0)]);

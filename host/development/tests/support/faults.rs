@@ -54,11 +54,12 @@ fn is_so(image: &[u8], number: u64, fault: &Fault) -> bool {
         }
         (4, Fault::NodeWord { node, why }) => {
             let word = 32 + 16 * rules_now() + 32 * node;
-            let [kind, zero] = [0, 4].map(|first| field(word + first, 4));
+            let kind = field(word, 4);
+            let [zero, fold] = [(4, 3), (7, 1)].map(|(first, count)| field(word + first, count));
             let [a, b] = [8, 20].map(|first| field(word + first, 12));
             let counts = (rules_now(), nodes_now());
             unlawful_word(image) == Some(Word::Node(*node))
-                && node_is_so(why, (kind, zero, a, b), *node, counts)
+                && node_is_so(why, (kind, [zero, fold], a, b), *node, counts)
         }
         (5, Fault::Occurrences { node, times }) => {
             occurrences(image, *node) == Some(*times) && *times != 1
@@ -74,7 +75,7 @@ const ZERO_BITS: &str = "its zero bits are not 0";
 /// Whether this is wrong with a node's word, by its fields; of two wrong children the first is meant.
 fn node_is_so(
     why: &str,
-    (kind, zero, a, b): (usize, usize, usize, usize),
+    (kind, [zero, fold], a, b): (usize, [usize; 2], usize, usize),
     node: usize,
     (rules, nodes): (usize, usize),
 ) -> bool {
@@ -87,6 +88,7 @@ fn node_is_so(
     let first_wrong = children.into_iter().find(wrong);
     match why {
         ZERO_BITS => zero != 0,
+        "it has the fold bit and is no byte range" => fold != 0 && kind != 2,
         "its kind is above 7" => kind > 7,
         "a field that its kind does not use is not 0" => match kind {
             0 | 1 => a != 0 || b != 0,

@@ -13,6 +13,8 @@ pub struct Tally {
     name: &'static str,
     seed: Option<u64>,
     counts: [u64; 8],
+    /// The accepted images in which a node has the fold bit.
+    folded: u64,
     mismatches: u64,
     first_mismatch: Option<String>,
 }
@@ -24,6 +26,7 @@ impl Tally {
             name,
             seed: None,
             counts: [0; 8],
+            folded: 0,
             mismatches: 0,
             first_mismatch: None,
         }
@@ -43,6 +46,7 @@ impl Tally {
         let ours = check_image(image);
         let reference = reference::check(image);
         self.counts[reference as usize] += 1;
+        self.folded += u64::from(reference == 0 && has_fold(image));
         if ours != reference {
             self.mismatches += 1;
             self.first_mismatch
@@ -69,6 +73,13 @@ impl Tally {
     }
 }
 
+/// Whether a node of an image that passes question 3 has the fold bit.
+fn has_fold(image: &[u8]) -> bool {
+    let rules = usize::from(image[0] & 0xF) << 4 | usize::from(image[1] >> 4);
+    let mut words = image[4 + 2 * rules..].chunks_exact(4);
+    words.any(|word| word[0] & 1 == 1)
+}
+
 fn mismatch(image: &[u8], ours: u64, reference: u64) -> String {
     let hex: Vec<String> = image.iter().map(|byte| format!("{byte:02x}")).collect();
     format!(
@@ -85,6 +96,7 @@ pub fn settle(tallies: &[Tally]) {
         for (sum, count) in total.counts.iter_mut().zip(tally.counts) {
             *sum += count;
         }
+        total.folded += tally.folded;
         total.mismatches += tally.mismatches;
     }
     print_table(tallies, &total);
@@ -98,6 +110,11 @@ pub fn settle(tallies: &[Tally]) {
             "number {number} came up only {count} times"
         );
     }
+    let folded = total.folded;
+    assert!(
+        folded >= 10_000,
+        "only {folded} accepted images with fold bits"
+    );
 }
 
 fn failure(tally: &Tally) -> Option<String> {
@@ -114,6 +131,7 @@ fn print_table(tallies: &[Tally], total: &Tally) {
     for number in 0..8 {
         text += &format!("{number:>8}");
     }
+    text += &format!("{:>8}", "folded");
     for tally in tallies.iter().chain([total]) {
         let seed = tally.seed.map_or("-".to_string(), |seed| seed.to_string());
         let images: u64 = tally.counts.iter().sum();
@@ -121,6 +139,7 @@ fn print_table(tallies: &[Tally], total: &Tally) {
         for count in tally.counts {
             text += &format!("{count:>8}");
         }
+        text += &format!("{:>8}", tally.folded);
     }
     writeln!(std::io::stdout(), "{text}").expect("the standard output can be written");
 }

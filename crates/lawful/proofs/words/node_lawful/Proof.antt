@@ -1,4 +1,4 @@
-use Rattle.lawful.proofs.Told.{told-of}
+use Rattle.lawful.proofs.Told.{not-so, said-no, said-yes, told-of}
 use native.Mathlib.Omega.{arith}
 use borrow.Author.Needs.{needs}
 use Rattle.lawful.proofs.words.node_lawful.Statement.{statement}
@@ -7,8 +7,14 @@ use Rattle.lawful.proofs.words.node_lawful.Tie as tie
 node-at-requires : tie.Need-node-at-requires
 node-at-requires c κs = search needs
 
+zero-bits-lawful-requires : tie.Need-zero-bits-lawful-requires
+zero-bits-lawful-requires c κs = search needs
+
 returns : tie.Need-returns
-returns c = search needs
+returns c =
+    not-so
+    (λ h. said-no (c .before .zero-bits-lawful .ensures) (c .if1 .taken)
+    (record { all-zero = λ other. omega (arith, h .zero-bits (λ e. other (omega arith))); all-but-fold = λ e. omega (arith, h .zero-bits-2 (omega arith)) }))
 
 range-lawful-requires : tie.Need-range-lawful-requires
 range-lawful-requires c κs = search needs
@@ -27,22 +33,34 @@ only-child-lawful-requires c κs = search needs
 
 returns-2 : tie.Need-returns-2
 returns-2 c =
-    told-of (c .range-lawful .ensures) (λ p. search needs)
+    told-of (c .range-lawful .ensures) (λ p. let else1 : tie.Else1 = search in
+    let z = said-yes (else1 .before .zero-bits-lawful .ensures) (else1 .if1 .left) in
+    let f = z .all-but-fold (omega arith) in
+    search needs)
     (λ h. record { rising = omega (arith, h .byte-range (omega arith)); a-byte = omega (arith, h .byte-range (omega arith)) })
 
 returns-3 : tie.Need-returns-3
 returns-3 c =
-    told-of (c .call-lawful .ensures) (λ p. search needs)
+    told-of (c .call-lawful .ensures) (λ p. let else1 : tie.Else1 = search in
+    let z = said-yes (else1 .before .zero-bits-lawful .ensures) (else1 .if1 .left) in
+    let f = z .all-zero (λ e. omega arith) in
+    search needs)
     (λ h. record { a-rule = omega (arith, h .called (omega arith)); b-zero = omega (arith, h .unused-B-5-to-7 (omega arith)) })
 
 returns-4 : tie.Need-returns-4
 returns-4 c =
-    told-of (c .fields-unused .ensures) (λ p. search needs)
+    told-of (c .fields-unused .ensures) (λ p. let else1 : tie.Else1 = search in
+    let z = said-yes (else1 .before .zero-bits-lawful .ensures) (else1 .if1 .left) in
+    let f = z .all-zero (λ e. omega arith) in
+    search needs)
     (λ h. record { a-zero = omega (arith, h .unused-A (omega arith)); b-zero = omega (arith, h .unused-B (omega arith)) })
 
 returns-5 : tie.Need-returns-5
 returns-5 c =
-    told-of (c .children-lawful .ensures) (λ p. search needs)
+    told-of (c .children-lawful .ensures) (λ p. let else1 : tie.Else1 = search in
+    let z = said-yes (else1 .before .zero-bits-lawful .ensures) (else1 .if1 .left) in
+    let f = z .all-zero (λ e. omega arith) in
+    search needs)
     (λ h. let k = h .child-A (omega arith) (omega arith) in
     let l = h .child-B (omega arith) (omega arith) in
     record {
@@ -52,7 +70,10 @@ returns-5 c =
 
 returns-6 : tie.Need-returns-6
 returns-6 c =
-    told-of (c .only-child-lawful .ensures) (λ p. search needs)
+    told-of (c .only-child-lawful .ensures) (λ p. let else1 : tie.Else1 = search in
+    let z = said-yes (else1 .before .zero-bits-lawful .ensures) (else1 .if1 .left) in
+    let f = z .all-zero (λ e. omega arith) in
+    search needs)
     (λ h. let k = h .child-A (omega arith) (omega arith) in
     record { child = record { above = omega arith; in-range = omega arith }; b-zero = omega (arith, h .unused-B-5-to-7 (omega arith)) })
 
@@ -67,6 +88,7 @@ node-lawful-spec =
     tie.close
     (tie.spec
     node-at-requires
+    zero-bits-lawful-requires
     returns
     range-lawful-requires
     call-lawful-requires

@@ -1,7 +1,7 @@
 -- The cycle of the walk: each function answers, writes and counts as the walk of crate rows does. Each answer is a way of proofs/Paths
 -- or proofs/Rules. The measure is three times the allowance, a node below a part, a part below the kinds. Assumes nothing.
 use Rattle.listing.proofs.Paths.{sequence-first, sequence-ends, sequence-second-ends, sequence-second, sequence-both, not-stops, not-fails, not-matches, part-found, part-ends, part-missed, part-goes, choice-first, choice-failed, choice-second, Rounds, star-start, star-stops, star-last, star-found, star-still, star-more}
-use Rattle.listing.proofs.Rules.{rule-empty, rule-impossible, rule-failed, rule-in-text, rule-missed, rule-full, rule-stops, rule-goes, node-too-deep, node-goes, empty-goes, unlawful-goes, terminal-goes}
+use Rattle.listing.proofs.Rules.{rule-empty, rule-impossible, rule-failed, rule-in-text, rule-missed, rule-full, rule-stops, rule-goes, node-too-deep, node-goes, unlawful-goes, leaf-goes}
 use Rattle.packrat.proofs.Rules.{was-possible, was-impossible, past-7}
 use Rattle.packrat.proofs.LoadedRuns.{word-is}
 use Rattle.packrat.specs.Loaded.{rulesIn}
@@ -10,8 +10,8 @@ use Rattle.rows.proofs.Bounds.{node-bounded}
 use Rattle.records.specs.Words.{possible, recordOf}
 use Rattle.records.specs.Slots.{slotOf}
 use Rattle.records.specs.declared.Record.{Record}
-use Rattle.grammar.proofs.Nodes.{is-empty, is-any, is-range, is-sequence, is-choice, is-star, is-not, is-call, is-unlawful}
-use Rattle.grammar.specs.Image.{any, byteRange, star}
+use Rattle.grammar.proofs.Nodes.{is-sequence, is-choice, is-star, is-not, is-call, is-unlawful}
+use Rattle.grammar.specs.Image.{star}
 use lib.ListN.{length, getD}
 use mathlib.Core.Path.{_≡_, refl, sym, ap, _∙_}
 use borrow.Author.Tests.{not-true, not-false}
@@ -42,8 +42,7 @@ use Rattle.listing.proofs.walk.walk_star.Reads as walk-star
 use Rattle.listing.proofs.walk.walk_star.Kinds as walk-star-kinds
 use Rattle.listing.proofs.walk.+walk_choice+walk_node+walk_not+walk_part+walk_rule+walk_sequence+walk_star.Lts-walk_star as walk-star-lts
 use Rattle.image.proofs.node_of.Reads as node-of-reads
-use Rattle.listing.proofs.bytes.any_byte.Reads as any-byte-reads
-use Rattle.listing.proofs.bytes.byte_between.Reads as byte-between-reads
+use Rattle.listing.proofs.bytes.leaf.Reads as leaf-reads
 use Rattle.listing.proofs.slots.put.Reads as put-reads
 use Rattle.listing.proofs.slots.row_word.Reads as row-word-reads
 use Rattle.listing.proofs.slots.touched.Reads as touched-reads
@@ -142,7 +141,7 @@ abbrev walk-choice-place : (walk-choice-lts.Claims → In 7 walk-choice-kinds.ps
 walk-choice-place place t = place (walk-choice-claims t) (walk-choice-at t) walk-choice.Post
 
 abbrev walk-node-claims : ℕ → walk-node-lts.Claims
-walk-node-claims t = (node-of-reads.Asked, node-of-reads.Learnt, any-byte-reads.Asked, any-byte-reads.Learnt, byte-between-reads.Asked, byte-between-reads.Learnt, walk-sequence-below t, walk-sequence.Post, walk-choice-below t, walk-choice.Post, walk-star-below t, walk-star.Post, walk-not-below t, walk-not.Post, walk-rule-below t, walk-rule.Post)
+walk-node-claims t = (node-of-reads.Asked, node-of-reads.Learnt, leaf-reads.Asked, leaf-reads.Learnt, walk-sequence-below t, walk-sequence.Post, walk-choice-below t, walk-choice.Post, walk-star-below t, walk-star.Post, walk-not-below t, walk-not.Post, walk-rule-below t, walk-rule.Post)
 
 abbrev walk-node-place : (walk-node-lts.Claims → In 7 walk-node-kinds.ps → Out 7 walk-node-kinds.ps walk-node-kinds.r → Type 0) → ℕ → Type 0
 walk-node-place place t = place (walk-node-claims t) (walk-node-at t) walk-node.Post
@@ -238,11 +237,17 @@ walk-node-element-copy-out-node-of t c =
 walk-node-node-of-requires : (t : ℕ) → walk-node-lts.Need-node-of-requires (walk-node-claims t) (walk-node-at t) walk-node.Post
 walk-node-node-of-requires t c κs = search needs
 
-walk-node-any-byte-requires : (t : ℕ) → walk-node-lts.Need-any-byte-requires (walk-node-claims t) (walk-node-at t) walk-node.Post
-walk-node-any-byte-requires t c κs = search needs
+walk-node-leaf-requires : (t : ℕ) → walk-node-lts.Need-leaf-requires (walk-node-claims t) (walk-node-at t) walk-node.Post
+walk-node-leaf-requires t c κs = search needs
 
-walk-node-byte-between-requires : (t : ℕ) → walk-node-lts.Need-byte-between-requires (walk-node-claims t) (walk-node-at t) walk-node.Post
-walk-node-byte-between-requires t c κs = search needs
+walk-node-returns-2 : (t : ℕ) → walk-node-lts.Need-returns-2 (walk-node-claims t) (walk-node-at t) walk-node.Post
+walk-node-returns-2 t c =
+    let then2 : walk-node-place walk-node-lts.Then2 t = search in
+    let after-node-of : walk-node-place walk-node-lts.After-node-of t = search in
+    let else1 : walk-node-place walk-node-lts.Else1 t = search in
+    let start : walk-node-place walk-node-lts.Start t = search in
+    let given = start .args in
+    leaf-goes (given .room) (given .words .now) (given .text .now .now) (given .table .now .now) (given .node) (given .at) (given .lo) (given .hi) (given .depth) (given .count .now) (given .rows .now) (given .left) (else1 .if1 .left) (after-node-of .node-of .result) (after-node-of .node-of .ensures) (then2 .if2 .taken) (c .leaf .ensures)
 
 walk-node-sub-walk-sequence : (t : ℕ) → walk-node-lts.Need-sub-walk-sequence (walk-node-claims t) (walk-node-at t) walk-node.Post
 walk-node-sub-walk-sequence t c =
@@ -315,36 +320,12 @@ walk-node-add-result-2 t c = search needs
 walk-node-add-result-3 : (t : ℕ) → walk-node-lts.Need-add-result-3 (walk-node-claims t) (walk-node-at t) walk-node.Post
 walk-node-add-result-3 t c = search needs
 
-walk-node-returns-2 : (t : ℕ) → walk-node-lts.Need-returns-2 (walk-node-claims t) (walk-node-at t) walk-node.Post
-walk-node-returns-2 t c =
-    let after-node-of : walk-node-place walk-node-lts.After-node-of t = search in
-    let else1 : walk-node-place walk-node-lts.Else1 t = search in
-    let start : walk-node-place walk-node-lts.Start t = search in
-    let given = start .args in
-    node-goes (given .room) (given .words .now) (given .text .now .now) (given .table .now .now) (given .node) (given .at) (given .lo) (given .hi) (given .depth) (given .count .now) (given .rows .now) (given .left) (else1 .if1 .left) (word-is (getD (given .words .now) (given .node) 0) (after-node-of .node-of .ensures) (is-empty _ (omega arith))) (empty-goes (given .room) (given .words .now) (given .text .now .now) (given .table .now .now) (given .node) (given .at) (given .lo) (given .hi) (given .depth) (given .count .now) (given .rows .now) (given .left - 1))
-
-walk-node-returns-3 : (t : ℕ) → walk-node-lts.Need-returns-3 (walk-node-claims t) (walk-node-at t) walk-node.Post
-walk-node-returns-3 t c =
-    let after-node-of : walk-node-place walk-node-lts.After-node-of t = search in
-    let else1 : walk-node-place walk-node-lts.Else1 t = search in
-    let start : walk-node-place walk-node-lts.Start t = search in
-    let given = start .args in
-    node-goes (given .room) (given .words .now) (given .text .now .now) (given .table .now .now) (given .node) (given .at) (given .lo) (given .hi) (given .depth) (given .count .now) (given .rows .now) (given .left) (else1 .if1 .left) (word-is (getD (given .words .now) (given .node) 0) (after-node-of .node-of .ensures) (is-any _ (omega arith))) (terminal-goes (given .room) (given .words .now) (given .text .now .now) (given .table .now .now) (given .node) (given .at) (given .lo) (given .hi) (given .depth) (given .count .now) (given .rows .now) (given .left - 1) any (c .any-byte .ensures))
-
-walk-node-returns-4 : (t : ℕ) → walk-node-lts.Need-returns-4 (walk-node-claims t) (walk-node-at t) walk-node.Post
-walk-node-returns-4 t c =
-    let after-node-of : walk-node-place walk-node-lts.After-node-of t = search in
-    let else1 : walk-node-place walk-node-lts.Else1 t = search in
-    let start : walk-node-place walk-node-lts.Start t = search in
-    let given = start .args in
-    node-goes (given .room) (given .words .now) (given .text .now .now) (given .table .now .now) (given .node) (given .at) (given .lo) (given .hi) (given .depth) (given .count .now) (given .rows .now) (given .left) (else1 .if1 .left) (word-is (getD (given .words .now) (given .node) 0) (after-node-of .node-of .ensures) (is-range _ (omega arith))) (terminal-goes (given .room) (given .words .now) (given .text .now .now) (given .table .now .now) (given .node) (given .at) (given .lo) (given .hi) (given .depth) (given .count .now) (given .rows .now) (given .left - 1) (byteRange (after-node-of .node-of .result)) (c .byte-between .ensures))
-
 walk-node-same-length : (t : ℕ) → walk-node-lts.Need-same-length (walk-node-claims t) (walk-node-at t) walk-node.Post
 walk-node-same-length t c = search needs
 
-walk-node-returns-5 : (t : ℕ) → walk-node-lts.Need-returns-5 (walk-node-claims t) (walk-node-at t) walk-node.Post
+walk-node-returns-3 : (t : ℕ) → walk-node-lts.Need-returns-3 (walk-node-claims t) (walk-node-at t) walk-node.Post
 unfolding kindV
-walk-node-returns-5 t c =
+walk-node-returns-3 t c =
     let after-walk-sequence : walk-node-place walk-node-lts.After-walk-sequence t = search in
     let after-node-of : walk-node-place walk-node-lts.After-node-of t = search in
     let else1 : walk-node-place walk-node-lts.Else1 t = search in
@@ -355,9 +336,9 @@ walk-node-returns-5 t c =
 walk-node-same-length-2 : (t : ℕ) → walk-node-lts.Need-same-length-2 (walk-node-claims t) (walk-node-at t) walk-node.Post
 walk-node-same-length-2 t c = search needs
 
-walk-node-returns-6 : (t : ℕ) → walk-node-lts.Need-returns-6 (walk-node-claims t) (walk-node-at t) walk-node.Post
+walk-node-returns-4 : (t : ℕ) → walk-node-lts.Need-returns-4 (walk-node-claims t) (walk-node-at t) walk-node.Post
 unfolding kindV
-walk-node-returns-6 t c =
+walk-node-returns-4 t c =
     let after-walk-choice : walk-node-place walk-node-lts.After-walk-choice t = search in
     let after-node-of : walk-node-place walk-node-lts.After-node-of t = search in
     let else1 : walk-node-place walk-node-lts.Else1 t = search in
@@ -368,9 +349,9 @@ walk-node-returns-6 t c =
 walk-node-same-length-3 : (t : ℕ) → walk-node-lts.Need-same-length-3 (walk-node-claims t) (walk-node-at t) walk-node.Post
 walk-node-same-length-3 t c = search needs
 
-walk-node-returns-7 : (t : ℕ) → walk-node-lts.Need-returns-7 (walk-node-claims t) (walk-node-at t) walk-node.Post
+walk-node-returns-5 : (t : ℕ) → walk-node-lts.Need-returns-5 (walk-node-claims t) (walk-node-at t) walk-node.Post
 unfolding kindV
-walk-node-returns-7 t c =
+walk-node-returns-5 t c =
     let after-walk-star : walk-node-place walk-node-lts.After-walk-star t = search in
     let after-node-of : walk-node-place walk-node-lts.After-node-of t = search in
     let else1 : walk-node-place walk-node-lts.Else1 t = search in
@@ -381,9 +362,9 @@ walk-node-returns-7 t c =
 walk-node-same-length-4 : (t : ℕ) → walk-node-lts.Need-same-length-4 (walk-node-claims t) (walk-node-at t) walk-node.Post
 walk-node-same-length-4 t c = search needs
 
-walk-node-returns-8 : (t : ℕ) → walk-node-lts.Need-returns-8 (walk-node-claims t) (walk-node-at t) walk-node.Post
+walk-node-returns-6 : (t : ℕ) → walk-node-lts.Need-returns-6 (walk-node-claims t) (walk-node-at t) walk-node.Post
 unfolding kindV
-walk-node-returns-8 t c =
+walk-node-returns-6 t c =
     let after-walk-not : walk-node-place walk-node-lts.After-walk-not t = search in
     let after-node-of : walk-node-place walk-node-lts.After-node-of t = search in
     let else1 : walk-node-place walk-node-lts.Else1 t = search in
@@ -394,9 +375,9 @@ walk-node-returns-8 t c =
 walk-node-same-length-5 : (t : ℕ) → walk-node-lts.Need-same-length-5 (walk-node-claims t) (walk-node-at t) walk-node.Post
 walk-node-same-length-5 t c = search needs
 
-walk-node-returns-9 : (t : ℕ) → walk-node-lts.Need-returns-9 (walk-node-claims t) (walk-node-at t) walk-node.Post
+walk-node-returns-7 : (t : ℕ) → walk-node-lts.Need-returns-7 (walk-node-claims t) (walk-node-at t) walk-node.Post
 unfolding kindV
-walk-node-returns-9 t c =
+walk-node-returns-7 t c =
     let after-walk-rule : walk-node-place walk-node-lts.After-walk-rule t = search in
     let after-node-of : walk-node-place walk-node-lts.After-node-of t = search in
     let else1 : walk-node-place walk-node-lts.Else1 t = search in
@@ -404,24 +385,30 @@ walk-node-returns-9 t c =
     let given = start .args in
     node-goes (given .room) (given .words .now) (given .text .now .now) (given .table .now .now) (given .node) (given .at) (given .lo) (given .hi) (given .depth) (given .count .now) (given .rows .now) (given .left) (else1 .if1 .left) (word-is (getD (given .words .now) (given .node) 0) (after-node-of .node-of .ensures) (is-call _ (omega arith))) (rw (after-node-of .node-of .ensures .its-b) at (after-walk-rule .walk-rule .ensures))
 
-walk-node-returns-10 : (t : ℕ) → walk-node-lts.Need-returns-10 (walk-node-claims t) (walk-node-at t) walk-node.Post
-walk-node-returns-10 t c =
+walk-node-returns-8 : (t : ℕ) → walk-node-lts.Need-returns-8 (walk-node-claims t) (walk-node-at t) walk-node.Post
+walk-node-returns-8 t c =
     let at-match-rest : walk-node-place walk-node-lts.At-match-rest t = search in
     let after-node-of : walk-node-place walk-node-lts.After-node-of t = search in
     let else1 : walk-node-place walk-node-lts.Else1 t = search in
     let start : walk-node-place walk-node-lts.Start t = search in
     let given = start .args in
-    let k = past-7 (after-node-of .node-of .result .kind) (at-match-rest .match .rest .0 .0 .0 .0 .0 .0 .0 .1) (at-match-rest .match .rest .0 .0 .0 .0 .0 .0 .1) (at-match-rest .match .rest .0 .0 .0 .0 .0 .1) (at-match-rest .match .rest .0 .0 .0 .0 .1) (at-match-rest .match .rest .0 .0 .0 .1) (at-match-rest .match .rest .0 .0 .1) (at-match-rest .match .rest .0 .1) (at-match-rest .match .rest .1) in
+    let else2 : walk-node-place walk-node-lts.Else2 t = search in
+    let rest = at-match-rest .match .rest in
+    let inner = else2 .if2 .left in
+    let k = past-7 (after-node-of .node-of .result .kind) (λ e. omega arith) (λ e. omega arith) (λ e. omega arith) (rest .0 .0 .0 .0 .1) (rest .0 .0 .0 .1) (rest .0 .0 .1) (rest .0 .1) (rest .1) in
     node-goes (given .room) (given .words .now) (given .text .now .now) (given .table .now .now) (given .node) (given .at) (given .lo) (given .hi) (given .depth) (given .count .now) (given .rows .now) (given .left) (else1 .if1 .left) (word-is (getD (given .words .now) (given .node) 0) (after-node-of .node-of .ensures) (is-unlawful _ k)) (unlawful-goes (given .room) (given .words .now) (given .text .now .now) (given .table .now .now) (given .node) (given .at) (given .lo) (given .hi) (given .depth) (given .count .now) (given .rows .now) (given .left - 1))
 
-walk-node-returns-11 : (t : ℕ) → walk-node-lts.Need-returns-11 (walk-node-claims t) (walk-node-at t) walk-node.Post
-walk-node-returns-11 t c =
+walk-node-returns-9 : (t : ℕ) → walk-node-lts.Need-returns-9 (walk-node-claims t) (walk-node-at t) walk-node.Post
+walk-node-returns-9 t c =
     let at-match-rest : walk-node-place walk-node-lts.At-match-rest t = search in
     let after-node-of : walk-node-place walk-node-lts.After-node-of t = search in
     let else1 : walk-node-place walk-node-lts.Else1 t = search in
     let start : walk-node-place walk-node-lts.Start t = search in
     let given = start .args in
-    let k = past-7 (after-node-of .node-of .result .kind) (at-match-rest .match .rest .0 .0 .0 .0 .0 .0 .0 .1) (at-match-rest .match .rest .0 .0 .0 .0 .0 .0 .1) (at-match-rest .match .rest .0 .0 .0 .0 .0 .1) (at-match-rest .match .rest .0 .0 .0 .0 .1) (at-match-rest .match .rest .0 .0 .0 .1) (at-match-rest .match .rest .0 .0 .1) (at-match-rest .match .rest .0 .1) (at-match-rest .match .rest .1) in
+    let else2 : walk-node-place walk-node-lts.Else2 t = search in
+    let rest = at-match-rest .match .rest in
+    let inner = else2 .if2 .left in
+    let k = past-7 (after-node-of .node-of .result .kind) (λ e. omega arith) (λ e. omega arith) (λ e. omega arith) (rest .0 .0 .0 .0 .1) (rest .0 .0 .0 .1) (rest .0 .0 .1) (rest .0 .1) (rest .1) in
     node-goes (given .room) (given .words .now) (given .text .now .now) (given .table .now .now) (given .node) (given .at) (given .lo) (given .hi) (given .depth) (given .count .now) (given .rows .now) (given .left) (else1 .if1 .left) (word-is (getD (given .words .now) (given .node) 0) (after-node-of .node-of .ensures) (is-unlawful _ k)) (unlawful-goes (given .room) (given .words .now) (given .text .now .now) (given .table .now .now) (given .node) (given .at) (given .lo) (given .hi) (given .depth) (given .count .now) (given .rows .now) (given .left - 1))
 
 walk-not-end-of-requires : (t : ℕ) → walk-not-lts.Need-end-of-requires (walk-not-claims t) (walk-not-at t) walk-not.Post
@@ -1021,8 +1008,8 @@ pub +walk-choice+walk-node+walk-not+walk-part+walk-rule+walk-sequence+walk-star-
     (walk-node-mul-node-of t)
     (walk-node-element-copy-out-node-of t)
     (walk-node-node-of-requires t)
-    (walk-node-any-byte-requires t)
-    (walk-node-byte-between-requires t)
+    (walk-node-leaf-requires t)
+    (walk-node-returns-2 t)
     (walk-node-sub-walk-sequence t)
     (walk-node-walk-sequence-requires t)
     (walk-node-sub-walk-choice t)
@@ -1035,21 +1022,18 @@ pub +walk-choice+walk-node+walk-not+walk-part+walk-rule+walk-sequence+walk-star-
     (walk-node-walk-rule-requires t)
     (walk-node-add-result-2 t)
     (walk-node-add-result-3 t)
-    (walk-node-returns-2 t)
-    (walk-node-returns-3 t)
-    (walk-node-returns-4 t)
     (walk-node-same-length t)
-    (walk-node-returns-5 t)
+    (walk-node-returns-3 t)
     (walk-node-same-length-2 t)
-    (walk-node-returns-6 t)
+    (walk-node-returns-4 t)
     (walk-node-same-length-3 t)
-    (walk-node-returns-7 t)
+    (walk-node-returns-5 t)
     (walk-node-same-length-4 t)
-    (walk-node-returns-8 t)
+    (walk-node-returns-6 t)
     (walk-node-same-length-5 t)
-    (walk-node-returns-9 t)
-    (walk-node-returns-10 t)
-    (walk-node-returns-11 t))
+    (walk-node-returns-7 t)
+    (walk-node-returns-8 t)
+    (walk-node-returns-9 t))
     (λ t. walk-not-lts.spec (walk-not-claims t)
     (walk-not-at t)
     walk-not.Post

@@ -3,11 +3,11 @@
 use crate::compared::Compared;
 use crate::first::{expected, FirstReading};
 use crate::layout::heading;
-use crate::typing::{before_blank_line, type_line, Step, BACKSPACE};
+use crate::typing::{before_blank_line, line_at, type_keys, Step, Stroke, BACKSPACE};
 use crate::Shown;
 use bannelgo::Refusal;
-use bannelgo_development::gap_sheet::named_sheet;
-use bannelgo_development::gap_text::PLANNERS_SHEET;
+use bannelgo_development::gap_sheet::named_sheet_with_units;
+use bannelgo_development::gap_text::SHEET_WITH_UNITS;
 use std::io::{self, Write};
 
 /// A key, and the first reading of the text that it left.
@@ -18,9 +18,14 @@ pub struct Key {
 
 /// Types the line behind the third gap.
 pub fn typed_line(compared: &mut Compared) -> Result<Vec<Key>, Refusal> {
-    let grammar = named_sheet();
-    let text = PLANNERS_SHEET.as_bytes();
-    let steps = type_line(&grammar, text, before_blank_line(text, 0), compared)?;
+    let cursor = before_blank_line(SHEET_WITH_UNITS.as_bytes(), 0);
+    typed(line_at(cursor), compared)
+}
+
+/// Types keys into the planner's sheet.
+pub fn typed(strokes: Vec<Stroke>, compared: &mut Compared) -> Result<Vec<Key>, Refusal> {
+    let grammar = named_sheet_with_units();
+    let steps = type_keys(&grammar, SHEET_WITH_UNITS.as_bytes(), strokes, compared)?;
     let beside_first = |step: Step| {
         let first = FirstReading::of(&grammar, &step.text)?;
         let expected = expected(&grammar, &step.text);
@@ -38,6 +43,11 @@ pub fn show(out: &mut impl Write, keys: &[Key]) -> Shown {
          sheet is read after each key. The outcome is whole where the sheet matched to\n\
          its end, and none where it did not.\n"
     )?;
+    show_table(out, keys)
+}
+
+/// A line for each key.
+pub fn show_table(out: &mut impl Write, keys: &[Key]) -> Shown {
     writeln!(out, "{:28}pairs evaluated by", "")?;
     let (key, bytes, outcome) = ("key", "bytes", "outcome");
     let (this, first) = ("this key", "a first reading");
@@ -59,7 +69,7 @@ fn show_key(out: &mut impl Write, Key { step, first }: &Key) -> io::Result<()> {
     };
     let line = format!(
         "{:<11}{:>5}   {:<9}{:>8}{:>18}   {stopped}",
-        name(step.key),
+        name(step.stroke.key),
         step.text.len(),
         reading.outcome,
         step.read.evaluations,

@@ -4,6 +4,7 @@
 //! Every answer is compared with that of a ledger or a checker written apart. The exit status is 1
 //! where one of them differs.
 
+mod cases;
 mod compared;
 mod cost;
 mod first;
@@ -50,6 +51,7 @@ fn show(out: &mut impl Write, compared: &mut Compared) -> Shown {
     let line = keys::typed_line(compared)?;
     keys::show(out, &line)?;
     stopped::show(out, &line)?;
+    cases::show(out, compared)?;
     summary::show(out, compared)?;
     refusals::show(out, compared)?;
     images::show(out, compared)?;

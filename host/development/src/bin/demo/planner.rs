@@ -5,23 +5,24 @@ use crate::first::{expected, FirstReading};
 use crate::layout::{grouped, heading, numbered};
 use crate::Shown;
 use bannelgo::{Grammar, SheetReading};
-use bannelgo_development::gap_sheet::named_sheet;
-use bannelgo_development::gap_text::PLANNERS_SHEET;
+use bannelgo_development::gap_sheet::named_sheet_with_units;
+use bannelgo_development::gap_text::SHEET_WITH_UNITS;
 use std::io::Write;
 
 pub fn show(out: &mut impl Write, compared: &mut Compared) -> Shown {
-    let grammar = named_sheet();
+    let grammar = named_sheet_with_units();
     heading(out, "The sheet")?;
     writeln!(
         out,
         "A sheet is a text that is being typed. This one is a planner's, about gaps in\n\
-         what a meter recorded: a colour, from when to when, and the values in the gap.\n"
+         what a meter recorded: a colour, from when to when, the values in the gap, and\n\
+         their unit.\n"
     )?;
-    for (number, line) in (1..).zip(PLANNERS_SHEET.lines()) {
+    for (number, line) in (1..).zip(SHEET_WITH_UNITS.lines()) {
         writeln!(out, "{}", numbered(number, line))?;
     }
     writeln!(out, "\n{}", rules_in_words(&grammar))?;
-    let text = PLANNERS_SHEET.as_bytes();
+    let text = SHEET_WITH_UNITS.as_bytes();
     let first = FirstReading::of(&grammar, text)?;
     compared.compare(
         "the first reading of the sheet",
@@ -44,7 +45,7 @@ fn rules_in_words(grammar: &Grammar) -> String {
 }
 
 fn reading_in_words(read: &SheetReading) -> String {
-    let (matched, all) = (read.reading.length, PLANNERS_SHEET.len());
+    let (matched, all) = (read.reading.length, SHEET_WITH_UNITS.len());
     let verdict = match read.reading.is_whole() {
         true => "The whole sheet matched",
         false => "The sheet did not match as a whole",

@@ -5,8 +5,8 @@ use crate::layout::heading;
 use crate::Shown;
 use bannelgo::{Listing, Sheet, Tree, MOST_ROWS};
 use bannelgo_development::calls::{Answer, Call};
-use bannelgo_development::gap_sheet::{named_sheet, tree_of};
-use bannelgo_development::gap_text::PLANNERS_SHEET;
+use bannelgo_development::gap_sheet::{named_sheet_with_units, tree_of};
+use bannelgo_development::gap_text::SHEET_WITH_UNITS;
 use bannelgo_development::reference::ledger::Ledger;
 use std::io::Write;
 
@@ -17,8 +17,8 @@ const DEEPEST: usize = 2;
 const SHOWN_ENTRY: &str = "red;";
 
 pub fn show(out: &mut impl Write, compared: &mut Compared) -> Shown {
-    let grammar = named_sheet();
-    let text = PLANNERS_SHEET.as_bytes();
+    let grammar = named_sheet_with_units();
+    let text = SHEET_WITH_UNITS.as_bytes();
     let tree = Sheet::open(&grammar, text, text.len())?.tree()?;
     let written_apart = tree_of(&grammar);
     let mut ledger = Ledger::open(&written_apart, text.len(), text);

@@ -30,7 +30,9 @@ pub fn show(out: &mut impl Write, keys: &[Key]) -> Shown {
 
 /// The key that is taken back.
 fn slip(keys: &[Key]) -> Option<&Step> {
-    let taken_back = keys.iter().position(|key| key.step.key == BACKSPACE)?;
+    let taken_back = keys
+        .iter()
+        .position(|key| key.step.stroke.key == BACKSPACE)?;
     let slip = keys.get(taken_back.checked_sub(1)?)?;
     Some(&slip.step)
 }

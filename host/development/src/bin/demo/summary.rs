@@ -4,7 +4,7 @@ use crate::compared::Compared;
 use crate::cost::{average, Cost};
 use crate::keys::Key;
 use crate::layout::{grouped, heading};
-use crate::typing::{before_blank_line, type_line};
+use crate::typing::{before_blank_line, line_at, type_keys};
 use crate::Shown;
 use bannelgo_development::gap_sheet::named_sheet_of_days;
 use bannelgo_development::gap_text::long_sheet_of_days;
@@ -18,7 +18,7 @@ pub fn show(out: &mut impl Write, compared: &mut Compared) -> Shown {
     let grammar = named_sheet_of_days();
     let text = long_sheet_of_days(LONG);
     let cursor = before_blank_line(&text, LONG / 2);
-    let steps = type_line(&grammar, &text, cursor, compared)?;
+    let steps = type_keys(&grammar, &text, line_at(cursor), compared)?;
     let cost = Cost::of(&grammar, &steps, compared)?;
 
     heading(out, "What a key costs")?;

@@ -1,10 +1,11 @@
-//! A line that is typed into a sheet, key by key.
+//! Keys that are typed into a sheet: a line at a cursor, or letters over one byte.
 
 use crate::compared::Compared;
 use bannelgo::{Edited, Grammar, Refusal, Sheet, SheetReading};
 use bannelgo_development::calls::{Answer, Call};
 use bannelgo_development::gap_sheet::tree_of;
 use bannelgo_development::reference::ledger::Ledger;
+use std::ops::Range;
 use std::time::{Duration, Instant};
 
 /// An entry with a slip that is taken back.
@@ -13,10 +14,17 @@ pub const TYPED: &str = "red;  14:000\u{8}:00 / 14:15:00;  7.5\n";
 /// What deletes the byte before the cursor.
 pub const BACKSPACE: u8 = 8;
 
+/// A key: the bytes of the range give way to the replacement.
+#[derive(Clone)]
+pub struct Stroke {
+    pub key: u8,
+    bytes: Range<usize>,
+    replacement: Vec<u8>,
+}
+
 /// What a key did to the sheet.
 pub struct Step {
-    pub key: u8,
-    cursor: usize,
+    pub stroke: Stroke,
     edited: Edited,
     pub read: SheetReading,
     /// The text that the edit left.
@@ -31,22 +39,47 @@ pub fn before_blank_line(text: &[u8], from: usize) -> usize {
     from + blank.expect("the sample sheets have blank lines") + 1
 }
 
-/// Opens and reads a text and types the line at a cursor, with a reading after each key. The ledger
-/// is asked the same afterwards, so that it takes no part in the times.
-pub fn type_line(
+/// The keys of the line, typed at a cursor.
+pub fn line_at(mut cursor: usize) -> Vec<Stroke> {
+    let mut strokes = vec![];
+    for key in TYPED.bytes() {
+        let (bytes, replacement) = match key {
+            BACKSPACE => (cursor - 1..cursor, vec![]),
+            key => (cursor..cursor, vec![key]),
+        };
+        cursor = bytes.start + replacement.len();
+        strokes.push(Stroke {
+            key,
+            bytes,
+            replacement,
+        });
+    }
+    strokes
+}
+
+/// Keys typed one after the other over the byte at a place.
+pub fn over(place: usize, keys: &[u8]) -> Vec<Stroke> {
+    let stroke = |&key: &u8| Stroke {
+        key,
+        bytes: place..place + 1,
+        replacement: vec![key],
+    };
+    keys.iter().map(stroke).collect()
+}
+
+/// Opens and reads a text and types the keys, with a reading after each one. The ledger is asked the
+/// same afterwards, so that it takes no part in the times.
+pub fn type_keys(
     grammar: &Grammar,
     text: &[u8],
-    mut cursor: usize,
+    strokes: Vec<Stroke>,
     compared: &mut Compared,
 ) -> Result<Vec<Step>, Refusal> {
-    let room = text.len() + TYPED.len();
+    let room = text.len() + strokes.len();
     let mut sheet = Sheet::open(grammar, text, room)?;
     let opened = sheet.read()?;
-    let mut steps = vec![];
-    for key in TYPED.bytes() {
-        steps.push(Step::of(&mut sheet, cursor, key)?);
-        cursor = cursor_after(cursor, key);
-    }
+    let typed = |stroke| Step::of(&mut sheet, stroke);
+    let steps: Vec<Step> = strokes.into_iter().map(typed).collect::<Result<_, _>>()?;
 
     let written_apart = tree_of(grammar);
     let mut ledger = Ledger::open(&written_apart, room, text);
@@ -62,29 +95,14 @@ pub fn type_line(
     Ok(steps)
 }
 
-/// The edit that a key is: the bytes from the first place to the second give way to the replacement.
-fn edit_of(cursor: usize, key: u8) -> (usize, usize, Vec<u8>) {
-    match key {
-        BACKSPACE => (cursor - 1, cursor, vec![]),
-        key => (cursor, cursor, vec![key]),
-    }
-}
-
-fn cursor_after(cursor: usize, key: u8) -> usize {
-    let (start, _, replacement) = edit_of(cursor, key);
-    start + replacement.len()
-}
-
 impl Step {
-    fn of(sheet: &mut Sheet, cursor: usize, key: u8) -> Result<Step, Refusal> {
-        let (start, end, replacement) = edit_of(cursor, key);
+    fn of(sheet: &mut Sheet, stroke: Stroke) -> Result<Step, Refusal> {
         let begin = Instant::now();
-        let edited = sheet.edit(start..end, &replacement);
+        let edited = sheet.edit(stroke.bytes.clone(), &stroke.replacement);
         let read = sheet.read();
         let time = begin.elapsed();
         Ok(Step {
-            key,
-            cursor,
+            stroke,
             edited: edited?,
             read: read?,
             text: sheet.text().to_vec(),
@@ -93,10 +111,12 @@ impl Step {
     }
 
     fn compare(&self, ledger: &mut Ledger<'_>, compared: &mut Compared) {
-        let (start, end, replacement) = edit_of(self.cursor, self.key);
+        let Stroke {
+            bytes, replacement, ..
+        } = self.stroke.clone();
         let edit = Call::Edit {
-            start,
-            end,
+            start: bytes.start,
+            end: bytes.end,
             replacement,
         };
         let edited = Ok(Answer::Edited(self.edited));

@@ -2,6 +2,7 @@
 
 mod deep;
 mod drawn;
+mod folded;
 mod listed;
 mod marked;
 mod refused;
@@ -13,7 +14,7 @@ use bannelgo_development::expr::Grammar;
 use bannelgo_development::numbering::{image_of, Numbering};
 
 pub fn all() -> Vec<Line> {
-    let parts: [fn() -> Vec<Line>; 15] = [
+    let parts: [fn() -> Vec<Line>; 18] = [
         marked::before_anything,
         marked::digits,
         marked::tempting,
@@ -23,6 +24,9 @@ pub fn all() -> Vec<Line> {
         deep::brackets,
         deep::deep,
         typed::typed,
+        folded::unit,
+        folded::no_letters,
+        folded::refused_images,
         drawn::drawn,
         listed::digits,
         listed::refused,
