@@ -45,7 +45,7 @@ fn eval_node(
     eval_kind(words, text, table, count, word, at, left)
 }
 
-// A node's word at a position.
+// A node's word at a position. A byte range without the fold bit is answered here too.
 pub fn eval_word(
     words: &[u32; 4097],
     text: &&[u8],
@@ -65,7 +65,7 @@ pub fn eval_word(
     eval_kind(words, text, table, count, word, at, left)
 }
 
-// Every other word, by its kind.
+// Any other word, by its kind.
 fn eval_kind(
     words: &[u32; 4097],
     text: &&[u8],

@@ -1,4 +1,4 @@
-// The terminals, by the evaluator's tests: the length of a match, or the number that says a failure.
+// The kinds with nothing inside, by the evaluator's tests: the length of a match, or the number that says a failure.
 ghost use mathlib.Core.Path.{_≡_};
 ghost use Rattle.records.specs.Words.{valueOf};
 ghost use Rattle.listing.specs.Gives.{toldLength, Leaf};

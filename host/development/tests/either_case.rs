@@ -1,9 +1,10 @@
 //! Letters in either case, worked out by hand: readings by the library and both readers of the reference,
 //! and a session by the library and the ledger.
 
-use bannelgo::Outcome::{self, Nothing, Part, Whole};
-use bannelgo::{Edited, Listing, Reading, Row, SheetReading};
+use bannelgo::Outcome::{Nothing, Part, Whole};
+use bannelgo::{Edited, Listing, SheetReading};
 use bannelgo_development::calls::{ask, open_image, Answer, Call};
+use bannelgo_development::expected::{reading, row, ReadingFields};
 use bannelgo_development::expr::{sequence, star, then, Expr, Grammar};
 use bannelgo_development::numbering::{image_of, Numbering};
 use bannelgo_development::packrat::Packrat;
@@ -11,20 +12,8 @@ use bannelgo_development::reference::ledger::Ledger;
 use bannelgo_development::reference::{self, recursive};
 use Expr::{Bytes, Folded};
 
-/// Outcome, length, examined, nesting.
-type Fields = (Outcome, usize, usize, usize);
-
-fn reading((outcome, length, examined, nesting): Fields) -> Reading {
-    Reading {
-        outcome,
-        length,
-        examined,
-        nesting,
-    }
-}
-
 /// Asks all readers for a text by a grammar of one rule.
-fn expect(rule: &Expr, text: &[u8], fields: Fields) {
+fn expect(rule: &Expr, text: &[u8], fields: ReadingFields) {
     let rules = vec![rule.clone()];
     let grammar = Grammar { start: 0, rules };
     let image = image_of(&grammar, Numbering::Preorder);
@@ -121,7 +110,7 @@ fn edited(length: usize, standing: usize) -> Result<Answer, u64> {
     Ok(Answer::Edited(Edited { length, standing }))
 }
 
-fn read(fields: Fields, evaluations: usize) -> SheetReading {
+fn read(fields: ReadingFields, evaluations: usize) -> SheetReading {
     let reading = reading(fields);
     SheetReading {
         reading,
@@ -131,12 +120,6 @@ fn read(fields: Fields, evaluations: usize) -> SheetReading {
 
 /// The whole text "7kWh", in any cases, with a row for each rule.
 fn listed(evaluations: usize) -> Result<Answer, u64> {
-    let row = |(rule, depth, start, length)| Row {
-        rule,
-        depth,
-        start,
-        length,
-    };
     Ok(Answer::Listing(Listing {
         read: read((Whole, 4, 4, 5), evaluations),
         rows: [(0, 0, 0, 4), (1, 1, 0, 1), (2, 1, 1, 3)].map(row).to_vec(),

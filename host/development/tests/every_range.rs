@@ -3,9 +3,10 @@
 //! Which bytes a range matches is said here apart from the reference. In each text a byte stands where the
 //! answer would be another one if it were judged otherwise.
 
-use bannelgo::Outcome::{self, Nothing, Part, Whole};
-use bannelgo::{plain_reading, Reading, Row, Sheet};
+use bannelgo::Outcome::{Nothing, Part, Whole};
+use bannelgo::{plain_reading, Row, Sheet};
 use bannelgo_development::calls::open_image;
+use bannelgo_development::expected::{reading, row, ReadingFields};
 use bannelgo_development::expr::{not, or_else, star, then, Expr, Grammar};
 use bannelgo_development::numbering::{image_of, Numbering};
 use bannelgo_development::reference::bytes::{between, between_in_either_case};
@@ -49,28 +50,6 @@ fn every_byte() -> Vec<u8> {
 
 fn image(rules: Vec<Expr>) -> Vec<u8> {
     image_of(&Grammar { start: 0, rules }, Numbering::Preorder)
-}
-
-/// Outcome, length, examined, nesting.
-type Fields = (Outcome, usize, usize, usize);
-
-fn reading((outcome, length, examined, nesting): Fields) -> Reading {
-    Reading {
-        outcome,
-        length,
-        examined,
-        nesting,
-    }
-}
-
-/// Rule, depth, start, length.
-fn row((rule, depth, start, length): (usize, usize, usize, usize)) -> Row {
-    Row {
-        rule,
-        depth,
-        start,
-        length,
-    }
 }
 
 #[test]
@@ -153,7 +132,7 @@ fn ranges_alone() {
 }
 
 /// The plain reading of a text, and the listing of a sheet once it has this text.
-fn expect_alone(sheet: &mut Sheet, image: &[u8], text: &[u8], fields: Fields) {
+fn expect_alone(sheet: &mut Sheet, image: &[u8], text: &[u8], fields: ReadingFields) {
     assert_eq!(plain_reading(image, text), Ok(reading(fields)), "{text:?}");
     let before = sheet.text().len();
     sheet.edit(0..before, text).expect("one byte fits");

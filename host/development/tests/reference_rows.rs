@@ -1,6 +1,7 @@
 //! The rows written apart: cases worked out by hand, and a plain recursion over small grammars.
 
 use bannelgo::Row;
+use bannelgo_development::expected::{row, RowFields};
 use bannelgo_development::expr::{byte, not, or_else, sequence, star, then, Expr, Grammar};
 use bannelgo_development::generate::{small_grammar, some_letters, text_of};
 use bannelgo_development::reference::pair_map::PairMap;
@@ -8,24 +9,12 @@ use bannelgo_development::reference::rows::{rows, word};
 use bannelgo_development::rng::Rng;
 use Expr::{AnyByte, Call, Empty};
 
-/// Rule, depth, start, length.
-type Fields = (usize, usize, usize, usize);
-
-fn row((rule, depth, start, length): Fields) -> Row {
-    Row {
-        rule,
-        depth,
-        start,
-        length,
-    }
-}
-
 fn rows_of(grammar: &Grammar, text: &[u8], most: usize) -> Option<Vec<Row>> {
     rows(grammar, text, &mut PairMap::default(), most)
 }
 
 /// Rule 0 is this body, rule 1 an "a", rule 2 a "b", rule 3 empty, rule 4 = rule 1 then rule 2.
-fn expect(body: Expr, text: &str, fields: &[Fields]) {
+fn expect(body: Expr, text: &str, fields: &[RowFields]) {
     let pair = then(Call(1), Call(2));
     let rules = vec![body, byte(b'a'), byte(b'b'), Empty, pair];
     let grammar = Grammar { start: 0, rules };

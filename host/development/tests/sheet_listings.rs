@@ -3,20 +3,11 @@
 use bannelgo::Outcome::{Nothing, Whole};
 use bannelgo::{Listing, Refusal, Row, Sheet};
 use bannelgo_development::calls::open_image;
+use bannelgo_development::expected::row;
 use bannelgo_development::expr::{byte, or_else, then, Expr, Grammar};
 use bannelgo_development::numbering::{image_of, Numbering};
 use bannelgo_development::samples::{D2, M10};
 use bannelgo_development::small_stack::on_small_stack;
-
-/// Rule, depth, start, length.
-fn row((rule, depth, start, length): (usize, usize, usize, usize)) -> Row {
-    Row {
-        rule,
-        depth,
-        start,
-        length,
-    }
-}
 
 fn open(image: &[u8], text: &str) -> Sheet {
     open_image(image, text.as_bytes(), text.len()).expect("the sheet is opened")
