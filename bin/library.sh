@@ -27,7 +27,7 @@ prove_library() {
     read -ra below < <(sed -n 's/^bannelgo: *//p' crates.txt)
     (set -o pipefail && rt check "${below[@]}" 2>&1 | tee "$log" | proved_of "$total") || return
     echo "proving $total of $total: bannelgo, and compiling it"
-    rt staticlib bannelgo >>"$log" 2>&1
+    bin/archive >>"$log" 2>&1
 }
 
 archive=target/staticlib/libbannelgo.a

@@ -22,7 +22,7 @@ fn main() {
         eprintln!("{} is missing", library.display());
         match named {
             Some(_) => eprintln!("BANNELGO_LIB names its folder"),
-            None => eprintln!("build it at the root of the repository: rt staticlib bannelgo"),
+            None => eprintln!("build it at the root of the repository: bin/archive"),
         }
         std::process::exit(1);
     }

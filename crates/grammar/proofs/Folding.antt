@@ -30,10 +30,14 @@ module _ (from to byte : ℕ) where
       go true e = let t = bounds e in absurd (n (t .0) (t .1))
       go false e = e
 
--- The other case of a capital letter, of a small one, and what is put where there is none.
+-- A byte that is no letter stands for its other case; the other case of a capital letter and of a small one.
 module _ (byte : ℕ) where
   first-test : Bool → ℕ
   first-test b = cond b (byte + 32) (cond (between 97 122 byte) (byte - 32) byte)
+
+  pub of-no-letter : between 65 90 byte ≡ false → between 97 122 byte ≡ false → otherCase byte ≡ byte
+  unfolding otherCase first-test
+  of-no-letter e f = ap first-test e ∙ ap (λ (b : Bool). cond b (byte - 32) byte) f
 
   pub of-capital : between 65 90 byte ≡ true → otherCase byte ≡ byte + 32
   unfolding otherCase first-test
@@ -43,11 +47,7 @@ module _ (byte : ℕ) where
   unfolding otherCase first-test
   of-small e f = ap first-test e ∙ ap (λ (b : Bool). cond b (byte - 32) byte) f
 
-  pub of-no-letter : between 65 90 byte ≡ false → between 97 122 byte ≡ false → otherCase byte ≡ byte
-  unfolding otherCase first-test
-  of-no-letter e f = ap first-test e ∙ ap (λ (b : Bool). cond b (byte - 32) byte) f
-
--- A letter is the other case of its other case.
+-- Every byte is the other case of its other case.
 other-twice : (byte : ℕ) → otherCase (otherCase byte) ≡ byte
 other-twice byte = go (between 65 90 byte) refl (between 97 122 byte) refl
   where

@@ -1,4 +1,4 @@
--- Which node a word stands for, by the kind among its fields. Assumes nothing.
+-- Which node a word stands for, by the kind among its fields, and in kind 2 by the fold bit. Assumes nothing.
 use Prim.Native.Nat.{ℕ, zero, suc, _≤_, min}
 use native.Mathlib.Omega.{arith}
 use borrow.Author.Tests.{eq-eqb, ne-eqb}

@@ -13,7 +13,7 @@ abbrev pub between : (from to byte : ℕ) → Bool
 between from to byte = leb from byte && leb byte to
 
 -- The other ASCII case of a byte: 'A' to 'Z' (65 to 90) and 'a' to 'z' (97 to 122) stand 32 apart. A byte that is no letter has no
--- other case; itself is put for it.
+-- other case, and stands for itself.
 unfoldable pub otherCase : (byte : ℕ) → ℕ
 otherCase byte = cond (between 65 90 byte) (byte + 32) (cond (between 97 122 byte) (byte - 32) byte)
 

@@ -11,7 +11,7 @@ pub record RulesLawful (img : List ℕ) : Type 0 where
 pub record NodesLawful (img : List ℕ) : Type 0 where
   pub node-words : (n : ℕ) → n < nodes img → LawfulNode img n
 
--- The zero bits of a node's word: all of them but the fold bit, which kind 2 may have.
+-- The zero bits of a node's word are 0; in kind 2 the lowest, the fold bit, may be 1.
 pub record ZeroBits (kind zero : ℕ) : Type 0 where
   pub all-zero : (kind ≡ 2 → ⊥) → zero ≡ 0
   pub all-but-fold : kind ≡ 2 → zero ≤ 1

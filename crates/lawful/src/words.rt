@@ -1,5 +1,5 @@
 // Question 4: "Is every word lawful: zero bits and unused fields 0, kind 0 to 7, A ≤ B ≤ 255 in kind 2, references in range,
-// children above parents?"
+// children above parents?" "Question 4 allows the bit [the fold bit] in kind 2 only." (02, R-1)
 ghost use Rattle.grammar.specs.Questions.{Question4, LawfulRule, LawfulNode};
 ghost use Rattle.lawful.specs.Tells.{Tells};
 ghost use Rattle.lawful.specs.Words.{RulesLawful, NodesLawful, ZeroBits, Child, Unused, ByteRange, TwoChildren, OneChild, CallOf};
@@ -45,7 +45,7 @@ fn child_lawful(image: &[u8], n: usize, field: usize) -> bool
     true
 }
 
-// The zero bits of a node's word. "Question 4 allows the bit [the fold bit] in kind 2 only." (02, R-1)
+// The zero bits of a node's word, of which kind 2 may have the fold bit.
 fn zero_bits_lawful(kind: usize, zero: usize) -> bool
     ensures { λ yes. ⌜ Tells yes (ZeroBits kind zero) ⌝ }
 {

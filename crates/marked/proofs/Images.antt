@@ -18,15 +18,15 @@ use Rattle.grammar.specs.Questions.{roots, childrenBelow, occurrences}
 use Rattle.grammar.specs.Tests.{every, headerTest, ruleTest, nodeTest, wordsTest, onceTest}
 use Rattle.grammar.proofs.Tests.{header-asked, words-asked, lawful-image}
 use Rattle.grammar.proofs.Acceptance.{checked, refused-6, refused-7}
-use Rattle.marked.specs.Images.{D2, M7, M8, M9, parts, secondEdition, startTooHigh, byteTooMany, ownChild, orphan}
+use Rattle.marked.specs.Images.{D2, M7, M8, M9, parts, secondEdition, startTooHigh, byteTooMany, ownChild, orphan, kilo, foldedAny, secondBit}
 
 -- The three tests that say that an image is lawful.
 abbrev Passes : List ℕ → Type 0
 Passes img = (headerTest img ≡ true) × (wordsTest img ≡ true) × (every (nodes img) (onceTest img) ≡ true)
 
-passes : Passes D2 × Passes M7 × Passes M8 × Passes M9 × Passes parts
-unfolding D2 M7 M8 M9 parts every headerTest ruleTest nodeTest wordsTest onceTest edition rules nodes start ruleZero root ruleWord fieldsAt nodeWord nodeOf roots childrenBelow occurrences
-passes = ((refl, refl, refl), (refl, refl, refl), (refl, refl, refl), (refl, refl, refl), (refl, refl, refl))
+passes : Passes D2 × Passes M7 × Passes M8 × Passes M9 × Passes parts × Passes kilo
+unfolding D2 M7 M8 M9 parts kilo every headerTest ruleTest nodeTest wordsTest onceTest edition rules nodes start ruleZero root ruleWord fieldsAt nodeWord nodeOf roots childrenBelow occurrences
+passes = ((refl, refl, refl), (refl, refl, refl), (refl, refl, refl), (refl, refl, refl), (refl, refl, refl), (refl, refl, refl))
 
 lawful : {img : List ℕ} → Passes img → Lawful img
 lawful {img} p = lawful-image img (p .0) (p .1) (p .2)
@@ -227,4 +227,40 @@ orphan-refused =
             q .0,
             inr (q .1, inr (q .2, inr (words-asked orphan refl, inl ((λ w. let h = w .once 1 (lit< tt) in omega arith), refl)))),
           );
+    }
+
+-- R-1: the fold bit in kind 2, in kind 1, and the bit above it.
+kilo-formed : Question7 kilo
+unfolding kilo rules nodes fieldsAt nodeWord nodeOf
+kilo-formed = record { every-node = go }
+  where
+    go : (n : ℕ) → n < 1 → WellFormed kilo (node kilo n)
+    go zero l = wf-terminal
+    go (suc n) l = absurd (omega arith)
+
+pub kilo-accepted : Checked kilo 0
+kilo-accepted = checked (record { lawful = lawful (passes .5); well-formed = kilo-formed })
+
+pub folded-any-refused : Checked foldedAny 4
+unfolding foldedAny headerTest edition rules nodes start fieldsAt nodeWord
+folded-any-refused =
+    let q = header-asked foldedAny refl in
+    record {
+      first =
+          inr (
+            q .0,
+            inr (
+              q .1,
+              inr (q .2, inl ((λ w. let h = w .node-words 0 (lit< tt) .zero-bits (λ e. omega arith) in omega arith), refl)),
+            ),
+          );
+    }
+
+pub second-bit-refused : Checked secondBit 4
+unfolding secondBit headerTest edition rules nodes start fieldsAt nodeWord
+second-bit-refused =
+    let q = header-asked secondBit refl in
+    record {
+      first =
+          inr (q .0, inr (q .1, inr (q .2, inl ((λ w. let h = w .node-words 0 (lit< tt) .zero-bits-2 refl in omega arith), refl))));
     }

@@ -5,7 +5,7 @@ use mathlib.Core.Path.{_≡_, refl}
 use mathlib.Core.List.{List, []}
 use lib.ListN.{length, replicate}
 use Rattle.grammar.specs.Image.{rules, nodes, start, ruleWord, root, nodeWord, fieldsAt, nodeOf, body}
-use Rattle.grammar.specs.Terminal.{accepts, terminalAt}
+use Rattle.grammar.specs.Terminal.{otherCase, accepts, terminalAt}
 use Rattle.grammar.proofs.Acceptance.{accepted}
 use Rattle.records.specs.Words.{matchedOf, spareOf, nestingOf, examinedOf, lengthOf, valueOf, wordOf, possible}
 use Rattle.records.specs.Slots.{slotOf}
@@ -23,10 +23,10 @@ use Rattle.ledger.specs.Sessions.{SessionSays}
 use Rattle.loaded.proofs.LoadedImage.{wordsFrom}
 use Rattle.ledger.proofs.Runs.{repliesOf}
 use Rattle.ledger.proofs.Sessions.{session-says}
-use Rattle.marked.specs.Images.{D2, parts}
+use Rattle.marked.specs.Images.{D2, parts, kilo}
 use Rattle.marked.specs.Sessions.{text12a, calls1, replies1, calls2, replies2, calls3, replies3, calls4, replies4, calls5, replies5, text12, calls6, replies6}
-use Rattle.marked.specs.Sessions.{callsOver, repliesOver, callsRefused, repliesRefused, callsListed, repliesListed, textParts, callsParts, repliesParts}
-use Rattle.marked.proofs.Images.{d2-accepted, parts-accepted}
+use Rattle.marked.specs.Sessions.{callsOver, repliesOver, callsRefused, repliesRefused, callsListed, repliesListed, textParts, callsParts, repliesParts, textFold, callsFold, repliesFold}
+use Rattle.marked.proofs.Images.{d2-accepted, parts-accepted, kilo-accepted}
 
 -- The calls as functions give these replies.
 abbrev ComputedBy : (img : List ℕ) (cap : ℕ) (text : List ℕ) → List Call → List Reply → Type 0
@@ -54,11 +54,12 @@ listed :
     Computed text12 calls6 replies6
     × Computed text12 callsListed repliesListed
     × ComputedBy parts 3 textParts callsParts repliesParts
-unfolding D2 parts rules nodes start ruleWord root nodeWord fieldsAt nodeOf body accepts terminalAt matchedOf
+    × ComputedBy kilo 1 textFold callsFold repliesFold
+unfolding D2 parts kilo rules nodes start ruleWord root nodeWord fieldsAt nodeOf body otherCase accepts terminalAt matchedOf
     spareOf nestingOf examinedOf lengthOf valueOf wordOf possible slotOf afterFirst afterChoice afterRound roundsM met looked pairM
     kindM nodeM textAfter wordAfter wordsAfter wordsFrom wordNode after bind afterLook partV joined walk.afterFirst walk.afterChoice walk.afterRound
     roundsV entered walk.met pairV kindV nodeV startV touches rowWord rowWords
-listed = (refl, refl, refl)
+listed = (refl, refl, refl, refl)
 
 -- D2 is accepted.
 says :
@@ -95,3 +96,6 @@ listed-holds = says text12 callsListed repliesListed (omega arith) (listed .1)
 
 pub parts-holds : SessionSays parts textParts 3 callsParts repliesParts
 parts-holds = session-says parts textParts 3 (accepted parts-accepted) (omega arith) (omega arith) callsParts repliesParts (listed .2)
+
+pub fold-holds : SessionSays kilo textFold 1 callsFold repliesFold
+fold-holds = session-says kilo textFold 1 (accepted kilo-accepted) (omega arith) (omega arith) callsFold repliesFold (listed .3)

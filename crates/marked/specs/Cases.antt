@@ -9,8 +9,8 @@ use Rattle.reading.specs.Plain.{PlainRead}
 use Rattle.ledger.specs.Ledger.{Call, Reply}
 use Rattle.ledger.specs.Sessions.{SessionSays}
 use Rattle.marked.specs.Sessions.{text12a, calls1, replies1, calls2, replies2, calls3, replies3, calls4, replies4, calls5, replies5, text12, calls6, replies6}
-use Rattle.marked.specs.Sessions.{callsOver, repliesOver, callsRefused, repliesRefused, callsListed, repliesListed, callsDeep, repliesDeep, textParts, callsParts, repliesParts}
-use Rattle.marked.specs.Images.{D2, M7, M8, M9, M10, brackets, parts, secondEdition, startTooHigh, byteTooMany, ownChild, orphan}
+use Rattle.marked.specs.Sessions.{callsOver, repliesOver, callsRefused, repliesRefused, callsListed, repliesListed, callsDeep, repliesDeep, textParts, callsParts, repliesParts, textFold, callsFold, repliesFold}
+use Rattle.marked.specs.Images.{D2, M7, M8, M9, M10, brackets, parts, secondEdition, startTooHigh, byteTooMany, ownChild, orphan, kilo, foldedAny, secondBit}
 
 pub data Line : Type 0 where
   -- the image check gives this image this number
@@ -50,7 +50,7 @@ marked =
     ∷ plain-reading M10 (brackets 1365) (PlainAnswer.Refused 14)
     ∷ []
 
--- An image for each of the numbers 1 to 7 that no marked case has, and sessions that the marked cases leave out.
+-- An image for each of the numbers 1 to 7 that no marked case has, and sessions that the marked cases leave out; the last four are R-1's.
 abbrev pub witnesses : List Line
 witnesses =
     image-number [] 1
@@ -65,4 +65,8 @@ witnesses =
     ∷ image-number parts 0
     ∷ session parts textParts 3 callsParts repliesParts
     ∷ session M10 (brackets 1365) 1365 callsDeep repliesDeep
+    ∷ image-number kilo 0
+    ∷ image-number foldedAny 4
+    ∷ image-number secondBit 4
+    ∷ session kilo textFold 1 callsFold repliesFold
     ∷ []

@@ -142,3 +142,19 @@ repliesParts =
     (0x0000000000000003 ∷ 0x0100000100000002 ∷ 0x0200000200000001 ∷ 0x0100000100020001 ∷ 0x0200000200020001 ∷ [])
     ∷ lists (ListAnswer.Refused 15) []
     ∷ []
+
+-- "Some loggers write KWH and some kwh." (02, R-1) K, then k, then L.
+abbrev pub textFold : List ℕ
+textFold = 0x4B ∷ []
+
+abbrev pub callsFold : List Call
+callsFold = reading ∷ edit 0 1 (0x6B ∷ []) ∷ listing 1 ∷ edit 0 1 (0x4C ∷ []) ∷ reading ∷ []
+
+abbrev pub repliesFold : List Reply
+repliesFold =
+    answers Outcome.Whole 1 1 1 1
+    ∷ stand 1 0
+    ∷ listed Outcome.Whole 1 1 1 1 1 (0x0000000000000001 ∷ [])
+    ∷ stand 1 0
+    ∷ answers Outcome.Nothing 0 1 1 1
+    ∷ []

@@ -132,6 +132,7 @@ fn bits_behind_the_kind_of_a_node() {
         kinds.push(kind);
     }
     assert_eq!(kinds, [4, 3, 1, 3, 6, 7, 5, 2, 0]);
+    // Of a kind above 7 the fold bit is said.
     refused(&with(24, 0x91), 4, &node(4, FOLD_BIT));
 }
 

@@ -42,6 +42,7 @@ fn lists_of_calls_are_the_ledgers() {
             ("rows", 20_000),
             ("0 rows", 20_000),
             ("fold", 4_000),
+            ("fold l", 3_000),
             ("case", 40_000),
         ];
         tally::settle(&tallies, 200_000, &fewest);
@@ -90,7 +91,7 @@ fn listings_are_the_ledgers_and_the_papers() {
             ("14", 500),
             ("15", 5_000),
             ("free l", 5_000),
-            ("fold", 1_000),
+            ("fold l", 1_000),
             ("case", 8_000),
         ];
         tally::settle(&tallies, 150_000, &fewest);

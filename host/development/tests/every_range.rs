@@ -1,7 +1,7 @@
 //! Every byte against every range, without the fold bit and with it: 256 bytes, 2 × 32,896 ranges.
 //!
-//! Which bytes a range matches is said here apart from the reference. In each text a byte stands where the
-//! answer would be another one if it were judged otherwise.
+//! Which bytes a range matches is said here apart from the reference. Each byte stands in one of two texts where
+//! the answer would be another one if it were judged otherwise.
 
 use bannelgo::Outcome::{Nothing, Part, Whole};
 use bannelgo::{plain_reading, Row, Sheet};
@@ -115,7 +115,7 @@ fn rows_stand_behind_what_a_range_matches() {
 /// A range that is the start rule's body: examined 1 with each byte, and at the end, where it fails.
 #[test]
 fn ranges_alone() {
-    // At the borders of the letters, and as far beyond them as the cases are apart and as ASCII is long.
+    // The borders of the letters, and bytes that differ from these in the bits 0x20, 0x40 and 0x80.
     let tables = [0x00, 0x20, 0x40, 0x60, 0x80, 0xC0, 0xE0];
     let ends = tables.map(|table| [0, 1, 26, 27].map(|column| table + column));
     each_range(ends.as_flattened(), |range| {

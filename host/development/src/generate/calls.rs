@@ -51,7 +51,7 @@ impl Typist {
         }
     }
 
-    /// A key that writes a letter in its other case; a byte that is no letter becomes another one.
+    /// A key that writes a letter in its other case; a byte that is no letter becomes another byte.
     fn change_case(&mut self, rng: &mut Rng, text: &[u8]) -> Call {
         let start = self.place(rng, text.len() - 1);
         self.cursor = start + 1;

@@ -22,7 +22,7 @@ fn near_letters(rng: &mut Rng) -> u8 {
     }
 }
 
-/// Gives each range of a grammar the fold bit in one of two cases.
+/// Gives every second range of a grammar the fold bit, by draw.
 pub fn fold_some(rng: &mut Rng, grammar: &mut Grammar) {
     grammar.change_leaves(|leaf| {
         if let (Expr::Bytes(low, high), true) = (&leaf, rng.one_in(2)) {

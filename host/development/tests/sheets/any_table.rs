@@ -51,7 +51,7 @@ impl<'a> AnyTable<'a> {
             Some(answer) => {
                 let grammar = self.grammar;
                 self.tally
-                    .count_fold(|| folds_decide(grammar, &before, call, &answer));
+                    .count_fold(call, || folds_decide(grammar, &before, call, &answer));
                 let expected = fields_of(&answer);
                 self.tally.count_call(call, expected);
                 let rows = lent.rows_with(&row_words(&answer));

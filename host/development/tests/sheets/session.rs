@@ -71,10 +71,8 @@ impl<'a> Session<'a> {
         let answer = self.ledger.call(&call);
         let expected = fields_of(&answer);
         self.tally.count_call(&call, expected);
-        if let Call::Read | Call::List { .. } = call {
-            let (grammar, text) = (self.grammar, self.ledger.text());
-            self.tally.count_fold(|| folds_decide(grammar, text));
-        }
+        let (grammar, text) = (self.grammar, self.ledger.text());
+        self.tally.count_fold(&call, || folds_decide(grammar, text));
         self.calls.push(call);
         self.compare("call", fields, expected, &row_words(&answer));
         fields

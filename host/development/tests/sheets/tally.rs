@@ -5,11 +5,11 @@ use bannelgo_development::calls::Call;
 use std::io::Write;
 
 /// The kinds of answer: an open, an edit, a look-up, the outcomes of a reading, the refusals, a listing
-/// with rows and one without, and a reading and a listing that the paper leaves free. Beside the answers two
-/// more are counted: readings and listings that fold bits decide, and edits that change only cases.
-const ANSWERS: [&str; 26] = [
+/// with rows and one without, and a reading and a listing that the paper leaves free. Beside the answers three
+/// more are counted: readings that fold bits decide, listings that they decide, and edits that change only cases.
+const COUNTED: [&str; 27] = [
     "open", "edit", "word", "whole", "part", "none", "1", "2", "3", "4", "5", "6", "7", "8", "9",
-    "10", "11", "12", "14", "15", "rows", "0 rows", "free", "free l", "fold", "case",
+    "10", "11", "12", "14", "15", "rows", "0 rows", "free", "free l", "fold", "fold l", "case",
 ];
 
 const ROWS: usize = 20;
@@ -17,9 +17,10 @@ const NO_ROWS: usize = 21;
 const FREE: usize = 22;
 const FREE_LISTING: usize = 23;
 const FOLD: usize = 24;
-const CASE: usize = 25;
+const FOLD_LISTING: usize = 25;
+const CASE: usize = 26;
 
-/// How many readings and listings that fold bits decide are counted in each family.
+/// How many readings that fold bits decide are counted in each family, and how many listings.
 const MOST_FOLDS: u64 = 1_000;
 
 /// The counts of one family.
@@ -27,7 +28,7 @@ pub struct Tally {
     name: &'static str,
     seed: Option<u64>,
     lists: u64,
-    counts: [u64; ANSWERS.len()],
+    counts: [u64; COUNTED.len()],
 }
 
 impl Tally {
@@ -37,7 +38,7 @@ impl Tally {
             name,
             seed: None,
             lists: 0,
-            counts: [0; ANSWERS.len()],
+            counts: [0; COUNTED.len()],
         }
     }
 
@@ -81,9 +82,14 @@ impl Tally {
     }
 
     /// Counts a reading or a listing where fold bits decide it, which is asked until enough are counted.
-    pub fn count_fold(&mut self, folds_decide: impl FnOnce() -> bool) {
-        if self.counts[FOLD] < MOST_FOLDS && folds_decide() {
-            self.count(FOLD);
+    pub fn count_fold(&mut self, call: &Call, folds_decide: impl FnOnce() -> bool) {
+        let place = match call {
+            Call::Read => FOLD,
+            Call::List { .. } => FOLD_LISTING,
+            _ => return,
+        };
+        if self.counts[place] < MOST_FOLDS && folds_decide() {
+            self.count(place);
         }
     }
 
@@ -138,7 +144,7 @@ pub fn settle(tallies: &[Tally], fewest_lists: u64, fewest: &[(&str, u64)]) {
     print_table(tallies, &total);
     assert!(total.lists >= fewest_lists, "only {} lists", total.lists);
     for (name, least) in fewest {
-        let place = ANSWERS.iter().position(|answer| answer == name);
+        let place = COUNTED.iter().position(|answer| answer == name);
         let count = total.counts[place.expect("the name of an answer")];
         assert!(count >= *least, "{name} came up only {count} times");
     }
@@ -147,7 +153,7 @@ pub fn settle(tallies: &[Tally], fewest_lists: u64, fewest: &[(&str, u64)]) {
 /// Writes to the standard output itself, which the test harness shows also for a passed test.
 fn print_table(tallies: &[Tally], total: &Tally) {
     let mut text = format!("\n{:<28}{:>5}{:>8}", "family", "seed", "lists");
-    for name in ANSWERS {
+    for name in COUNTED {
         text += &format!("{name:>7}");
     }
     for tally in tallies.iter().chain([total]) {

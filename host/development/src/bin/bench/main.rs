@@ -1,5 +1,6 @@
 //! Times the proved library against Rust code written apart from it, in one run.
 
+mod cases;
 mod checks;
 mod keys;
 mod listings;
@@ -13,9 +14,10 @@ mod typing;
 use std::process::ExitCode;
 
 /// What is printed where no part is named.
-const USUAL: [(&str, fn()); 5] = [
+const USUAL: [(&str, fn()); 6] = [
     ("checks", checks::print),
     ("readings", readings::print),
+    ("cases", cases::print),
     ("keys", keys::print),
     ("listings", listings::print),
     ("stack", stack::print),

@@ -28,7 +28,7 @@ pub fn unit() -> Vec<Line> {
 }
 
 /// Rule 0 = rule 1 zero or more times; rule 1 = 'Z' to 'a' in either case.
-pub fn no_letters() -> Vec<Line> {
+pub fn from_capital_z_to_small_a() -> Vec<Line> {
     let rules = vec![star(Rule(1)), Folded(b'Z', b'a')];
     let mut lines = vec![comment(
         "'Z' to 'a' in either case: [ matches and { does not.",
@@ -42,15 +42,16 @@ pub fn no_letters() -> Vec<Line> {
     lines
 }
 
-/// D2 with one of the four bits behind the kind set: in nodes 0 to 3 and as the second lowest in node 4 it is
-/// refused, as the lowest in node 4, which is a range, it is the fold bit.
+/// D2 with bits behind a kind set: refused are the lowest in nodes 0 to 3, and in node 4 the second lowest, alone
+/// and beside the lowest. The lowest alone in node 4, which is a range, is the fold bit.
 pub fn refused_images() -> Vec<Line> {
     let with = |place: usize, first: u8| {
         let mut image = D2;
         image[place] = first;
         image
     };
-    let refused = [(8, 0x31), (12, 0x71), (16, 0x51), (24, 0x22), (24, 0x23)];
+    let nodes = [(8, 0x31), (12, 0x71), (16, 0x51), (20, 0x71)];
+    let refused = nodes.into_iter().chain([(24, 0x22), (24, 0x23)]);
     let mut lines = vec![comment("The fold bit of digits, which have no other case.")];
     let digits = with(24, 0x21);
     lines.extend([image(&digits), lend(2, 5), open(b"12a"), read(), look(0, 0)]);

@@ -25,7 +25,7 @@ pub fn all() -> Vec<Line> {
         deep::deep,
         typed::typed,
         folded::unit,
-        folded::no_letters,
+        folded::from_capital_z_to_small_a,
         folded::refused_images,
         drawn::drawn,
         listed::digits,
