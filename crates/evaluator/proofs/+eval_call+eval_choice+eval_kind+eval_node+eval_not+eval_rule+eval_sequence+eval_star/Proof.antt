@@ -3,6 +3,7 @@
 -- something inside.
 -- Assumes nothing.
 use Rattle.packrat.proofs.Rules.{was-possible, was-impossible, rule-impossible, rule-too-deep, rule-met, rule-refused, rule-stored, node-too-deep, node-goes, word-goes, call-goes, past-7}
+use Rattle.evaluator.proofs.Ends.{terminal-goes}
 use Rattle.packrat.proofs.LoadedRuns.{word-is}
 use Rattle.packrat.proofs.Stars.{Rounds, rounds-start, round-refused, round-still, round-fails, round-goes, round-bounds}
 use Rattle.packrat.proofs.Runs.{not-refused, not-answered, call-refused, call-answered, nesting-allowed, says-itself, length-within}
@@ -14,11 +15,8 @@ use Rattle.packrat.specs.Loaded.{rulesIn, nodeW}
 use Rattle.records.specs.Words.{wordOf, possible, recordOf, recordWord}
 use Rattle.records.specs.declared.Record.{Record}
 use Rattle.evaluation.proofs.Shape.{empty-within}
-use Rattle.grammar.proofs.Terminals.{shape}
 use Rattle.grammar.specs.Evaluates.{emptyHere}
-use Rattle.grammar.specs.Terminal.{terminalAt}
 use Rattle.grammar.proofs.Nodes.{is-empty, is-any, is-plain-range, is-folded-range, is-sequence, is-choice, is-star, is-not, is-call, is-unlawful}
-use Rattle.grammar.specs.Image.{any, range, folded}
 use Rattle.image.proofs.PlainRange.{said-plain, said-folded-word}
 use lib.ListN.{length, getD}
 use mathlib.Core.Path.{_≡_, refl, sym, ap, _∙_}
@@ -427,29 +425,20 @@ eval-kind-returns t c =
     word-goes (a .words .now) (a .text .now .now) (a .left) (a .word) (a .at) (a .table .now) (a .count .now) (λ z. let l = pre .1 .1 in omega arith) (word-is (a .word) (after-node-of .node-of .ensures) (is-empty _ (omega arith))) (gives-value emptyHere refl refl (empty-within (pre .1 .0 .here)) (omega arith))
 
 eval-kind-returns-2 : (t : ℕ) → eval-kind-lts.Need-returns-2 (eval-kind-claims t) (eval-kind-at t) eval-kind.Post
-unfolding kindM
 eval-kind-returns-2 t c =
     let after-node-of : eval-kind-place eval-kind-lts.After-node-of t = search in
     let start : eval-kind-place eval-kind-lts.Start t = search in
     let a = start .args in
-    let pre = start .pre in
-    let s = shape any (a .text .now .now) (a .at) (pre .1 .0 .here) in
-    word-goes (a .words .now) (a .text .now .now) (a .left) (a .word) (a .at) (a .table .now) (a .count .now) (λ z. let l = pre .1 .1 in omega arith) (word-is (a .word) (after-node-of .node-of .ensures) (is-any _ (omega arith))) (gives-value (terminalAt any (a .text .now .now) (a .at)) refl (c .any-byte .ensures)
-    (record { in-text = s .in-text; up-to-end = s .up-to-end; in-examined = s .in-examined; failure = s .failure; nested = omega (arith, s .flat) })
-    (omega (arith, s .flat)))
+    terminal-goes (a .words .now) (a .text .now .now) (a .left) (a .word) (a .at) (a .table .now) (a .count .now) (start .pre .1 .0) (start .pre .1 .1) (word-is (a .word) (after-node-of .node-of .ensures) (is-any _ (omega arith))) (c .any-byte .ensures)
 
 eval-kind-returns-3 : (t : ℕ) → eval-kind-lts.Need-returns-3 (eval-kind-claims t) (eval-kind-at t) eval-kind.Post
-unfolding kindM
 eval-kind-returns-3 t c =
     let after-node-of : eval-kind-place eval-kind-lts.After-node-of t = search in
     let start : eval-kind-place eval-kind-lts.Start t = search in
     let a = start .args in
     let pre = start .pre in
     let f = after-node-of .node-of in
-    let s = shape (folded (f .result .a) (f .result .b)) (a .text .now .now) (a .at) (pre .1 .0 .here) in
-    word-goes (a .words .now) (a .text .now .now) (a .left) (a .word) (a .at) (a .table .now) (a .count .now) (λ z. let l = pre .1 .1 in omega arith) (word-is (a .word) (f .ensures) (is-folded-range _ (omega arith) (omega (arith, f .ensures .its-zero, pre .1 .2 (omega (arith, f .ensures .its-kind)))))) (gives-value (terminalAt (folded (f .result .a) (f .result .b)) (a .text .now .now) (a .at)) refl (c .byte-folded .ensures)
-    (record { in-text = s .in-text; up-to-end = s .up-to-end; in-examined = s .in-examined; failure = s .failure; nested = omega (arith, s .flat) })
-    (omega (arith, s .flat)))
+    terminal-goes (a .words .now) (a .text .now .now) (a .left) (a .word) (a .at) (a .table .now) (a .count .now) (pre .1 .0) (pre .1 .1) (word-is (a .word) (f .ensures) (is-folded-range _ (omega arith) (omega (arith, f .ensures .its-zero, pre .1 .2 (omega (arith, f .ensures .its-kind)))))) (c .byte-folded .ensures)
 
 eval-kind-same-length : (t : ℕ) → eval-kind-lts.Need-same-length (eval-kind-claims t) (eval-kind-at t) eval-kind.Post
 eval-kind-same-length t c = search needs
@@ -557,23 +546,19 @@ eval-node-byte-between-requires : (t : ℕ) → eval-node-lts.Need-byte-between-
 eval-node-byte-between-requires t c κs = search needs
 
 eval-node-returns-2 : (t : ℕ) → eval-node-lts.Need-returns-2 (eval-node-claims t) (eval-node-at t) eval-node.Post
-unfolding kindM
 eval-node-returns-2 t c =
     let then2 : eval-node-place eval-node-lts.Then2 t = search in
     let after-is-plain-range : eval-node-place eval-node-lts.After-is-plain-range t = search in
     let after-node-of : eval-node-place eval-node-lts.After-node-of t = search in
-    let start : eval-node-place eval-node-lts.Start t = search in
     let else1 : eval-node-place eval-node-lts.Else1 t = search in
+    let start : eval-node-place eval-node-lts.Start t = search in
     let a = start .args in
-    let pre = start .pre in
+    let word = getD (a .words .now) (a .node) 0 in
     let f = after-node-of .node-of in
     let u = said-plain (f .result .kind) (f .result .zero) (sym (after-is-plain-range .is-plain-range .ensures) ∙ then2 .if2 .taken) in
-    let s = shape (range (f .result .a) (f .result .b)) (a .text .now .now) (a .at) (pre .1 .0 .here) in
-    node-goes (a .words .now) (a .text .now .now) (a .left) (a .node) (a .at) (a .table .now) (a .count .now) (else1 .if1 .left)
-    (word-goes (a .words .now) (a .text .now .now) (a .left) (getD (a .words .now) (a .node) 0) (a .at) (a .table .now) (a .count .now) (else1 .if1 .left) (word-is (getD (a .words .now) (a .node) 0) (f .ensures) (is-plain-range _ (u .0) (u .1)))
-    (gives-value (terminalAt (range (f .result .a) (f .result .b)) (a .text .now .now) (a .at)) refl (c .byte-between .ensures)
-    (record { in-text = s .in-text; up-to-end = s .up-to-end; in-examined = s .in-examined; failure = s .failure; nested = omega (arith, s .flat) })
-    (omega (arith, s .flat))))
+    let ne = else1 .if1 .left in
+    node-goes (a .words .now) (a .text .now .now) (a .left) (a .node) (a .at) (a .table .now) (a .count .now) ne
+    (terminal-goes (a .words .now) (a .text .now .now) (a .left) word (a .at) (a .table .now) (a .count .now) (start .pre .1 .0) (omega (arith, ne)) (word-is word (f .ensures) (is-plain-range _ (u .0) (u .1))) (c .byte-between .ensures))
 
 eval-node-eval-kind-requires : (t : ℕ) → eval-node-lts.Need-eval-kind-requires (eval-node-claims t) (eval-node-at t) eval-node.Post
 eval-node-eval-kind-requires t c κs =

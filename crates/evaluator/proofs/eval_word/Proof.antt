@@ -1,14 +1,8 @@
-use Rattle.packrat.proofs.Rules.{word-goes}
+use Rattle.evaluator.proofs.Ends.{terminal-goes}
 use Rattle.packrat.proofs.LoadedRuns.{word-is}
-use Rattle.packrat.proofs.Gives.{gives-value}
-use Rattle.packrat.specs.Model.{kindM}
-use Rattle.grammar.proofs.Terminals.{shape}
 use Rattle.grammar.proofs.Nodes.{is-plain-range}
-use Rattle.grammar.specs.Terminal.{terminalAt}
-use Rattle.grammar.specs.Image.{range}
 use Rattle.image.proofs.PlainRange.{said-plain, said-folded-word}
-use mathlib.Core.Path.{refl, sym, _∙_}
-use native.Mathlib.Omega.{arith}
+use mathlib.Core.Path.{sym, _∙_}
 use borrow.Author.Needs.{needs}
 use Rattle.evaluator.proofs.eval_word.Statement.{statement}
 use Rattle.evaluator.proofs.eval_word.Tie as tie
@@ -23,21 +17,15 @@ byte-between-requires : tie.Need-byte-between-requires
 byte-between-requires c κs = search needs
 
 returns : tie.Need-returns
-unfolding kindM
 returns c =
     let then1 : tie.Then1 = search in
     let after-is-plain-range : tie.After-is-plain-range = search in
     let after-node-of : tie.After-node-of = search in
     let start : tie.Start = search in
     let a = start .args in
-    let pre = start .pre in
     let f = after-node-of .node-of in
     let u = said-plain (f .result .kind) (f .result .zero) (sym (after-is-plain-range .is-plain-range .ensures) ∙ then1 .if1 .taken) in
-    let s = shape (range (f .result .a) (f .result .b)) (a .text .now .now) (a .at) (pre .0 .here) in
-    word-goes (a .words .now) (a .text .now .now) (a .left) (a .word) (a .at) (a .table .now) (a .count .now) (λ z. let l = pre .1 in omega arith) (word-is (a .word) (f .ensures) (is-plain-range _ (u .0) (u .1)))
-    (gives-value (terminalAt (range (f .result .a) (f .result .b)) (a .text .now .now) (a .at)) refl (c .byte-between .ensures)
-    (record { in-text = s .in-text; up-to-end = s .up-to-end; in-examined = s .in-examined; failure = s .failure; nested = omega (arith, s .flat) })
-    (omega (arith, s .flat)))
+    terminal-goes (a .words .now) (a .text .now .now) (a .left) (a .word) (a .at) (a .table .now) (a .count .now) (start .pre .0) (start .pre .1) (word-is (a .word) (f .ensures) (is-plain-range _ (u .0) (u .1))) (c .byte-between .ensures)
 
 eval-kind-requires : tie.Need-eval-kind-requires
 eval-kind-requires c κs =
