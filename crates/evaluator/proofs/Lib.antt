@@ -1,2 +1,2 @@
 -- What the evaluator's functions share.
-pub mod Ends
+pub mod Terminals

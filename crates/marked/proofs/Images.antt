@@ -13,7 +13,7 @@ use Rattle.grammar.specs.Image.{node, nodeOf, body, Terminal}
 use Rattle.grammar.specs.Image.{Node, empty, terminal, sequence, choice, star, not-predicate, call, unlawful}
 use Rattle.grammar.specs.Outcomes.{Has, matches-empty, call-body, then-00, else-0, else-second, not-0, terminal-f}
 use Rattle.grammar.specs.WellFormed.{WellFormed, wf-empty, wf-terminal, wf-call, wf-then, wf-else, wf-star, wf-not}
-use Rattle.grammar.specs.Questions.{Question6, Question7, Lawful, Checked}
+use Rattle.grammar.specs.Questions.{Question4, Question6, Question7, Lawful, Checked}
 use Rattle.grammar.specs.Questions.{roots, childrenBelow, occurrences}
 use Rattle.grammar.specs.Tests.{every, headerTest, ruleTest, nodeTest, wordsTest, onceTest}
 use Rattle.grammar.proofs.Tests.{header-asked, words-asked, lawful-image}
@@ -198,24 +198,13 @@ size-refused =
           );
     }
 
+-- An image that passes 1 to 3 and has a word that is not lawful.
+refused-4 : (img : List ℕ) → headerTest img ≡ true → (Question4 img → ⊥) → Checked img 4
+refused-4 img e wrong = let q = header-asked img e in record { first = inr (q .0, inr (q .1, inr (q .2, inl (wrong, refl)))) }
+
 pub child-refused : Checked ownChild 4
 unfolding ownChild headerTest edition rules nodes start fieldsAt nodeWord
-child-refused =
-    let q = header-asked ownChild refl in
-    record {
-      first =
-          inr (
-            q .0,
-            inr (
-              q .1,
-              inr (
-                q .2,
-                inl
-                    ((λ w. let h = w .node-words 0 (lit< tt) .child-A (lit≤ tt) (lit≤ tt) in omega arith), refl),
-              ),
-            ),
-          );
-    }
+child-refused = refused-4 ownChild refl (λ w. let h = w .node-words 0 (lit< tt) .child-A (lit≤ tt) (lit≤ tt) in omega arith)
 
 pub orphan-refused : Checked orphan 5
 unfolding orphan every headerTest ruleTest nodeTest wordsTest onceTest edition rules nodes start ruleZero root ruleWord fieldsAt nodeWord nodeOf roots childrenBelow occurrences
@@ -243,24 +232,8 @@ kilo-accepted = checked (record { lawful = lawful (passes .5); well-formed = kil
 
 pub folded-any-refused : Checked foldedAny 4
 unfolding foldedAny headerTest edition rules nodes start fieldsAt nodeWord
-folded-any-refused =
-    let q = header-asked foldedAny refl in
-    record {
-      first =
-          inr (
-            q .0,
-            inr (
-              q .1,
-              inr (q .2, inl ((λ w. let h = w .node-words 0 (lit< tt) .zero-bits (λ e. omega arith) in omega arith), refl)),
-            ),
-          );
-    }
+folded-any-refused = refused-4 foldedAny refl (λ w. let h = w .node-words 0 (lit< tt) .zero-bits (λ e. omega arith) in omega arith)
 
 pub second-bit-refused : Checked secondBit 4
 unfolding secondBit headerTest edition rules nodes start fieldsAt nodeWord
-second-bit-refused =
-    let q = header-asked secondBit refl in
-    record {
-      first =
-          inr (q .0, inr (q .1, inr (q .2, inl ((λ w. let h = w .node-words 0 (lit< tt) .zero-bits-2 refl in omega arith), refl))));
-    }
+second-bit-refused = refused-4 secondBit refl (λ w. let h = w .node-words 0 (lit< tt) .zero-bits-2 refl in omega arith)

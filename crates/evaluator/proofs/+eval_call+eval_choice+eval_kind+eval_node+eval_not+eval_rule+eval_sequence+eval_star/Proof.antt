@@ -3,7 +3,7 @@
 -- something inside.
 -- Assumes nothing.
 use Rattle.packrat.proofs.Rules.{was-possible, was-impossible, rule-impossible, rule-too-deep, rule-met, rule-refused, rule-stored, node-too-deep, node-goes, word-goes, call-goes, past-7}
-use Rattle.evaluator.proofs.Ends.{terminal-goes}
+use Rattle.evaluator.proofs.Terminals.{terminal-goes}
 use Rattle.packrat.proofs.LoadedRuns.{word-is}
 use Rattle.packrat.proofs.Stars.{Rounds, rounds-start, round-refused, round-still, round-fails, round-goes, round-bounds}
 use Rattle.packrat.proofs.Runs.{not-refused, not-answered, call-refused, call-answered, nesting-allowed, says-itself, length-within}

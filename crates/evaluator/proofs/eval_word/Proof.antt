@@ -1,4 +1,4 @@
-use Rattle.evaluator.proofs.Ends.{terminal-goes}
+use Rattle.evaluator.proofs.Terminals.{terminal-goes}
 use Rattle.packrat.proofs.LoadedRuns.{word-is}
 use Rattle.grammar.proofs.Nodes.{is-plain-range}
 use Rattle.image.proofs.PlainRange.{said-plain, said-folded-word}
