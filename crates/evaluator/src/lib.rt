@@ -9,7 +9,7 @@ use records::Record;
 ghost use Prim.Native.Nat.{_+_, _-_, _<_};
 ghost use lib.ListN.{length};
 ghost use mathlib.Core.Path.{_≡_};
-ghost use Rattle.grammar.specs.Image.{fieldsOf, foldBit, sequence, choice, star, not-predicate, call};
+ghost use Rattle.grammar.specs.Image.{sequence, choice, star, not-predicate, call};
 ghost use Rattle.packrat.specs.Model.{pairM};
 ghost use Rattle.packrat.specs.Loaded.{rulesIn, nodeW, wordM, kindW};
 ghost use Rattle.packrat.specs.Gives.{Ready, Gives};
@@ -21,7 +21,8 @@ const RECORDS: u64 = numbers::RECORDS as u64;
 
 const NESTING: u64 = numbers::NESTING as u64;
 
-// A node at a position. A byte range without the fold bit is answered here, which saves the call that most visits would end in.
+// A node at a position. A byte range without the fold bit and an ASCII character are answered here, which saves the call that most
+// visits would end in.
 fn eval_node(
     words: &[u32; 4097],
     text: &&[u8],
@@ -38,14 +39,22 @@ fn eval_node(
         return NESTING;
     }
     let word = words[node];
-    let fields = image::node_of(word);
-    if image::is_plain_range(fields.kind, fields.zero) {
-        return terminals::byte_between(*text, fields.a, fields.b, at);
+    let first = image::first_byte(word);
+    if first <= image::PLAIN_RANGE {
+        if first == image::PLAIN_RANGE {
+            let fields = image::node_of(word);
+            return terminals::byte_between(*text, fields.a, fields.b, at);
+        }
+        if first == image::ANY {
+            if terminals::characters::is_ascii(*text, at) {
+                return terminals::ONE_BYTE;
+            }
+        }
     }
-    eval_kind(words, text, table, count, word, at, left)
+    eval_word(words, text, table, count, word, at, left)
 }
 
-// A node's word at a position. A byte range without the fold bit is answered here too.
+// A node's word at a position, by its kind.
 pub fn eval_word(
     words: &[u32; 4097],
     text: &&[u8],
@@ -59,33 +68,13 @@ pub fn eval_word(
     ensures { λ r. ⌜ Gives (length (now (now (text .entry)))) at left (wordM (now (words .entry)) (now (now (text .entry))) (left - 1) word at (now (table .entry)) (now (count .entry))) r (now (table .exit)) (now (count .exit)) ⌝ }
 {
     let fields = image::node_of(word);
-    if image::is_plain_range(fields.kind, fields.zero) {
-        return terminals::byte_between(*text, fields.a, fields.b, at);
-    }
-    eval_kind(words, text, table, count, word, at, left)
-}
-
-// Any other word, by its kind.
-fn eval_kind(
-    words: &[u32; 4097],
-    text: &&[u8],
-    table: &mut [u64],
-    count: &mut u64,
-    word: u32,
-    at: usize,
-    left: usize,
-) -> u64
-    requires { ⌜ Ready (now (now text)) at left × (0 < left) × (fieldsOf word .kind ≡ 2 → foldBit (fieldsOf word .zero) ≡ 1) ⌝ }
-    ensures { λ r. ⌜ Gives (length (now (now (text .entry)))) at left (wordM (now (words .entry)) (now (now (text .entry))) (left - 1) word at (now (table .entry)) (now (count .entry))) r (now (table .exit)) (now (count .exit)) ⌝ }
-{
-    let fields = image::node_of(word);
     let kind = fields.kind;
     let a = fields.a;
     let b = fields.b;
     match kind {
         0 => answers::EMPTY_HERE,
-        1 => terminals::any_byte(*text, at),
-        2 => terminals::byte_folded(*text, a, b, at),
+        1 => terminals::characters::any_character(text, at),
+        2 => terminals::byte_range(*text, fields.zero, a, b, at),
         3 => eval_sequence(words, text, table, count, a, b, at, left - 1),
         4 => eval_choice(words, text, table, count, a, b, at, left - 1),
         5 => eval_star(words, text, table, count, a, at, left - 1),

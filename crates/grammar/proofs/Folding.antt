@@ -4,31 +4,16 @@
 --     no-letter     a byte that is no letter is taken as without the fold bit
 --     alone         in a lawful word of kind 2 the four zero bits are the fold bit
 -- Assumes nothing.
-use Prim.Native.Nat.{ℕ, _+_, _-_, _≤_}
+use Prim.Native.Nat.{ℕ, _+_, _-_}
 use native.Mathlib.Omega.{arith}
-use borrow.Author.Tests.{leb-true, le-leb}
 use mathlib.Core.Path.{_≡_, refl, ap, _∙_}
 use mathlib.Core.Bool.{Bool, true, false, _||_, cond}
 use mathlib.Core.List.{List}
-use lib.Dec.{leb}
-use Rattle.grammar.proofs.Bools.{both, joined}
+use Rattle.grammar.proofs.Between.{bounds, inside, outside}
 use Rattle.grammar.specs.Image.{range, folded, foldBit, kind, nodeZero}
 use Rattle.grammar.specs.Questions.{LawfulNode}
-use Rattle.grammar.specs.Terminal.{between, otherCase, accepts}
-
-module _ (from to byte : ℕ) where
-  pub bounds : between from to byte ≡ true → (from ≤ byte) × (byte ≤ to)
-  bounds e = let t = both (leb from byte) (leb byte to) e in (leb-true from byte (t .0), leb-true byte to (t .1))
-
-  inside : from ≤ byte → byte ≤ to → between from to byte ≡ true
-  inside h k = joined (le-leb from byte h) (le-leb byte to k)
-
-  outside : (from ≤ byte → byte ≤ to → ⊥) → between from to byte ≡ false
-  outside n = go (between from to byte) refl
-    where
-      go : (b : Bool) → between from to byte ≡ b → between from to byte ≡ false
-      go true e = let t = bounds e in absurd (n (t .0) (t .1))
-      go false e = e
+use Rattle.grammar.specs.Between.{between}
+use Rattle.grammar.specs.Terminal.{otherCase, accepts}
 
 -- A byte that is no letter stands for its other case; the other case of a capital letter and of a small one.
 module _ (byte : ℕ) where

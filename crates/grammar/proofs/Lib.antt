@@ -5,7 +5,10 @@ pub mod Nodes
 pub mod References
 pub mod First
 pub mod Acceptance
+pub mod Between
+pub mod Characters
 pub mod Terminals
+pub mod OneCharacter
 pub mod Folding
 pub mod Determinism
 pub mod Tests

@@ -39,9 +39,6 @@ module _ (f : NodeFields) where
   pub is-plain-range : f .kind ≡ 2 → foldBit (f .zero) ≡ 0 → nodeOf f ≡ terminal (range (f .a) (f .b))
   is-plain-range e z = is-range e ∙ ap terminal (without-bit (f .zero) (f .a) (f .b) (λ o. omega arith))
 
-  pub is-folded-range : f .kind ≡ 2 → foldBit (f .zero) ≡ 1 → nodeOf f ≡ terminal (folded (f .a) (f .b))
-  is-folded-range e o = is-range e ∙ ap terminal (with-bit (f .zero) (f .a) (f .b) o)
-
   pub is-sequence : f .kind ≡ 3 → nodeOf f ≡ sequence (f .a) (f .b)
   is-sequence e = of-kind e
 

@@ -93,7 +93,7 @@ pub data Subject : Type 0 where
 pub data Evaluates (img text : List ℕ) (answers : ℕ → ℕ → CallAnswer) : Subject → ℕ → Evaluation → Type 0 where
   -- empty
   ev-empty : {p : ℕ} {z : Evaluation} → z ≡ emptyHere → Evaluates img text answers (a-node empty) p z
-  -- any byte, byte from A to B
+  -- any, byte from A to B
   ev-terminal :
       {t : Terminal} {p : ℕ} {z : Evaluation} → z ≡ terminalAt t text p → Evaluates img text answers (a-node (terminal t)) p z
   -- A then B, A fails

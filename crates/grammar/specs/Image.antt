@@ -70,7 +70,8 @@ fieldA img n = fieldsAt img n .a
 abbrev pub fieldB : List ℕ → ℕ → ℕ
 fieldB img n = fieldsAt img n .b
 
--- The kinds that look at the text itself: "1 any byte; 2 byte from A to B inclusive", and kind 2 with the fold bit set.
+-- The kinds that look at the text itself: "1 any byte", of which 02, R-5, makes one character; "2 byte from A to B inclusive", and kind 2
+-- with the fold bit set.
 pub data Terminal : Type 0 where
   any : Terminal
   range : (from to : ℕ) → Terminal

@@ -2,4 +2,4 @@
 pub mod PastTheEnd
 pub mod SameFields
 pub mod Linked
-pub mod PlainRange
+pub mod FirstByte

@@ -2,10 +2,8 @@
 // as 0. Which bits are which field is said in the crate `grammar`, specs/Image.antt.
 use grammar::NodeFields;
 ghost use mathlib.Core.Path.{_≡_};
-ghost use mathlib.Core.Bool.{_&&_};
-ghost use lib.Dec.{eqb};
-ghost use Prim.Native.Nat.{_<_};
-ghost use Rattle.grammar.specs.Image.{byteAt, word16, word32, nodeWord, fieldsOf, fieldsAt, foldBit};
+ghost use Prim.Native.Nat.{_/_, _^_, _<_};
+ghost use Rattle.grammar.specs.Image.{byteAt, word16, word32, nodeWord, fieldsOf, fieldsAt};
 ghost use Rattle.image.specs.Fields.{HeaderFields, RuleFields, SameFields};
 ghost use Rattle.image.specs.Linked.{linkedFrom};
 
@@ -128,12 +126,17 @@ pub fn node_of(word: u32) -> NodeFields
     }
 }
 
-// Whether the fields of a word, its kind and its zero bits, are those of a byte range without the fold bit.
-pub fn is_plain_range(kind: usize, zero: usize) -> bool
-    ensures { λ r. ⌜ r ≡ (eqb kind 2 && eqb (foldBit zero) 0) ⌝ }
+// The first byte of a node's word: "kind 4, zero 4".
+pub fn first_byte(word: u32) -> usize
+    ensures { λ r. ⌜ r ≡ word / 2 ^ 24 ⌝ }
 {
-    (kind == 2) & (zero % 2 == 0)
+    wide_word(word) / 16777216
 }
+
+// It is the kind alone where the zero bits are 0: any, and a byte range without the fold bit.
+pub const ANY: usize = 0x10;
+
+pub const PLAIN_RANGE: usize = 0x20;
 
 // The fields of a node's word.
 pub fn node_at(image: &[u8], node: usize) -> NodeFields

@@ -1,19 +1,16 @@
 -- What the terminals tell: the word of a terminal's evaluation says that evaluation. Assumes nothing.
 use Prim.Native.Nat.{ℕ}
-use mathlib.Core.Path.{_≡_, refl}
-use mathlib.Core.Bool.{Bool, true, false, _&&_}
+use native.Mathlib.Omega.{arith}
+use mathlib.Core.Path.{_≡_}
 use mathlib.Core.List.{List}
-use lib.ListN.{length}
-use lib.Dec.{ltb}
-use Rattle.grammar.specs.Image.{byteAt, Terminal}
-use Rattle.grammar.specs.Terminal.{accepts, tested, terminalAt}
-use Rattle.records.specs.Words.{valueOf, wordOf, matchedOf, nestingOf, examinedOf, lengthOf}
-
-by-test : (b : Bool) → valueOf (wordOf (tested b)) ≡ tested b
-unfolding valueOf wordOf matchedOf nestingOf examinedOf lengthOf
-by-test true = refl
-by-test false = refl
+use Rattle.grammar.specs.Image.{Terminal}
+use Rattle.grammar.specs.Terminal.{terminalAt}
+use Rattle.grammar.proofs.Terminals.{at-most-four}
+use Rattle.records.specs.Words.{valueOf, wordOf}
+use Rattle.records.proofs.Codec.{value-back}
 
 pub says-terminal : (t : Terminal) (text : List ℕ) (p : ℕ) → valueOf (wordOf (terminalAt t text p)) ≡ terminalAt t text p
-unfolding terminalAt
-says-terminal t text p = by-test (ltb p (length text) && accepts t (byteAt text p))
+says-terminal t text p =
+    let f = at-most-four t text p in
+    value-back (terminalAt t text p)
+    (record { nesting-fits = omega (arith, f .no-depth); examined-fits = omega (arith, f .few-examined); length-fits = omega (arith, f .few-taken) })

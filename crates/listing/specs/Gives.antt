@@ -22,7 +22,7 @@ coded (stopped k) = 65536 + k
 abbrev pub toldLength : Evaluation → ℕ
 toldLength x = lengthOr (x .matched) (x .length)
 
--- What a kind with nothing inside tells: empty, any byte, and a byte range by its zero bits.
+-- What a kind with nothing inside tells: empty, any, and a byte range by its zero bits.
 pub record Leaf (text : List ℕ) (kind zero-bits from to at told : ℕ) : Type 0 where
   pub of-empty : kind ≡ 0 → told ≡ 0
   pub of-any : kind ≡ 1 → told ≡ toldLength (terminalAt any text at)

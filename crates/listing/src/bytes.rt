@@ -17,15 +17,18 @@ fn told(word: u64) -> usize
     }
 }
 
-// A kind below 3, which has nothing inside: "0 empty; 1 any byte; 2 byte from A to B inclusive".
-pub fn leaf(text: &[u8], kind: usize, zero: usize, from: usize, to: usize, at: usize) -> usize
-    ensures { λ r. ⌜ Leaf (now (text .entry)) kind zero from to at r ⌝ }
+// A kind below 3, which has nothing inside: empty, any, a byte range. An ASCII character is told without a call.
+pub fn leaf(text: &&[u8], kind: usize, zero: usize, from: usize, to: usize, at: usize) -> usize
+    ensures { λ r. ⌜ Leaf (now (now (text .entry))) kind zero from to at r ⌝ }
 {
     if kind == 2 {
-        return told(terminals::byte_range(text, zero, from, to, at));
+        return told(terminals::byte_range(*text, zero, from, to, at));
     }
     if kind == 1 {
-        return told(terminals::any_byte(text, at));
+        if terminals::characters::is_ascii(*text, at) {
+            return 1;
+        }
+        return told(terminals::characters::any_character(text, at));
     }
     0
 }

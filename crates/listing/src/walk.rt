@@ -47,7 +47,7 @@ fn walk_node(
     let a = fields.a;
     let b = fields.b;
     if kind < 3 {
-        return bytes::leaf(*text, kind, fields.zero, a, b, at);
+        return bytes::leaf(text, kind, fields.zero, a, b, at);
     }
     match kind {
         3 => walk_sequence(

@@ -18,15 +18,15 @@ use Rattle.grammar.specs.Questions.{roots, childrenBelow, occurrences}
 use Rattle.grammar.specs.Tests.{every, headerTest, ruleTest, nodeTest, wordsTest, onceTest}
 use Rattle.grammar.proofs.Tests.{header-asked, words-asked, lawful-image}
 use Rattle.grammar.proofs.Acceptance.{checked, refused-6, refused-7}
-use Rattle.marked.specs.Images.{D2, M7, M8, M9, parts, secondEdition, startTooHigh, byteTooMany, ownChild, orphan, kilo, foldedAny, secondBit}
+use Rattle.marked.specs.Images.{D2, M7, M8, M9, parts, secondEdition, startTooHigh, byteTooMany, ownChild, orphan, kilo, foldedAny, secondBit, dot, letters}
 
 -- The three tests that say that an image is lawful.
 abbrev Passes : List ℕ → Type 0
 Passes img = (headerTest img ≡ true) × (wordsTest img ≡ true) × (every (nodes img) (onceTest img) ≡ true)
 
-passes : Passes D2 × Passes M7 × Passes M8 × Passes M9 × Passes parts × Passes kilo
-unfolding D2 M7 M8 M9 parts kilo every headerTest ruleTest nodeTest wordsTest onceTest edition rules nodes start ruleZero root ruleWord fieldsAt nodeWord nodeOf roots childrenBelow occurrences
-passes = ((refl, refl, refl), (refl, refl, refl), (refl, refl, refl), (refl, refl, refl), (refl, refl, refl), (refl, refl, refl))
+passes : Passes D2 × Passes M7 × Passes M8 × Passes M9 × Passes parts × Passes kilo × Passes dot × Passes letters
+unfolding D2 M7 M8 M9 parts kilo dot letters every headerTest ruleTest nodeTest wordsTest onceTest edition rules nodes start ruleZero root ruleWord fieldsAt nodeWord nodeOf roots childrenBelow occurrences
+passes = ((refl, refl, refl), (refl, refl, refl), (refl, refl, refl), (refl, refl, refl), (refl, refl, refl), (refl, refl, refl), (refl, refl, refl), (refl, refl, refl))
 
 lawful : {img : List ℕ} → Passes img → Lawful img
 lawful {img} p = lawful-image img (p .0) (p .1) (p .2)
@@ -229,6 +229,34 @@ kilo-formed = record { every-node = go }
 
 pub kilo-accepted : Checked kilo 0
 kilo-accepted = checked (record { lawful = lawful (passes .5); well-formed = kilo-formed })
+
+-- dot and letters.
+dot-formed : Question7 dot
+unfolding dot rules nodes root ruleWord fieldsAt nodeWord nodeOf body
+dot-formed = record { every-node = go }
+  where
+    go : (n : ℕ) → n < 1 → WellFormed dot (node dot n)
+    go zero l = wf-terminal
+    go (suc n) l = absurd (omega arith)
+
+pub dot-accepted : Checked dot 0
+dot-accepted = checked (record { lawful = lawful (passes .6); well-formed = dot-formed })
+
+letters-formed : Question7 letters
+unfolding letters rules nodes root ruleWord fieldsAt nodeWord nodeOf body
+letters-formed = record { every-node = go }
+  where
+    letter-consumes : Has letters (call 1) matches-empty → ⊥
+    letter-consumes (call-body h) = terminal-lacks-0 h
+
+    go : (n : ℕ) → n < 3 → WellFormed letters (node letters n)
+    go zero l = wf-star (wf-call wf-terminal) letter-consumes
+    go (suc zero) l = wf-call wf-terminal
+    go (suc (suc zero)) l = wf-terminal
+    go (suc (suc (suc n))) l = absurd (omega arith)
+
+pub letters-accepted : Checked letters 0
+letters-accepted = checked (record { lawful = lawful (passes .7); well-formed = letters-formed })
 
 pub folded-any-refused : Checked foldedAny 4
 unfolding foldedAny headerTest edition rules nodes start fieldsAt nodeWord

@@ -1,5 +1,6 @@
 pub mod Images
 pub mod Sessions
+pub mod Characters
 pub mod Nested
 pub mod Marked
 pub mod Foreign

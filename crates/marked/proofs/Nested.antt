@@ -2,23 +2,22 @@
 use Prim.Native.Nat.{ℕ, zero, suc, _+_, _*_, _≤_, _<_, max}
 use native.Mathlib.Omega.{arith}
 use mathlib.Core.Path.{_≡_, refl, sym, ap, _∙_, subst}
-use mathlib.Core.Bool.{Bool, true, false, _&&_}
+use mathlib.Core.Bool.{Bool, true, cond}
 use mathlib.Core.List.{List, [], _∷_}
 use mathlib.Core.Logic.{inl, inr}
 use lib.ListN.{length, length-replicate, getD-replicate}
-use lib.Dec.{ltb}
-use borrow.Author.Tests.{lt-ltb, le-ltb}
 use Rattle.grammar.specs.declared.Evaluation.{Evaluation}
 use Rattle.grammar.specs.Image.{edition, rules, nodes, start, ruleZero, root, ruleWord, nodeWord, fieldsAt}
 use Rattle.grammar.specs.Image.{node, nodeOf, body, Terminal, range, terminal, byteAt}
 use Rattle.grammar.specs.Outcomes.{Has, matches-empty}
 use Rattle.grammar.specs.WellFormed.{WellFormed, wf-empty, wf-terminal, wf-call, wf-then, wf-else}
 use Rattle.grammar.specs.Questions.{Question7, Checked, ofImage, roots, childrenBelow, occurrences}
-use Rattle.grammar.specs.Terminal.{terminalAt, accepts, tested}
+use Rattle.grammar.specs.Terminal.{terminalAt, accepts, hasAt, taken, notTaken}
 use Rattle.grammar.specs.Evaluates.{Fresh, bodiesOnly, a-pair}
 use Rattle.grammar.specs.Evaluates.{ev-empty, ev-terminal, ev-then-first-fails, ev-then, ev-else-first, ev-else-second, ev-call, ev-body}
 use Rattle.grammar.specs.Tests.{every, headerTest, ruleTest, nodeTest, wordsTest, onceTest}
 use Rattle.grammar.proofs.Tests.{lawful-image}
+use Rattle.grammar.proofs.Terminals.{has-there, has-not, by-byte, range-alone}
 use Rattle.grammar.proofs.First.{then-asked}
 use Rattle.grammar.proofs.Acceptance.{checked, accepted}
 use Rattle.grammar.proofs.Determinism.{one}
@@ -60,17 +59,21 @@ long : (k : ℕ) → length (brackets k) ≡ k
 unfolding brackets
 long k = length-replicate k 0x28
 
-here : (k p : ℕ) → p < k → tested true ≡ terminalAt (range 0x28 0x28) (brackets k) p
-unfolding terminalAt accepts brackets
-here k p h =
+by-test : (k p : ℕ) {b : Bool} → hasAt (accepts (range 0x28 0x28)) (brackets k) p ≡ b → cond b (taken 1 1) notTaken ≡ terminalAt (range 0x28 0x28) (brackets k) p
+by-test k p e =
     sym
-    (ap (λ (b : ℕ). tested (ltb p (length (brackets k)) && accepts (range 0x28 0x28) b)) (getD-replicate k p 0x28 0 h)
-    ∙ ap (λ (b : Bool). tested (b && true)) (ap (ltb p) (long k) ∙ lt-ltb p k h))
+    (by-byte (range 0x28 0x28) (brackets k) p (range-alone 0x28 0x28 (byteAt (brackets k) p))
+    ∙ ap (λ (b : Bool). cond b (taken 1 1) notTaken) e)
 
-at-end : (k : ℕ) → tested false ≡ terminalAt (range 0x28 0x28) (brackets k) k
-unfolding terminalAt
-at-end k =
-    sym (ap (λ (b : Bool). tested (b && accepts (range 0x28 0x28) (byteAt (brackets k) k))) (ap (ltb k) (long k) ∙ le-ltb k k (omega arith)))
+here : (k p : ℕ) → p < k → taken 1 1 ≡ terminalAt (range 0x28 0x28) (brackets k) p
+unfolding accepts brackets
+here k p h =
+    by-test k p
+    (has-there (accepts (range 0x28 0x28)) (brackets k) p (let l = long k in omega arith)
+    ∙ ap (accepts (range 0x28 0x28)) (getD-replicate k p 0x28 0 h))
+
+at-end : (k : ℕ) → notTaken ≡ terminalAt (range 0x28 0x28) (brackets k) k
+at-end k = by-test k k (has-not (accepts (range 0x28 0x28)) (brackets k) k (let l = long k in omega arith))
 
 -- The evaluation where j brackets are left.
 abbrev opening : ℕ → Evaluation
@@ -88,7 +91,7 @@ deeper j = omega arith
 bracketed : (k j p : ℕ) → p + j ≡ k → Fresh M10 (brackets k) (a-pair 0) p (opening j)
 unfolding M10 rules root ruleWord fieldsAt nodeWord nodeOf body
 bracketed k zero p h =
-    let e = subst (λ (q : ℕ). tested false ≡ terminalAt (range 0x28 0x28) (brackets k) q) (let d : k ≡ p = omega arith in d) (at-end k) in
+    let e = subst (λ (q : ℕ). notTaken ≡ terminalAt (range 0x28 0x28) (brackets k) q) (let d : k ≡ p = omega arith in d) (at-end k) in
     ev-body refl (ev-else-second (ev-then-first-fails (ev-terminal e) refl refl) refl (ev-empty refl) refl)
 bracketed k (suc j) p h =
     let e = here k p (omega arith) in

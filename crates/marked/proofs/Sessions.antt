@@ -5,7 +5,8 @@ use mathlib.Core.Path.{_≡_, refl}
 use mathlib.Core.List.{List, []}
 use lib.ListN.{length, replicate}
 use Rattle.grammar.specs.Image.{rules, nodes, start, ruleWord, root, nodeWord, fieldsAt, nodeOf, body}
-use Rattle.grammar.specs.Terminal.{otherCase, accepts, terminalAt}
+use Rattle.grammar.specs.Characters.{laterBytes}
+use Rattle.grammar.specs.Terminal.{otherCase, accepts, laterOf, terminalAt}
 use Rattle.grammar.proofs.Acceptance.{accepted}
 use Rattle.records.specs.Words.{matchedOf, spareOf, nestingOf, examinedOf, lengthOf, valueOf, wordOf, possible}
 use Rattle.records.specs.Slots.{slotOf}
@@ -23,10 +24,10 @@ use Rattle.ledger.specs.Sessions.{SessionSays}
 use Rattle.loaded.proofs.LoadedImage.{wordsFrom}
 use Rattle.ledger.proofs.Runs.{repliesOf}
 use Rattle.ledger.proofs.Sessions.{session-says}
-use Rattle.marked.specs.Images.{D2, parts, kilo}
+use Rattle.marked.specs.Images.{D2, parts, kilo, letters}
 use Rattle.marked.specs.Sessions.{text12a, calls1, replies1, calls2, replies2, calls3, replies3, calls4, replies4, calls5, replies5, text12, calls6, replies6}
-use Rattle.marked.specs.Sessions.{callsOver, repliesOver, callsRefused, repliesRefused, callsListed, repliesListed, textParts, callsParts, repliesParts, textFold, callsFold, repliesFold}
-use Rattle.marked.proofs.Images.{d2-accepted, parts-accepted, kilo-accepted}
+use Rattle.marked.specs.Sessions.{callsOver, repliesOver, callsRefused, repliesRefused, callsListed, repliesListed, textParts, callsParts, repliesParts, textFold, callsFold, repliesFold, textLetter, callsLetter, repliesLetter}
+use Rattle.marked.proofs.Images.{d2-accepted, parts-accepted, kilo-accepted, letters-accepted}
 
 -- The calls as functions give these replies.
 abbrev ComputedBy : (img : List ℕ) (cap : ℕ) (text : List ℕ) → List Call → List Reply → Type 0
@@ -44,7 +45,7 @@ computed :
     × Computed [] calls5 replies5
     × Computed text12a callsOver repliesOver
     × Computed text12a callsRefused repliesRefused
-unfolding D2 rules nodes start ruleWord root nodeWord fieldsAt nodeOf body accepts terminalAt matchedOf
+unfolding D2 rules nodes start ruleWord root nodeWord fieldsAt nodeOf body accepts laterOf laterBytes terminalAt matchedOf
     spareOf nestingOf examinedOf lengthOf valueOf wordOf possible slotOf afterFirst afterChoice afterRound roundsM met looked pairM
     kindM nodeM textAfter wordAfter wordsAfter
 computed = (refl, refl, refl, refl, refl, refl, refl)
@@ -55,11 +56,12 @@ listed :
     × Computed text12 callsListed repliesListed
     × ComputedBy parts 3 textParts callsParts repliesParts
     × ComputedBy kilo 1 textFold callsFold repliesFold
-unfolding D2 parts kilo rules nodes start ruleWord root nodeWord fieldsAt nodeOf body otherCase accepts terminalAt matchedOf
+    × ComputedBy letters 3 textLetter callsLetter repliesLetter
+unfolding D2 parts kilo letters rules nodes start ruleWord root nodeWord fieldsAt nodeOf body otherCase accepts laterOf laterBytes terminalAt matchedOf
     spareOf nestingOf examinedOf lengthOf valueOf wordOf possible slotOf afterFirst afterChoice afterRound roundsM met looked pairM
     kindM nodeM textAfter wordAfter wordsAfter wordsFrom wordNode after bind afterLook partV joined walk.afterFirst walk.afterChoice walk.afterRound
     roundsV entered walk.met pairV kindV nodeV startV touches rowWord rowWords
-listed = (refl, refl, refl, refl)
+listed = (refl, refl, refl, refl, refl)
 
 -- D2 is accepted.
 says :
@@ -99,3 +101,6 @@ parts-holds = session-says parts textParts 3 (accepted parts-accepted) (omega ar
 
 pub fold-holds : SessionSays kilo textFold 1 callsFold repliesFold
 fold-holds = session-says kilo textFold 1 (accepted kilo-accepted) (omega arith) (omega arith) callsFold repliesFold (listed .3)
+
+pub letter-holds : SessionSays letters textLetter 3 callsLetter repliesLetter
+letter-holds = session-says letters textLetter 3 (accepted letters-accepted) (omega arith) (omega arith) callsLetter repliesLetter (listed .4)

@@ -9,8 +9,8 @@ use Rattle.reading.specs.Plain.{PlainRead}
 use Rattle.ledger.specs.Ledger.{Call, Reply}
 use Rattle.ledger.specs.Sessions.{SessionSays}
 use Rattle.marked.specs.Sessions.{text12a, calls1, replies1, calls2, replies2, calls3, replies3, calls4, replies4, calls5, replies5, text12, calls6, replies6}
-use Rattle.marked.specs.Sessions.{callsOver, repliesOver, callsRefused, repliesRefused, callsListed, repliesListed, callsDeep, repliesDeep, textParts, callsParts, repliesParts, textFold, callsFold, repliesFold}
-use Rattle.marked.specs.Images.{D2, M7, M8, M9, M10, brackets, parts, secondEdition, startTooHigh, byteTooMany, ownChild, orphan, kilo, foldedAny, secondBit}
+use Rattle.marked.specs.Sessions.{callsOver, repliesOver, callsRefused, repliesRefused, callsListed, repliesListed, callsDeep, repliesDeep, textParts, callsParts, repliesParts, textFold, callsFold, repliesFold, textLetter, callsLetter, repliesLetter}
+use Rattle.marked.specs.Images.{D2, M7, M8, M9, M10, brackets, parts, secondEdition, startTooHigh, byteTooMany, ownChild, orphan, kilo, foldedAny, secondBit, dot, letters}
 
 pub data Line : Type 0 where
   -- the image check gives this image this number
@@ -50,7 +50,8 @@ marked =
     ∷ plain-reading M10 (brackets 1365) (PlainAnswer.Refused 14)
     ∷ []
 
--- An image for each of the numbers 1 to 7 that no marked case has, and sessions that the marked cases leave out; the last four are R-1's.
+-- An image for each of the numbers 1 to 7 that no marked case has, and sessions that the marked cases leave out; the last seven are R-1's
+-- and R-5's.
 abbrev pub witnesses : List Line
 witnesses =
     image-number [] 1
@@ -69,4 +70,64 @@ witnesses =
     ∷ image-number foldedAny 4
     ∷ image-number secondBit 4
     ∷ session kilo textFold 1 callsFold repliesFold
+    ∷ image-number dot 0
+    ∷ image-number letters 0
+    ∷ session letters textLetter 3 callsLetter repliesLetter
+    ∷ []
+
+-- Characters (02, R-5): what a plain reading of `dot` gives.
+abbrev pub any-reads : (text : List ℕ) → Outcome → (length examined : ℕ) → Line
+any-reads text outcome length examined =
+    plain-reading dot text (PlainAnswer.Read (record { outcome = outcome; length = length; examined = examined; nesting = 1 }))
+
+-- The first and the last character of each line of RFC 3629's table.
+abbrev pub complete : List Line
+complete =
+    any-reads (0x00 ∷ []) Outcome.Whole 1 1
+    ∷ any-reads (0x7F ∷ []) Outcome.Whole 1 1
+    ∷ any-reads (0xC2 ∷ 0x80 ∷ []) Outcome.Whole 2 2
+    ∷ any-reads (0xDF ∷ 0xBF ∷ []) Outcome.Whole 2 2
+    ∷ any-reads (0xE0 ∷ 0xA0 ∷ 0x80 ∷ []) Outcome.Whole 3 3
+    ∷ any-reads (0xE0 ∷ 0xBF ∷ 0xBF ∷ []) Outcome.Whole 3 3
+    ∷ any-reads (0xE1 ∷ 0x80 ∷ 0x80 ∷ []) Outcome.Whole 3 3
+    ∷ any-reads (0xEC ∷ 0xBF ∷ 0xBF ∷ []) Outcome.Whole 3 3
+    ∷ any-reads (0xED ∷ 0x80 ∷ 0x80 ∷ []) Outcome.Whole 3 3
+    ∷ any-reads (0xED ∷ 0x9F ∷ 0xBF ∷ []) Outcome.Whole 3 3
+    ∷ any-reads (0xEE ∷ 0x80 ∷ 0x80 ∷ []) Outcome.Whole 3 3
+    ∷ any-reads (0xEF ∷ 0xBF ∷ 0xBF ∷ []) Outcome.Whole 3 3
+    ∷ any-reads (0xF0 ∷ 0x90 ∷ 0x80 ∷ 0x80 ∷ []) Outcome.Whole 4 4
+    ∷ any-reads (0xF0 ∷ 0xBF ∷ 0xBF ∷ 0xBF ∷ []) Outcome.Whole 4 4
+    ∷ any-reads (0xF1 ∷ 0x80 ∷ 0x80 ∷ 0x80 ∷ []) Outcome.Whole 4 4
+    ∷ any-reads (0xF3 ∷ 0xBF ∷ 0xBF ∷ 0xBF ∷ []) Outcome.Whole 4 4
+    ∷ any-reads (0xF4 ∷ 0x80 ∷ 0x80 ∷ 0x80 ∷ []) Outcome.Whole 4 4
+    ∷ any-reads (0xF4 ∷ 0x8F ∷ 0xBF ∷ 0xBF ∷ []) Outcome.Whole 4 4
+    ∷ []
+
+-- "A byte that begins no lawful character matches alone, with length 1": a character that the end or another byte breaks off, a second byte
+-- that its first one forbids, bytes that begin none; and the end.
+abbrev pub broken : List Line
+broken =
+    any-reads (0xE2 ∷ 0x82 ∷ []) Outcome.Part 1 3
+    ∷ any-reads (0xC3 ∷ 0x61 ∷ []) Outcome.Part 1 2
+    ∷ any-reads (0xE0 ∷ 0x80 ∷ []) Outcome.Part 1 2
+    ∷ any-reads (0xED ∷ 0xA0 ∷ []) Outcome.Part 1 2
+    ∷ any-reads (0xF4 ∷ 0x90 ∷ []) Outcome.Part 1 2
+    ∷ any-reads (0x80 ∷ []) Outcome.Whole 1 1
+    ∷ any-reads (0xC0 ∷ []) Outcome.Whole 1 1
+    ∷ any-reads (0xF5 ∷ []) Outcome.Whole 1 1
+    ∷ any-reads [] Outcome.Nothing 0 1
+    ∷ any-reads (0xC3 ∷ []) Outcome.Whole 1 2
+    ∷ any-reads (0xE2 ∷ 0x82 ∷ 0x61 ∷ []) Outcome.Part 1 3
+    ∷ any-reads (0xF0 ∷ 0x90 ∷ 0x80 ∷ []) Outcome.Part 1 4
+    ∷ any-reads (0xF0 ∷ 0x90 ∷ 0x80 ∷ 0x61 ∷ []) Outcome.Part 1 4
+    ∷ any-reads (0xC0 ∷ 0x80 ∷ []) Outcome.Part 1 1
+    ∷ any-reads (0xE0 ∷ 0x80 ∷ 0x80 ∷ []) Outcome.Part 1 2
+    ∷ any-reads (0xE0 ∷ 0x9F ∷ 0xBF ∷ []) Outcome.Part 1 2
+    ∷ any-reads (0xF0 ∷ 0x8F ∷ 0xBF ∷ 0xBF ∷ []) Outcome.Part 1 2
+    ∷ any-reads (0xED ∷ 0xA0 ∷ 0x80 ∷ []) Outcome.Part 1 2
+    ∷ any-reads (0xF4 ∷ 0x90 ∷ 0x80 ∷ 0x80 ∷ []) Outcome.Part 1 2
+    ∷ any-reads (0xC1 ∷ 0xBF ∷ []) Outcome.Part 1 1
+    ∷ any-reads (0xF5 ∷ 0x80 ∷ 0x80 ∷ 0x80 ∷ []) Outcome.Part 1 1
+    ∷ any-reads (0xFF ∷ []) Outcome.Whole 1 1
+    ∷ any-reads (0xC3 ∷ 0xC3 ∷ 0xA9 ∷ []) Outcome.Part 1 2
     ∷ []

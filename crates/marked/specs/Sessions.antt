@@ -158,3 +158,37 @@ repliesFold =
     ∷ stand 1 0
     ∷ answers Outcome.Nothing 0 1 1 1
     ∷ []
+
+-- "Site names arrive in UTF-8" (02, R-5). A letter of two bytes and its rows; an edit inside it, after which its first byte stands alone;
+-- one that completes it again; and one that leaves its first byte at the end. The letter's record says that two bytes were looked at, also
+-- where it has one.
+abbrev pub textLetter : List ℕ
+textLetter = 0xC3 ∷ 0xA9 ∷ []
+
+abbrev pub callsLetter : List Call
+callsLetter =
+    listing 2
+    ∷ look-up 1 0
+    ∷ edit 1 2 (0x61 ∷ [])
+    ∷ reading
+    ∷ look-up 1 0
+    ∷ edit 1 1 (0xBC ∷ [])
+    ∷ reading
+    ∷ edit 1 3 []
+    ∷ reading
+    ∷ look-up 1 0
+    ∷ []
+
+abbrev pub repliesLetter : List Reply
+repliesLetter =
+    listed Outcome.Whole 2 3 3 3 2 (0x0000000000000002 ∷ 0x0100000100000002 ∷ [])
+    ∷ word 0xC000000200020002
+    ∷ stand 2 1
+    ∷ answers Outcome.Whole 2 3 3 3
+    ∷ word 0xC000000200020001
+    ∷ stand 3 2
+    ∷ answers Outcome.Whole 3 4 3 2
+    ∷ stand 1 1
+    ∷ answers Outcome.Whole 1 2 3 2
+    ∷ word 0xC000000200020001
+    ∷ []

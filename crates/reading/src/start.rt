@@ -1,5 +1,5 @@
 // The body of the start rule over lent records. Both readings begin with its root's word, and neither with a rule: the evaluator's
-// `eval_rule` then has one caller, and is compiled into `eval_kind`.
+// `eval_rule` then has one caller, and is compiled into `eval_word`.
 use records::Record;
 ghost use Prim.Native.Nat.{_≤_};
 ghost use lib.ListN.{length};

@@ -1,13 +1,16 @@
 // The terminals: what kinds 1 and 2 do at a position, as the word of the evaluation.
+pub mod characters;
+
 ghost use Prim.Native.Nat.{_<_};
 ghost use mathlib.Core.Path.{_≡_};
 ghost use lib.ListN.{length};
-ghost use Rattle.grammar.specs.Image.{byteAt, any, range, folded, rangeBy};
-ghost use Rattle.grammar.specs.Terminal.{between, otherCase, terminalAt};
+ghost use Rattle.grammar.specs.Image.{byteAt, range, folded, rangeBy};
+ghost use Rattle.grammar.specs.Between.{between};
+ghost use Rattle.grammar.specs.Terminal.{otherCase, terminalAt};
 ghost use Rattle.records.specs.Words.{wordOf};
 
 // A match of one byte, and a failure that examined one place.
-const ONE_BYTE: u64 = records::HELD_MATCHED + records::ONE_NESTING + records::ONE_EXAMINED + 1;
+pub const ONE_BYTE: u64 = records::HELD_MATCHED + records::ONE_NESTING + records::ONE_EXAMINED + 1;
 
 const NO_BYTE: u64 = records::HELD + records::ONE_NESTING + records::ONE_EXAMINED;
 
@@ -17,13 +20,6 @@ pub fn end_of(text: &[u8]) -> usize
     ensures { λ r. ⌜ r ≡ length (now (text .entry)) ⌝ }
 {
     text.len()
-}
-
-// "1 any byte"
-pub fn any_byte(text: &[u8], at: usize) -> u64
-    ensures { λ r. ⌜ r ≡ wordOf (terminalAt any (now (text .entry)) at) ⌝ }
-{
-    if at < end_of(text) { ONE_BYTE } else { NO_BYTE }
 }
 
 fn wide(byte: u8) -> usize

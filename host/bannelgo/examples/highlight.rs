@@ -27,7 +27,7 @@ const COLOURS: [(&str, u8); 6] = [
 
 /// A line is tried as what it may be, up to its end; any other line is wrong.
 fn settings() -> Result<Grammar, GrammarError> {
-    let rest_byte = || sequence([not(literal("\n")), any()]);
+    let not_newline = || sequence([not(literal("\n")), any()]);
     let letters = || plus(either_case(range(b'a', b'z')));
     let right = choice(["Comment", "Section", "Setting", "Blank"].map(call));
     let value = choice([to_the_end(call("Number")), call("Words")]);
@@ -36,14 +36,14 @@ fn settings() -> Result<Grammar, GrammarError> {
     Grammar::builder()
         .rule("Settings", sequence([lines, call("Line"), not(any())]))
         .rule("Line", choice([to_the_end(right), call("Wrong")]))
-        .rule("Comment", sequence([literal("#"), star(rest_byte())]))
+        .rule("Comment", sequence([literal("#"), star(not_newline())]))
         .rule("Section", sequence([literal("["), letters(), literal("]")]))
         .rule("Setting", sequence([call("Key"), literal(" = "), value]))
         .rule("Blank", star(one_of(" \t")))
         .rule("Key", letters())
         .rule("Number", plus(range(b'0', b'9')))
-        .rule("Words", plus(rest_byte()))
-        .rule("Wrong", plus(rest_byte()))
+        .rule("Words", plus(not_newline()))
+        .rule("Wrong", plus(not_newline()))
         .build()
 }
 

@@ -5,10 +5,11 @@ use std::fmt;
 /// A place in a text as line and column, both from 1 on.
 ///
 /// A line ends with a line feed. A column is a character in UTF-8, and its bytes are all in that column;
-/// a byte that is in no character has a column of its own.
+/// a byte that is in no character has a column of its own. [`any`](crate::grammar::any) takes the same
+/// characters.
 #[derive(Clone, Copy, Debug, PartialEq, Eq, PartialOrd, Ord, Hash)]
 pub struct Place {
-    /// The number of bytes before the place.
+    /// The number of bytes before the place, which can be inside a character.
     pub offset: usize,
     /// The line, from 1 on.
     pub line: usize,

@@ -79,8 +79,9 @@ impl Reading {
     /// The last place that the reading looked at, as line and column of the text that was read.
     ///
     /// Where a text does not match as a whole, this is how far it could be followed. It can lie behind
-    /// the mistake: where the grammar looks far ahead, by `and` or `not`, and where a part is tried and
-    /// given up, such as one whose closing quote is missing.
+    /// the mistake: where the grammar looks far ahead, by `and` or `not`, where a part is tried and given
+    /// up, such as one whose closing quote is missing, and where `any` looked for the rest of a character
+    /// that breaks off.
     ///
     /// ```
     /// use bannelgo::grammar::{any, literal, not, sequence, star, Grammar};

@@ -79,7 +79,10 @@ impl Sheet {
 
     /// These bytes give way to `replacement`. A refusal has number 9 or 10 and changes nothing.
     ///
-    /// Typing at a cursor is `edit(cursor..cursor, key)`, a backspace `edit(cursor - 1..cursor, "")`.
+    /// Typing at a cursor is `edit(cursor..cursor, key)`, and a backspace takes the letter before it:
+    /// `edit(cursor - letter.len_utf8()..cursor, "")`. A letter with an accent has two bytes or more. It can
+    /// be typed, changed and deleted byte by byte too: while it is incomplete, [`any`](crate::grammar::any)
+    /// takes its bytes one by one.
     ///
     /// ```
     /// # use bannelgo::grammar::{any, star, Grammar};
@@ -89,6 +92,9 @@ impl Sheet {
     /// sheet.edit(0..1, "m")?; // one letter in the place of another
     /// assert_eq!(sheet.text(), b"maps");
     /// sheet.edit(1.., "")?; // all but one letter is deleted
+    /// assert_eq!(sheet.text(), b"m");
+    /// sheet.edit(1..1, "ü")?;
+    /// sheet.edit(3 - 'ü'.len_utf8()..3, "")?; // a backspace behind it
     /// assert_eq!(sheet.text(), b"m");
     ///
     /// assert!(sheet.edit(1..1, "12345678").is_err()); // there is room for 8

@@ -1,9 +1,12 @@
 //! What calls answer: readings and records.
 
+mod texts;
+
 use bannelgo::grammar::{
     any, byte, call, choice, literal, not, plus, range, sequence, star, Grammar,
 };
 use bannelgo::{Outcome, Reading, Record, Sheet, MOST_BYTES};
+use texts::texts;
 
 /// Line <- Word ("," Word)* "\n"; Word <- '"' (!'"' .)* '"' / [a-z]+.
 fn words() -> Grammar {
@@ -15,19 +18,6 @@ fn words() -> Grammar {
         .rule("Word", choice([quoted, plus(range(b'a', b'z'))]))
         .build()
         .expect("accepted")
-}
-
-/// Every text of these bytes, up to a length.
-fn texts(bytes: &[u8], longest: usize) -> Vec<Vec<u8>> {
-    let mut texts = vec![vec![]];
-    let mut next = 0;
-    while texts[next].len() < longest {
-        for &byte in bytes {
-            texts.push([&texts[next][..], &[byte]].concat());
-        }
-        next += 1;
-    }
-    texts
 }
 
 /// A reading that did not look at the end has the same fields whatever follows, and is never whole then.

@@ -27,7 +27,7 @@ fn each_range_has_the_bit() {
     assert_eq!(one_rule(either_case(literal("kWh"))).image(), unit);
 }
 
-/// [0-9], then k in either case or any byte, then W.
+/// [0-9], then k in either case or any character, then W.
 #[test]
 fn what_stands_around_it_has_no_bit() {
     let letter = either_case(choice([byte(b'k'), any()]));

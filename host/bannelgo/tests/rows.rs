@@ -192,8 +192,8 @@ fn a_row_has_its_fields_apart() {
 #[test]
 fn a_listing_grows_its_slots() {
     let grammar = Grammar::builder()
-        .rule("Bytes", sequence([star(call("Byte")), not(any())]))
-        .rule("Byte", any())
+        .rule("Text", sequence([star(call("Character")), not(any())]))
+        .rule("Character", any())
         .build()
         .expect("accepted");
     for length in [1_022, 1_023, 1_024, 5_000, 65_535] {
@@ -202,10 +202,10 @@ fn a_listing_grows_its_slots() {
         let listing = sheet.list(usize::MAX).expect("it grows");
         assert_eq!(listing.rows.len(), length + 1);
         assert_eq!(listing.rows[0].range(), 0..length);
-        let byte = |(start, row): (usize, &Row)| {
+        let character = |(start, row): (usize, &Row)| {
             (row.rule, row.depth, row.range()) == (1, 1, start..start + 1)
         };
-        assert!(listing.rows[1..].iter().enumerate().all(byte));
+        assert!(listing.rows[1..].iter().enumerate().all(character));
         assert_eq!(listing.read.evaluations, length + 2);
         let tree = sheet.tree().expect("it grows");
         assert_eq!(tree.len(), length + 1);

@@ -24,10 +24,10 @@ pub fn relay(rules: usize) -> Grammar {
     }
 }
 
-/// Has f; has 1 if rule 0 has 0 or 1; has 0 if rule 0 has f. It calls rule 0 only after a byte.
+/// Has f; has 1 if rule 0 has 0 or 1; has 0 if rule 0 has f. It calls rule 0 only behind any.
 fn last_of_relay() -> Expr {
-    let one = then(Expr::AnyByte, Expr::Call(0));
-    let zero = not(not(then(Expr::AnyByte, not(Expr::Call(0)))));
+    let one = then(Expr::Any, Expr::Call(0));
+    let zero = not(not(then(Expr::Any, not(Expr::Call(0)))));
     or_else(one, zero)
 }
 

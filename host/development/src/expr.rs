@@ -6,7 +6,8 @@ use std::fmt;
 #[derive(Clone, Debug, PartialEq, Eq)]
 pub enum Expr {
     Empty,
-    AnyByte,
+    /// One character of 1 to 4 bytes, or a byte that begins none.
+    Any,
     /// A byte from the first to the second, both included.
     Bytes(u8, u8),
     /// The same with the fold bit: a byte that is one of these, or whose other ASCII case is.
@@ -67,7 +68,7 @@ pub fn choice<const N: usize>(parts: [Expr; N]) -> Expr {
 impl Expr {
     pub fn children(&self) -> Vec<&Expr> {
         match self {
-            Expr::Empty | Expr::AnyByte | Expr::Bytes(..) | Expr::Folded(..) | Expr::Call(_) => {
+            Expr::Empty | Expr::Any | Expr::Bytes(..) | Expr::Folded(..) | Expr::Call(_) => {
                 vec![]
             }
             Expr::Star(a) | Expr::Not(a) => vec![a],
@@ -83,7 +84,7 @@ impl Expr {
                 a.change_leaves(change);
                 b.change_leaves(change);
             }
-            Expr::Empty | Expr::AnyByte | Expr::Bytes(..) | Expr::Folded(..) | Expr::Call(_) => {
+            Expr::Empty | Expr::Any | Expr::Bytes(..) | Expr::Folded(..) | Expr::Call(_) => {
                 change(self)
             }
         }
@@ -112,7 +113,7 @@ impl fmt::Display for Expr {
     fn fmt(&self, out: &mut fmt::Formatter<'_>) -> fmt::Result {
         match self {
             Expr::Empty => write!(out, "empty"),
-            Expr::AnyByte => write!(out, "any byte"),
+            Expr::Any => write!(out, "any"),
             Expr::Bytes(a, b) if a == b => write!(out, "0x{a:02X}"),
             Expr::Bytes(a, b) => write!(out, "0x{a:02X} to 0x{b:02X}"),
             Expr::Folded(a, b) => write!(out, "{} in either case", Expr::Bytes(*a, *b)),

@@ -5,7 +5,7 @@
 //!
 //! Two more grammars read a sheet while it is typed. They take any line, so that a sheet with an
 //! unfinished line is whole too. In the second the lines are grouped by day. The demonstration has a grammar
-//! in which an entry has a unit too, in either case.
+//! in which the title has a site's name, in any characters, and an entry has a unit, in either case.
 
 use crate::expr;
 use crate::reference::read_grammar;
@@ -17,20 +17,29 @@ use bannelgo::Grammar;
 
 /// The rules of a sheet, by name: 16 rules, 122 nodes.
 pub fn named_sheet() -> Grammar {
-    built(sheet_rules(entry(None)))
+    built(sheet_rules(title("Name"), entry(None)))
 }
 
-/// The same with a unit behind the values, kWh in either case: 17 rules.
-pub fn named_sheet_with_units() -> Grammar {
+/// The same with a site's name of any characters, and with a unit behind the values, kWh in either case: 19
+/// rules.
+pub fn named_site_sheet() -> Grammar {
     let unit = optional(sequence([call("Space"), call("Unit")]));
-    let mut rules = sheet_rules(entry(Some(unit)));
-    rules.push(("Unit", either_case(literal("kWh"))));
+    let mut rules = sheet_rules(title("Site"), entry(Some(unit)));
+    rules.extend([
+        ("Unit", either_case(literal("kWh"))),
+        (
+            "Site",
+            plus(sequence([not(call("NewLine")), call("Character")])),
+        ),
+        ("Character", any()),
+    ]);
     built(rules)
 }
 
-fn sheet_rules(entry: Expr) -> Vec<(&'static str, Expr)> {
+fn sheet_rules(title: Expr, entry: Expr) -> Vec<(&'static str, Expr)> {
     rules(
         sequence([call("Title"), star(call("Line")), call("End")]),
+        title,
         choice([call("Comment"), call("Entry"), call("Blank")]),
         entry,
         [
@@ -44,6 +53,7 @@ fn sheet_rules(entry: Expr) -> Vec<(&'static str, Expr)> {
 pub fn named_sheet_of_lines() -> Grammar {
     built(rules(
         sequence([call("Title"), star(call("Line")), not(any())]),
+        title("Name"),
         choice([call("Comment"), call("Entry"), call("Blank"), call("Other")]),
         entry(None),
         [
@@ -58,6 +68,7 @@ pub fn named_sheet_of_days() -> Grammar {
     let blank = sequence([call("Space"), call("NewLine")]);
     built(rules(
         sequence([call("Title"), star(call("Day")), not(any())]),
+        title("Name"),
         choice([call("Comment"), call("Entry"), blank, call("Other")]),
         entry(None),
         [
@@ -83,8 +94,8 @@ pub fn sheet() -> expr::Grammar {
     tree_of(&named_sheet())
 }
 
-pub fn sheet_with_units() -> expr::Grammar {
-    tree_of(&named_sheet_with_units())
+pub fn site_sheet() -> expr::Grammar {
+    tree_of(&named_site_sheet())
 }
 
 pub fn sheet_of_lines() -> expr::Grammar {
@@ -100,16 +111,18 @@ pub fn tree_of(grammar: &Grammar) -> expr::Grammar {
     read_grammar(grammar.image()).expect("an accepted image passes questions 1 to 5")
 }
 
-/// The rules that all have, with those that differ: a sheet, a line, an entry, the sixth and the last.
+/// The rules that all have, with those that differ: a sheet, a title, a line, an entry, the sixth and the
+/// last.
 fn rules(
     sheet: Expr,
+    title: Expr,
     line: Expr,
     entry: Expr,
     [sixth, last]: [(&'static str, Expr); 2],
 ) -> Vec<(&'static str, Expr)> {
     vec![
         ("Sheet", sheet),
-        ("Title", title()),
+        ("Title", title),
         ("Line", line),
         ("Entry", entry),
         (
@@ -143,13 +156,9 @@ fn built(rules: Vec<(&str, Expr)>) -> Grammar {
         .expect("the check accepts a sheet's grammar")
 }
 
-fn title() -> Expr {
-    sequence([
-        literal("GAPS"),
-        call("Space"),
-        call("Name"),
-        call("NewLine"),
-    ])
+/// The first line, with a name by this rule.
+fn title(name: &str) -> Expr {
+    sequence([literal("GAPS"), call("Space"), call(name), call("NewLine")])
 }
 
 /// A name, two times and values, and a unit where the grammar has one.

@@ -12,9 +12,10 @@ grey;   13:45:00 / 14:00:00;  ?
 red;    16:15:00 / 17:00:00;  0, -0.25, +4
 ";
 
-/// The same with the unit of the values, which the meter that came later writes in capitals.
-pub const SHEET_WITH_UNITS: &str = "\
-GAPS North_3
+/// The same with the name of a site that has letters with accents, and with the unit of the values, which the
+/// meter that came later writes in capitals.
+pub const SITE_SHEET: &str = "\
+GAPS Zürich-Süd
 # Week 11. Red is estimated, amber is copied from the week before, grey is open.
 amber;  06:15:00 / 07:00:00;  12.4, 12.9, 13.1 kWh
 red;    09:30:00 / 10:00:00;  8.75, ? kWh

@@ -6,6 +6,7 @@
 
 pub mod big_images;
 pub mod calls;
+pub mod dots;
 pub mod expected;
 pub mod expr;
 pub mod figures;

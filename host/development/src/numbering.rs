@@ -122,7 +122,7 @@ impl Flat {
         });
         let (kind, a, b) = match expr {
             Expr::Empty => (0, ZERO, ZERO),
-            Expr::AnyByte => (1, ZERO, ZERO),
+            Expr::Any => (1, ZERO, ZERO),
             Expr::Bytes(low, high) | Expr::Folded(low, high) => {
                 (2, Field::Number(*low), Field::Number(*high))
             }

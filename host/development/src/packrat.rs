@@ -5,6 +5,7 @@
 
 use crate::expr::{Expr, Grammar};
 use crate::reference::bytes::{between, between_in_either_case};
+use crate::reference::characters::any_at;
 
 pub struct Packrat<'g> {
     grammar: &'g Grammar,
@@ -61,7 +62,7 @@ impl Parser<'_> {
     fn parse(&mut self, expr: &Expr, at: usize) -> Option<usize> {
         match expr {
             Expr::Empty => Some(at),
-            Expr::AnyByte => (at < self.text.len()).then_some(at + 1),
+            Expr::Any => any_at(self.text, at).length.map(|length| at + length),
             Expr::Bytes(low, high) => match self.text.get(at) {
                 Some(byte) if between(*byte, *low, *high) => Some(at + 1),
                 _ => None,

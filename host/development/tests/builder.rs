@@ -3,7 +3,7 @@
 use bannelgo::grammar::{self, Builder, GrammarError};
 use bannelgo_development::expr::{Expr, Grammar};
 use bannelgo_development::generate::{
-    change_one_node, each_grammar, guarded, unfolded, wild, TASTES,
+    change_one_node, each_grammar, guarded, wild, Feature, TASTES,
 };
 use bannelgo_development::numbering::{image_of, Numbering};
 use bannelgo_development::reference::places::{shortest_ring, star_over_nothing};
@@ -26,7 +26,7 @@ fn builder(grammar: &Grammar, made: fn(&Expr) -> grammar::Expr) -> Builder {
 fn expr(body: &Expr) -> grammar::Expr {
     match body {
         Expr::Empty => grammar::empty(),
-        Expr::AnyByte => grammar::any(),
+        Expr::Any => grammar::any(),
         Expr::Bytes(low, high) => grammar::range(*low, *high),
         Expr::Folded(low, high) => grammar::either_case(grammar::range(*low, *high)),
         Expr::Then(a, b) => grammar::sequence([expr(a), expr(b)]),
@@ -71,7 +71,7 @@ fn repeats_nothing(grammar: &Grammar, rule: usize) -> bool {
 #[test]
 fn builder_and_numbering_make_the_same_images() {
     let mut counts = [0u64; 8];
-    let leaves = [Expr::Empty, Expr::AnyByte];
+    let leaves = [Expr::Empty, Expr::Any];
     each_grammar(2, 5, &leaves, &mut |grammar| {
         counts[compare(grammar) as usize] += 1;
     });
@@ -90,7 +90,7 @@ fn builder_and_numbering_make_the_same_images() {
         }
         let number = compare(&grammar);
         counts[number as usize] += 1;
-        folded += u32::from(number == 0 && unfolded(&grammar).is_some());
+        folded += u32::from(number == 0 && Feature::FoldBits.taken_from(&grammar).is_some());
     }
     assert!(
         [0, 6, 7].iter().all(|&number| counts[number] >= 500),

@@ -13,6 +13,8 @@ fn both_readings_are_the_same() {
             every::two_rules(),
             every::one_rule_in_both_cases(),
             every::two_rules_in_both_cases(),
+            every::one_rule_over_characters(),
+            every::two_rules_over_characters(),
             random::letters(1101),
             random::bytes(1102),
             shapes::shapes(1201),

@@ -4,7 +4,9 @@
 mod sheets;
 
 use bannelgo_development::small_stack::on_small_stack;
-use sheets::{cases, deep, every, foreign, listings, lists, long, planners, tally, true_tables};
+use sheets::{
+    cases, characters, deep, every, foreign, listings, lists, long, planners, tally, true_tables,
+};
 
 #[test]
 fn lists_of_calls_are_the_ledgers() {
@@ -15,6 +17,8 @@ fn lists_of_calls_are_the_ledgers() {
             lists::full(3103),
             every::edits(3104),
             cases::changes(3108),
+            characters::changes(3109),
+            characters::borders(3110),
             planners::sheets(3105),
             deep::near_the_limit(3106),
             long::most_bytes(3107),
@@ -43,7 +47,14 @@ fn lists_of_calls_are_the_ledgers() {
             ("0 rows", 20_000),
             ("fold", 4_000),
             ("fold l", 3_000),
+            ("char", 3_000),
+            ("char l", 2_500),
             ("case", 40_000),
+            ("inside", 30_000),
+            ("split", 7_000),
+            ("join", 5_500),
+            ("goes on", 10_000),
+            ("unlawful", 70_000),
         ];
         tally::settle(&tallies, 200_000, &fewest);
     });
@@ -66,7 +77,13 @@ fn calls_over_any_words_are_the_papers() {
             ("14", 100),
             ("free", 5_000),
             ("fold", 1_000),
+            ("char", 1_000),
             ("case", 8_000),
+            ("inside", 2_500),
+            ("split", 400),
+            ("join", 100),
+            ("goes on", 100),
+            ("unlawful", 2_000),
         ];
         tally::settle(&tallies, 150_000, &fewest);
     });
@@ -92,7 +109,13 @@ fn listings_are_the_ledgers_and_the_papers() {
             ("15", 5_000),
             ("free l", 5_000),
             ("fold l", 1_000),
+            ("char l", 500),
             ("case", 8_000),
+            ("inside", 2_500),
+            ("split", 400),
+            ("join", 100),
+            ("goes on", 100),
+            ("unlawful", 2_000),
         ];
         tally::settle(&tallies, 150_000, &fewest);
     });

@@ -33,6 +33,7 @@ fn its_parts_come_in_order() {
         "Keys",
         "Where a typed line stopped matching",
         "Letters in either case",
+        "Names with accents",
         "What a key costs",
         "Refusals",
         "The marked images",

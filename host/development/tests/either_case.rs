@@ -1,34 +1,14 @@
 //! Letters in either case, worked out by hand: readings by the library and both readers of the reference,
 //! and a session by the library and the ledger.
 
-use bannelgo::Outcome::{Nothing, Part, Whole};
-use bannelgo::{Edited, Listing, SheetReading};
-use bannelgo_development::calls::{ask, open_image, Answer, Call};
-use bannelgo_development::expected::{reading, row, ReadingFields};
-use bannelgo_development::expr::{sequence, star, then, Expr, Grammar};
-use bannelgo_development::numbering::{image_of, Numbering};
-use bannelgo_development::packrat::Packrat;
-use bannelgo_development::reference::ledger::Ledger;
-use bannelgo_development::reference::{self, recursive};
-use Expr::{Bytes, Folded};
+mod by_hand;
 
-/// Asks all readers for a text by a grammar of one rule.
-fn expect(rule: &Expr, text: &[u8], fields: ReadingFields) {
-    let rules = vec![rule.clone()];
-    let grammar = Grammar { start: 0, rules };
-    let image = image_of(&grammar, Numbering::Preorder);
-    let expected = reading(fields);
-    let shown = text.escape_ascii();
-    let read = bannelgo::plain_reading(&image, text);
-    assert_eq!(read, Ok(expected), "ours, {rule}, {shown}");
-    let machine = reference::read(&grammar, text, u64::MAX);
-    assert_eq!(machine, Some(Ok(expected)), "machine, {rule}, {shown}");
-    let recursive = recursive::read(&grammar, text);
-    assert_eq!(recursive, Ok(expected), "recursive, {rule}, {shown}");
-    let end = (expected.outcome != Nothing).then_some(expected.length);
-    let packrat = Packrat::new(&grammar).read(text);
-    assert_eq!(packrat, end, "packrat, {rule}, {shown}");
-}
+use bannelgo::Outcome::{Nothing, Part, Whole};
+use bannelgo_development::calls::Call;
+use bannelgo_development::expr::{sequence, star, then, Expr, Grammar};
+use by_hand::readings::expect;
+use by_hand::sessions::{edit, edited, listed, read, Both};
+use Expr::{Bytes, Folded};
 
 /// A range alone matches each of these bytes, and none of the others.
 fn expect_bytes(range: Expr, matched: &[u8], others: &[u8]) {
@@ -98,63 +78,33 @@ fn the_end_is_examined() {
     expect(&star(Folded(b'a', b'a')), b"aAb", (Part, 2, 3, 2));
 }
 
-fn edit(start: usize, end: usize, replacement: &str) -> Call {
-    Call::Edit {
-        start,
-        end,
-        replacement: replacement.into(),
-    }
-}
-
-fn edited(length: usize, standing: usize) -> Result<Answer, u64> {
-    Ok(Answer::Edited(Edited { length, standing }))
-}
-
-fn read(fields: ReadingFields, evaluations: usize) -> SheetReading {
-    let reading = reading(fields);
-    SheetReading {
-        reading,
-        evaluations,
-    }
-}
-
-/// The whole text "7kWh", in any cases, with a row for each rule.
-fn listed(evaluations: usize) -> Result<Answer, u64> {
-    Ok(Answer::Listing(Listing {
-        read: read((Whole, 4, 4, 5), evaluations),
-        rows: [(0, 0, 0, 4), (1, 1, 0, 1), (2, 1, 1, 3)].map(row).to_vec(),
-    }))
-}
-
 /// Rule 1 is a digit and rule 2 a unit: the cases of the unit's letters change.
 #[test]
 fn a_session_in_both_cases() {
     let body = then(Expr::Call(1), Expr::Call(2));
     let rules = vec![body, Bytes(b'0', b'9'), kwh()];
     let grammar = Grammar { start: 0, rules };
-    let image = image_of(&grammar, Numbering::Preorder);
-    let mut sheet = open_image(&image, b"7kWh", 5).expect("the sheet is opened");
-    let mut ledger = Ledger::open(&grammar, 5, b"7kWh");
-    let mut expect = |call: Call, expected: Result<Answer, u64>| {
-        assert_eq!(ask(&mut sheet, &call), expected, "ours, {call}");
-        assert_eq!(ledger.call(&call), expected, "ledger, {call}");
-    };
+    let mut both = Both::open(&grammar, 5, b"7kWh");
     let list = || Call::List { slots: 3 };
-    let whole = |evaluations| Ok(Answer::Reading(read((Whole, 4, 4, 5), evaluations)));
-    let nothing = |evaluations| Ok(Answer::Reading(read((Nothing, 0, 4, 5), evaluations)));
-    expect(Call::Read, whole(3));
-    expect(edit(1, 2, "K"), edited(4, 1));
-    expect(Call::Read, whole(2));
-    expect(edit(3, 4, "H"), edited(4, 1));
-    expect(list(), listed(2));
-    expect(edit(3, 2, "h"), Err(9));
-    expect(edit(3, 4, "hhh"), Err(10));
-    expect(list(), listed(0));
-    expect(edit(3, 4, "g"), edited(4, 1));
-    expect(Call::Read, nothing(2));
-    expect(edit(1, 4, "kwh"), edited(4, 1));
-    expect(Call::Read, whole(2));
+    let whole = |evaluations| read((Whole, 4, 4, 5), evaluations);
+    let nothing = |evaluations| read((Nothing, 0, 4, 5), evaluations);
+    let rows = |evaluations| {
+        let rows = [(0, 0, 0, 4), (1, 1, 0, 1), (2, 1, 1, 3)];
+        listed((Whole, 4, 4, 5), evaluations, &rows)
+    };
+    both.expect(Call::Read, whole(3));
+    both.expect(edit(1, 2, "K"), edited(4, 1));
+    both.expect(Call::Read, whole(2));
+    both.expect(edit(3, 4, "H"), edited(4, 1));
+    both.expect(list(), rows(2));
+    both.expect(edit(3, 2, "h"), Err(9));
+    both.expect(edit(3, 4, "hhh"), Err(10));
+    both.expect(list(), rows(0));
+    both.expect(edit(3, 4, "g"), edited(4, 1));
+    both.expect(Call::Read, nothing(2));
+    both.expect(edit(1, 4, "kwh"), edited(4, 1));
+    both.expect(Call::Read, whole(2));
     // The unit's record stands behind an edit of the digit.
-    expect(edit(0, 1, "8"), edited(4, 1));
-    expect(list(), listed(2));
+    both.expect(edit(0, 1, "8"), edited(4, 1));
+    both.expect(list(), rows(2));
 }

@@ -10,7 +10,7 @@ use bannelgo_development::expected::{reading, row, ReadingFields};
 use bannelgo_development::expr::{not, or_else, star, then, Expr, Grammar};
 use bannelgo_development::numbering::{image_of, Numbering};
 use bannelgo_development::reference::bytes::{between, between_in_either_case};
-use Expr::{AnyByte, Bytes, Call, Empty, Folded};
+use Expr::{Any, Bytes, Call, Empty, Folded};
 
 /// A range, the bytes that it matches and the others.
 struct Range {
@@ -80,7 +80,7 @@ fn stars_end_behind_what_a_range_matches() {
         let in_front = [&matched[..], others].concat();
         expect_rounds(star(expr.clone()), &in_front, matched.len(), 2);
         let behind = [&others[..], matched].concat();
-        let opposite = star(then(not(expr.clone()), AnyByte));
+        let opposite = star(then(not(expr.clone()), Any));
         expect_rounds(opposite, &behind, others.len(), 4);
     });
 }
@@ -93,12 +93,12 @@ fn expect_rounds(star: Expr, text: &[u8], length: usize, nesting: usize) {
     assert_eq!(read, Ok(expected), "{star}");
 }
 
-/// Rule 0 = ((range then rule 1) else any byte)*, rule 1 = empty: the listing of a sheet has a row behind each
+/// Rule 0 = ((range then rule 1) else any)*, rule 1 = empty: the listing of a sheet has a row behind each
 /// byte that matches.
 #[test]
 fn rows_stand_behind_what_a_range_matches() {
     each_range(&every_byte(), |Range { expr, matched, .. }| {
-        let rounds = star(or_else(then(expr.clone(), Call(1)), AnyByte));
+        let rounds = star(or_else(then(expr.clone(), Call(1)), Any));
         let image = image(vec![rounds, Empty]);
         let mut sheet = open_image(&image, &every_byte(), 256).expect("256 bytes fit");
         let listing = sheet.list(257).expect("257 rows fit");

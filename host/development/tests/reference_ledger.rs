@@ -105,10 +105,10 @@ fn the_papers_brackets() {
     assert_eq!(ledger.call(&Call::Read), whole);
 }
 
-/// S = E then a byte, E = empty: E's record at 0 stays there and also goes with the byte behind it.
+/// S = E then any, E = empty: E's record at 0 stays there and also goes with the byte behind it.
 #[test]
 fn examined_0_stands_twice() {
-    let rules = vec![then(Expr::Call(1), Expr::AnyByte), Expr::Empty];
+    let rules = vec![then(Expr::Call(1), Expr::Any), Expr::Empty];
     let grammar = Grammar { start: 0, rules };
     let mut ledger = Ledger::open(&grammar, 2, b"a");
     assert_eq!(ledger.call(&Call::Read), read((Outcome::Whole, 1, 1, 3, 2)));

@@ -3,11 +3,11 @@
 use bannelgo::Row;
 use bannelgo_development::expected::{row, RowFields};
 use bannelgo_development::expr::{byte, not, or_else, sequence, star, then, Expr, Grammar};
-use bannelgo_development::generate::{small_grammar, some_letters, text_of};
+use bannelgo_development::generate::{small_grammar, some_text, text_of};
 use bannelgo_development::reference::pair_map::PairMap;
 use bannelgo_development::reference::rows::{rows, word};
 use bannelgo_development::rng::Rng;
-use Expr::{AnyByte, Call, Empty};
+use Expr::{Any, Call, Empty};
 
 fn rows_of(grammar: &Grammar, text: &[u8], most: usize) -> Option<Vec<Row>> {
     rows(grammar, text, &mut PairMap::default(), most)
@@ -33,7 +33,7 @@ fn parents_first_and_left_to_right() {
     expect(Call(4), "ab", &inside);
     let empty = [(0, 0, 0, 0), (3, 1, 0, 0), (3, 1, 0, 0)];
     expect(then(Call(3), Call(3)), "", &empty);
-    expect(AnyByte, "a", &[(0, 0, 0, 1)]);
+    expect(Any, "a", &[(0, 0, 0, 1)]);
     expect(Call(1), "b", &[]);
     expect(Call(1), "", &[]);
 }
@@ -46,12 +46,12 @@ fn what_failed_gives_no_row() {
     let rounds = star(then(Call(1), Call(2)));
     let first_round = [(0, 0, 0, 2), (1, 1, 0, 1), last];
     expect(rounds, "aba", &first_round);
-    let looks = sequence([not(Call(2)), not(not(Call(1))), AnyByte, Call(2)]);
+    let looks = sequence([not(Call(2)), not(not(Call(1))), Any, Call(2)]);
     expect(looks, "ab", &[(0, 0, 0, 2), last]);
     let fails = then(Call(1), not(Call(2)));
     expect(fails.clone(), "ab", &[]);
     expect(
-        or_else(fails, then(AnyByte, Call(2))),
+        or_else(fails, then(Any, Call(2))),
         "ab",
         &[(0, 0, 0, 2), last],
     );
@@ -75,7 +75,7 @@ fn rows_are_those_of_a_plain_recursion() {
         let grammar = small_grammar(rng);
         let text = match round % 2 {
             0 => text_of(rng, &grammar, 12),
-            _ => some_letters(rng, 6),
+            _ => some_text(rng, 6),
         };
         let mut plain = Plain {
             rules: &grammar.rules,
@@ -124,7 +124,11 @@ impl Plain<'_> {
         let byte = self.text.get(at).copied();
         match expr {
             Empty => Some((at, vec![])),
-            AnyByte => byte.map(|_| (at + 1, vec![])),
+            Any => {
+                let chunk = self.text[at..].utf8_chunks().next()?;
+                let first = chunk.valid().chars().next();
+                Some((at + first.map_or(1, char::len_utf8), vec![]))
+            }
             Expr::Bytes(low, high) => {
                 let fits = byte.is_some_and(|byte| (*low..=*high).contains(&byte));
                 fits.then_some((at + 1, vec![]))

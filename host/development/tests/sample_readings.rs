@@ -10,7 +10,7 @@ use bannelgo_development::numbering::{image_of, Numbering};
 use bannelgo_development::reference::{self, recursive};
 use bannelgo_development::samples::{D2, M10};
 use bannelgo_development::small_stack::{on_small_stack, on_stack_of};
-use Expr::{AnyByte, Bytes, Call, Empty};
+use Expr::{Any, Bytes, Call, Empty};
 
 /// The library's reading, or its number.
 fn plain_reading(image: &[u8], text: &[u8]) -> Result<Reading, u64> {
@@ -73,7 +73,7 @@ fn leaves() {
         ("a", (Whole, 1, 1, 1)),
         ("ab", (Part, 1, 1, 1)),
     ];
-    expect_rule(AnyByte, &any);
+    expect_rule(Any, &any);
     let range = [
         ("", (Nothing, 0, 1, 1)),
         ("a", (Nothing, 0, 1, 1)),
@@ -137,7 +137,7 @@ fn stars() {
     let pairs = star(then(byte(b'a'), byte(b'b')));
     expect_rule(pairs, &[("ababa", (Part, 4, 6, 3))]);
     // The first round examines 4 bytes, the failing one the second of them.
-    let three = sequence([AnyByte, AnyByte, AnyByte]);
+    let three = sequence([Any, Any, Any]);
     let far = star(then(byte(b'a'), not(not(three))));
     expect_rule(far, &[("axyz", (Part, 1, 4, 7))]);
     let inner = then(byte(b'b'), star(byte(b'c')));
@@ -148,7 +148,7 @@ fn stars() {
 #[test]
 fn nots() {
     expect_rule(
-        not(AnyByte),
+        not(Any),
         &[("", (Whole, 0, 1, 2)), ("a", (Nothing, 0, 1, 2))],
     );
     let two = [
@@ -157,7 +157,7 @@ fn nots() {
         ("b", (Part, 0, 1, 3)),
     ];
     expect_rule(not(then(byte(b'a'), byte(b'b'))), &two);
-    let all = not(not(star(AnyByte)));
+    let all = not(not(star(Any)));
     expect_rule(all, &[("", (Whole, 0, 1, 4)), ("abc", (Part, 0, 4, 4))]);
 }
 
@@ -232,7 +232,7 @@ fn the_longest_text() {
     let longest = reading((Whole, 65_535, 65_536, 4));
     expect(&D2, &digits[..65_535], longest);
     expect(&D2, &digits, Err(8));
-    let none = image(&[not(star(AnyByte))]);
+    let none = image(&[not(star(Any))]);
     expect(&none, &digits[..65_535], reading((Nothing, 0, 65_536, 3)));
 }
 

@@ -71,7 +71,7 @@ fn expect_grammar(name: &str, number: u64, rules: &[Expr]) {
 
 #[test]
 fn left_recursion_is_refused_where_nothing_is_consumed() {
-    use Expr::{AnyByte as Any, Call, Empty};
+    use Expr::{Any, Call, Empty};
     let s = || Call(0);
     let hidden = |before: Expr| [then(before, s())];
     expect_grammar("any, S", 0, &hidden(Any));
@@ -94,7 +94,7 @@ fn left_recursion_is_refused_where_nothing_is_consumed() {
 
 #[test]
 fn star_bodies_are_asked_first_and_everywhere() {
-    use Expr::{AnyByte as Any, Call, Empty};
+    use Expr::{Any, Call, Empty};
     expect_grammar("a star out of reach", 6, &[Any, star(Empty)]);
     expect_grammar("a star behind a byte", 6, &[then(Any, star(Empty))]);
     expect_grammar("a star over a star", 6, &[star(star(Any))]);
@@ -107,7 +107,7 @@ fn star_bodies_are_asked_first_and_everywhere() {
 
 /// Two rules with a node of each kind.
 fn each_kind() -> ImageWords {
-    use Expr::{AnyByte as Any, Call, Empty};
+    use Expr::{Any, Call, Empty};
     let rules = vec![
         or_else(then(Any, then(not(Call(0)), star(byte(b'a')))), Empty),
         Expr::Folded(b'a', b'z'),

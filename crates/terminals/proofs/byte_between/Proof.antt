@@ -1,4 +1,5 @@
 use Rattle.terminals.proofs.TerminalWords.{match-word, failure-word, end-word, inside, below, above}
+use Rattle.grammar.proofs.Terminals.{range-alone}
 use Rattle.grammar.specs.Image.{byteAt, range}
 use native.Mathlib.Omega.{arith}
 use borrow.Author.Needs.{needs}
@@ -45,6 +46,7 @@ returns-4 c =
     let a = start .args in
     match-word (range (a .from) (a .to)) (a .text .now) (a .at) (omega (arith, after-end-of .end-of .ensures, else1 .if1 .left))
     (inside (a .from) (a .to) (byteAt (a .text .now) (a .at)) (omega (arith, after-byte-at .byte-at .ensures)) (omega (arith, after-byte-at .byte-at .ensures)))
+    (range-alone (a .from) (a .to) (byteAt (a .text .now) (a .at)))
 
 pub byte-between-spec : {M : Type 1} → statement M
 byte-between-spec = tie.close (tie.spec end-of-requires returns byte-at-requires returns-2 returns-3 returns-4)

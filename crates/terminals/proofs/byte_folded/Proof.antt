@@ -1,6 +1,8 @@
 use Rattle.terminals.proofs.TerminalWords.{match-word, failure-word, end-word, folds}
+use Rattle.grammar.proofs.Terminals.{folded-alone}
 use Rattle.grammar.specs.Image.{byteAt, folded}
-use Rattle.grammar.specs.Terminal.{between, otherCase, accepts}
+use Rattle.grammar.specs.Between.{between}
+use Rattle.grammar.specs.Terminal.{otherCase, accepts}
 use Prim.Native.Nat.{ℕ}
 use mathlib.Core.Path.{_≡_, sym, ap, _∙_}
 use mathlib.Core.Bool.{Bool, _||_}
@@ -60,6 +62,7 @@ returns-2 c =
     match-word (folded (a .from) (a .to)) (a .text .now) (a .at) (omega (arith, after-end-of .end-of .ensures, else1 .if1 .left))
     (tested-so (a .from) (a .to) (after-byte-at .byte-at .ensures) (after-other-case .before .is-between .ensures) (after-other-case .other-case .ensures)
     (c .before .is-between2 .ensures) (c .if2 .taken))
+    (folded-alone (a .from) (a .to) (byteAt (a .text .now) (a .at)))
 
 returns-3 : tie.Need-returns-3
 returns-3 c =

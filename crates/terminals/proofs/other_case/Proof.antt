@@ -1,4 +1,5 @@
-use Rattle.grammar.proofs.Folding.{bounds, of-capital, of-small, of-no-letter}
+use Rattle.grammar.proofs.Between.{bounds}
+use Rattle.grammar.proofs.Folding.{of-capital, of-small, of-no-letter}
 use native.Mathlib.Omega.{arith}
 use mathlib.Core.Path.{sym, _∙_}
 use borrow.Author.Needs.{needs}

@@ -113,7 +113,11 @@ pub fn empty() -> Expr {
     Expr::leaf(Part::Empty)
 }
 
-/// Any one byte.
+/// Any one character of UTF-8 as RFC 3629 defines it, of 1 to 4 bytes. A byte that begins no lawful
+/// character matches alone, and so does one whose character breaks off. It fails only at the text's end.
+///
+/// An accent that is a character of its own behind its letter, such as U+0308, is taken by itself. Any
+/// one byte is `range(0, 255)`.
 ///
 /// ```
 /// use bannelgo::grammar::{any, not, sequence, Grammar};
@@ -121,31 +125,41 @@ pub fn empty() -> Expr {
 /// let one = sequence([any(), not(any())]); // not(any()) is the end of the text
 /// let grammar = Grammar::builder().rule("One", one).build()?;
 /// assert!(grammar.read("x")?.is_whole());
-/// assert!(!grammar.read("ö")?.is_whole()); // one character, and two bytes in UTF-8
+/// assert!(grammar.read("ö")?.is_whole()); // one character, and two bytes in UTF-8
+/// assert!(grammar.read(b"\xC3")?.is_whole()); // the first of these bytes alone
+/// assert!(!grammar.read("ox")?.is_whole());
 /// # Ok::<(), Box<dyn std::error::Error>>(())
 /// ```
 pub fn any() -> Expr {
     Expr::leaf(Part::Any)
 }
 
-/// This byte.
+/// This byte. A character outside ASCII has two bytes or more, and is a [`literal`].
 ///
 /// ```
-/// use bannelgo::grammar::{byte, literal};
+/// use bannelgo::grammar::{byte, literal, sequence};
 ///
 /// assert_eq!(byte(b';'), literal(";"));
+/// assert_eq!(sequence([byte(0xC3), byte(0xB6)]), literal("ö"));
 /// ```
 pub fn byte(value: u8) -> Expr {
     range(value, value)
 }
 
-/// One byte from `low` to `high`, both included.
+/// One byte from `low` to `high`, both included. Of a letter with an accent it takes one byte: such
+/// letters are [`one_of`] them or, where any may come, [`not`] what ends the word, then [`any`].
 ///
 /// ```
-/// use bannelgo::grammar::{range, Grammar};
+/// use bannelgo::grammar::{any, not, one_of, plus, range, sequence, Grammar};
 ///
 /// let grammar = Grammar::builder().rule("Digit", range(b'0', b'9')).build()?;
 /// assert!(grammar.read("7")?.is_whole());
+///
+/// let grammar = Grammar::builder().rule("Name", plus(range(b'a', b'z'))).build()?;
+/// assert_eq!(grammar.read("köln;")?.length, 1); // no ö
+/// let letter = sequence([not(one_of(" ;\n")), any()]);
+/// let grammar = Grammar::builder().rule("Name", plus(letter)).build()?;
+/// assert_eq!(grammar.read("köln;")?.length, 5);
 /// # Ok::<(), Box<dyn std::error::Error>>(())
 /// ```
 pub fn range(low: u8, high: u8) -> Expr {
@@ -181,8 +195,8 @@ pub fn literal(text: impl AsRef<[u8]>) -> Expr {
 }
 
 /// `part` with its letters in either case: each byte and each range in it also matches a letter that it
-/// has in the other case. Only A to Z and a to z have another case. A rule that `part` calls stays as it
-/// is.
+/// has in the other case. Only A to Z and a to z have another case; é in either case is `one_of("Éé")`.
+/// A rule that `part` calls stays as it is.
 ///
 /// ```
 /// use bannelgo::grammar::{call, either_case, literal, range, sequence, Grammar};

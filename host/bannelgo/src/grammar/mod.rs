@@ -93,7 +93,7 @@ impl Grammar {
     /// ```
     /// use bannelgo::grammar::{any, Grammar};
     ///
-    /// let written = Grammar::builder().rule("Byte", any()).build()?;
+    /// let written = Grammar::builder().rule("Character", any()).build()?;
     /// let read = Grammar::from_image(written.image())?;
     /// assert_eq!(read.image(), written.image());
     /// assert_eq!(read.name(0), Some("rule 0"));

@@ -1,4 +1,4 @@
-//! Fold bits: ranges that have one, and grammars without them.
+//! Ranges with the fold bit.
 
 use super::letters::CASE;
 use crate::expr::{Expr, Grammar};
@@ -29,15 +29,4 @@ pub fn fold_some(rng: &mut Rng, grammar: &mut Grammar) {
             *leaf = Expr::Folded(*low, *high);
         }
     });
-}
-
-/// The grammar without its fold bits; nothing where it has none.
-pub fn unfolded(grammar: &Grammar) -> Option<Grammar> {
-    let mut plain = grammar.clone();
-    plain.change_leaves(|leaf| {
-        if let Expr::Folded(low, high) = leaf {
-            *leaf = Expr::Bytes(*low, *high);
-        }
-    });
-    (plain != *grammar).then_some(plain)
 }

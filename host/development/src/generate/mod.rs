@@ -3,8 +3,10 @@
 mod brackets;
 mod calls;
 mod change;
+mod characters;
 mod empties;
 mod every;
+mod features;
 mod fields;
 mod folds;
 mod guarded;
@@ -18,10 +20,11 @@ mod wild;
 pub use brackets::brackets_of_nesting;
 pub use calls::Typist;
 pub use change::change_one_node;
+pub use characters::{some_junk, some_text};
 pub use empties::add_empty_rules;
 pub use every::each_grammar;
+pub use features::Feature;
 pub use fields::{change_field, set_bits, set_root};
-pub use folds::unfolded;
 pub use guarded::{guarded, start_with_the_biggest};
 pub use letters::{letter, some_letters, to_letters, CASE};
 pub use levels::Levels;
@@ -46,13 +49,13 @@ fn shares(rng: &mut Rng, rules: usize, nodes: usize) -> Vec<usize> {
     shares
 }
 
-/// A byte or a range of bytes, with the fold bit or without it, or any byte.
+/// A byte or a range of bytes, with the fold bit or without it, or any.
 fn some_bytes(rng: &mut Rng) -> Expr {
     let (one, other) = (rng.byte(), rng.byte());
     match rng.below(4) {
         0 => byte(one),
         1 => Expr::Bytes(one.min(other), one.max(other)),
         2 => some_folded(rng),
-        _ => Expr::AnyByte,
+        _ => Expr::Any,
     }
 }

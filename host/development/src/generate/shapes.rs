@@ -3,7 +3,7 @@
 use super::letters::letter;
 use crate::expr::{byte, choice, not, or_else, sequence, star, then, Expr};
 use crate::rng::Rng;
-use Expr::{AnyByte, Bytes, Call, Empty, Folded};
+use Expr::{Any, Bytes, Call, Empty, Folded};
 
 /// Draws the rules of a grammar that starts with rule 0.
 pub type Shape = fn(&mut Rng) -> Vec<Expr>;
@@ -39,7 +39,7 @@ fn part(rng: &mut Rng) -> Expr {
         6 => Folded(b'b', b'c'),
         7 => then(a, b),
         8 => then(a, star(b)),
-        _ => then(a, AnyByte),
+        _ => then(a, Any),
     }
 }
 
@@ -66,7 +66,7 @@ fn not_not(rng: &mut Rng) -> Vec<Expr> {
 fn nested_stars(rng: &mut Rng) -> Vec<Expr> {
     let inner = then(part(rng), star(part(rng)));
     let middle = then(part(rng), star(inner));
-    vec![then(star(middle), or_else(part(rng), not(AnyByte)))]
+    vec![then(star(middle), or_else(part(rng), not(Any)))]
 }
 
 /// Alternatives that begin with the same rule, and the same with the beginning taken out.
@@ -84,7 +84,7 @@ fn left_factored(rng: &mut Rng) -> Vec<Expr> {
 fn key_words(rng: &mut Rng) -> Vec<Expr> {
     let key = sequence([part(rng), part(rng), not(Call(1))]);
     let name = then(Call(1), star(Call(1)));
-    let word = then(or_else(key, name), or_else(byte(b' '), not(AnyByte)));
+    let word = then(or_else(key, name), or_else(byte(b' '), not(Any)));
     vec![star(word), Folded(b'a', b'c')]
 }
 
@@ -103,7 +103,7 @@ fn as_many(rng: &mut Rng) -> Vec<Expr> {
         sequence([byte(x), inner, byte(y)])
     };
     let look = not(not(then(Call(1), byte(b'c'))));
-    let body = sequence([look, star(byte(b'a')), Call(2), not(AnyByte)]);
+    let body = sequence([look, star(byte(b'a')), Call(2), not(Any)]);
     let first = if rng.one_in(4) { part(rng) } else { Empty };
     vec![
         or_else(body, first),

@@ -1,5 +1,6 @@
-//! Small grammars over three letters in both cases, for lists of calls.
+//! Small grammars over three letters in both cases, some with bytes of characters too, for lists of calls.
 
+use super::characters::to_bytes_of_characters;
 use super::empties::add_empty_rules;
 use super::guarded::{guarded, start_with_the_biggest};
 use super::letters::to_letters;
@@ -19,6 +20,9 @@ pub fn small_grammar(rng: &mut Rng) -> Grammar {
     };
     start_with_the_biggest(&mut grammar);
     to_letters(&mut grammar);
+    if rng.one_in(8) {
+        to_bytes_of_characters(rng, &mut grammar);
+    }
     if rng.one_in(2) {
         add_empty_rules(rng, &mut grammar);
     }

@@ -1,5 +1,6 @@
 //! Texts that a grammar is likely to match, and damage done to them.
 
+use super::characters::{broken_character, character};
 use super::letters::{letter, CASE};
 use crate::expr::{Expr, Grammar};
 use crate::reference::bytes::other_case;
@@ -41,8 +42,7 @@ impl Walk<'_> {
         }
         match expr {
             Expr::Empty | Expr::Not(_) => {}
-            Expr::AnyByte if self.rng.one_in(2) => self.text.push(self.rng.byte()),
-            Expr::AnyByte => self.text.push(letter(self.rng)),
+            Expr::Any => self.any(),
             Expr::Bytes(low, high) => {
                 let byte = self.between(*low, *high);
                 self.text.push(byte);
@@ -69,13 +69,24 @@ impl Walk<'_> {
         }
     }
 
+    /// A letter in half of the cases. The last character may be cut off.
+    fn any(&mut self) {
+        match self.rng.below(8) {
+            0 => self.text.extend(character(self.rng)),
+            1 => self.text.extend(broken_character(self.rng)),
+            2 | 3 => self.text.push(self.rng.byte()),
+            _ => self.text.push(letter(self.rng)),
+        }
+        self.text.truncate(self.most_bytes);
+    }
+
     fn between(&mut self, low: u8, high: u8) -> u8 {
         self.rng.between(usize::from(low), usize::from(high)) as u8
     }
 }
 
-/// Changes a text at one place: a byte more, less or other, a letter in its other case, an early end, or
-/// its tail twice.
+/// Changes a text at one place: a byte more, less or other, a character more, a letter in its other case, an
+/// early end, or its tail twice.
 pub fn damage(rng: &mut Rng, text: &mut Vec<u8>) {
     let at = rng.below(text.len() + 1);
     let new = if rng.one_in(4) {
@@ -83,12 +94,13 @@ pub fn damage(rng: &mut Rng, text: &mut Vec<u8>) {
     } else {
         letter(rng)
     };
-    match rng.below(6) {
+    match rng.below(7) {
         0 if at < text.len() => text[at] = new,
         1 if at < text.len() => drop(text.remove(at)),
         2 if at < text.len() => text[at] ^= CASE,
         3 => text.truncate(at),
         4 => text.extend_from_within(at..),
+        5 => drop(text.splice(at..at, character(rng))),
         _ => text.insert(at, new),
     }
 }

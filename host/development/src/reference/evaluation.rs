@@ -1,5 +1,6 @@
 //! An evaluation and the ways to combine evaluations, by the paper's sentences one after the other.
 
+use super::characters::{any_at, Looked};
 use bannelgo::{Outcome, Reading};
 
 /// "An evaluation has an outcome, a length, an examined length and a nesting."
@@ -20,7 +21,18 @@ impl Evaluation {
         nesting: 1,
     };
 
-    /// "Examined 1, also at the end, where they fail; a match has length 1."
+    /// Kind 1: one character, or a byte alone.
+    pub fn of_any(text: &[u8], at: usize) -> Evaluation {
+        let Looked { length, examined } = any_at(text, at);
+        Evaluation {
+            matched: length.is_some(),
+            length: length.unwrap_or(0),
+            examined,
+            nesting: 1,
+        }
+    }
+
+    /// Kind 2: "examined 1, also at the end, where they fail; a match has length 1".
     pub fn of_byte(text: &[u8], at: usize, fits: impl Fn(u8) -> bool) -> Evaluation {
         let matched = at < text.len() && fits(text[at]);
         Evaluation {

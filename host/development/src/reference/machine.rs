@@ -9,6 +9,8 @@
 //! records has there. After the start pair's evaluation exactly the reached pairs are kept.
 
 use super::bytes::{between, between_in_either_case};
+use super::characters::any_at;
+use super::forms::Forms;
 use super::pair_map::PairMap;
 use crate::expr::{Expr, Grammar};
 
@@ -24,6 +26,8 @@ pub struct Found {
     pub nesting: usize,
     /// How many evaluations are made where nothing is kept, this one included.
     pub work: u64,
+    /// The forms of any's matches in it.
+    pub forms: Forms,
 }
 
 /// The start pair's evaluation by an accepted grammar; nothing where it has more than `most_work`.
@@ -61,10 +65,11 @@ struct Open<'g> {
     /// Where the last part that has begun begins, and whether it is the first one.
     now: usize,
     first: bool,
-    /// The largest reach, the largest nesting and all the work of the parts that have ended.
+    /// The largest reach, the largest nesting, all the work and all the forms of the parts that have ended.
     reach: usize,
     nesting: usize,
     work: u64,
+    forms: Forms,
 }
 
 /// What the machine does next: begin an evaluation at a position, or hand on what one gave.
@@ -112,7 +117,7 @@ impl<'g> Machine<'g> {
         let at = open.begin;
         match open.expr {
             Expr::Empty => open.ends(Some(at)),
-            Expr::AnyByte => self.ask_byte(open, |_| true),
+            Expr::Any => self.ask_character(open),
             Expr::Bytes(low, high) => self.ask_byte(open, |byte| between(byte, *low, *high)),
             Expr::Folded(low, high) => {
                 self.ask_byte(open, |byte| between_in_either_case(byte, *low, *high))
@@ -125,6 +130,13 @@ impl<'g> Machine<'g> {
                 None => self.part(open, self.body(*rule), at),
             },
         }
+    }
+
+    fn ask_character(&self, mut open: Open<'g>) -> Next<'g> {
+        let looked = any_at(self.text, open.begin);
+        open.reach = open.begin + looked.examined;
+        open.forms = Forms::of(looked, self.text.get(open.begin));
+        open.ends(looked.length.map(|length| open.begin + length))
     }
 
     fn ask_byte(&self, mut open: Open<'g>, fits: impl Fn(u8) -> bool) -> Next<'g> {
@@ -157,7 +169,7 @@ impl<'g> Machine<'g> {
                 self.kept.insert((*rule, begin), part);
                 open.ends(end)
             }
-            (Expr::Empty | Expr::AnyByte | Expr::Bytes(..) | Expr::Folded(..), _) => {
+            (Expr::Empty | Expr::Any | Expr::Bytes(..) | Expr::Folded(..), _) => {
                 unreachable!("these kinds have no parts")
             }
         }
@@ -174,6 +186,7 @@ impl<'g> Open<'g> {
             reach: at,
             nesting: 0,
             work: 0,
+            forms: Forms::default(),
         }
     }
 
@@ -181,6 +194,7 @@ impl<'g> Open<'g> {
         self.reach = self.reach.max(part.reach);
         self.nesting = self.nesting.max(part.nesting);
         self.work = self.work.saturating_add(part.work);
+        self.forms = self.forms.with(part.forms);
         self
     }
 
@@ -190,6 +204,7 @@ impl<'g> Open<'g> {
             reach: self.reach,
             nesting: self.nesting + 1,
             work: self.work.saturating_add(1),
+            forms: self.forms,
         })
     }
 }

@@ -12,7 +12,9 @@
 //! `lent`, `lent_reading` and `lent_listing` say what single calls do with any lent words, true or not.
 
 pub mod bytes;
+pub mod characters;
 mod evaluation;
+pub mod forms;
 mod header;
 pub mod ledger;
 pub mod lent;

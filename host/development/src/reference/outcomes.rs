@@ -19,7 +19,7 @@ impl Outcomes {
         one: false,
         fail: false,
     };
-    const OF_BYTE: Outcomes = Outcomes {
+    const OF_TERMINAL: Outcomes = Outcomes {
         zero: false,
         one: true,
         fail: true,
@@ -66,7 +66,7 @@ impl Outcomes {
 pub fn of_expr(expr: &Expr, rules: &[Outcomes]) -> Outcomes {
     match expr {
         Expr::Empty => Outcomes::OF_EMPTY,
-        Expr::AnyByte | Expr::Bytes(..) | Expr::Folded(..) => Outcomes::OF_BYTE,
+        Expr::Any | Expr::Bytes(..) | Expr::Folded(..) => Outcomes::OF_TERMINAL,
         Expr::Then(a, b) => of_expr(a, rules).then(of_expr(b, rules)),
         Expr::Else(a, b) => of_expr(a, rules).or_else(of_expr(b, rules)),
         Expr::Star(a) => of_expr(a, rules).star(),
@@ -97,7 +97,7 @@ pub fn star_bodies_lack_zero(bodies: &[Expr], rules: &[Outcomes]) -> bool {
 
 fn stars_in(expr: &Expr, rules: &[Outcomes]) -> bool {
     match expr {
-        Expr::Empty | Expr::AnyByte | Expr::Bytes(..) | Expr::Folded(..) | Expr::Call(_) => true,
+        Expr::Empty | Expr::Any | Expr::Bytes(..) | Expr::Folded(..) | Expr::Call(_) => true,
         Expr::Then(a, b) | Expr::Else(a, b) => stars_in(a, rules) && stars_in(b, rules),
         Expr::Star(a) => !of_expr(a, rules).zero && stars_in(a, rules),
         Expr::Not(a) => stars_in(a, rules),

@@ -36,7 +36,7 @@ impl Reader<'_> {
         let inside = allowance.checked_sub(1)?;
         Some(match expr {
             Expr::Empty => Evaluation::EMPTY,
-            Expr::AnyByte => Evaluation::of_byte(self.text, at, |_| true),
+            Expr::Any => Evaluation::of_any(self.text, at),
             Expr::Bytes(low, high) => {
                 Evaluation::of_byte(self.text, at, |byte| between(byte, *low, *high))
             }

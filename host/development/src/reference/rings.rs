@@ -34,7 +34,7 @@ pub fn leads_to(body: &Expr, sets: &[Outcomes]) -> Vec<usize> {
 
 fn collect_required_calls(expr: &Expr, sets: &[Outcomes], calls: &mut Vec<usize>) {
     match expr {
-        Expr::Empty | Expr::AnyByte | Expr::Bytes(..) | Expr::Folded(..) => {}
+        Expr::Empty | Expr::Any | Expr::Bytes(..) | Expr::Folded(..) => {}
         Expr::Then(a, b) => {
             collect_required_calls(a, sets, calls);
             if of_expr(a, sets).zero {

@@ -5,6 +5,7 @@
 //! them fails. A stack has the calls whose rows are still to come.
 
 use super::bytes::{between, between_in_either_case};
+use super::characters::any_at;
 use super::machine::{evaluate_pair, Found, Pair};
 use super::pair_map::PairMap;
 use crate::expr::{Expr, Grammar};
@@ -68,7 +69,7 @@ impl Body<'_> {
         let before = self.noted.len();
         let end = match expr {
             Expr::Empty => Some(at),
-            Expr::AnyByte => self.end_of_byte(at, |_| true),
+            Expr::Any => any_at(self.text, at).length.map(|length| at + length),
             Expr::Bytes(low, high) => self.end_of_byte(at, |byte| between(byte, *low, *high)),
             Expr::Folded(low, high) => {
                 self.end_of_byte(at, |byte| between_in_either_case(byte, *low, *high))

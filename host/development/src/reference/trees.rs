@@ -12,7 +12,7 @@ pub fn grow(words: &Words) -> Vec<Expr> {
 pub fn tree(words: &Words, number: usize) -> Expr {
     match words.nodes[number] {
         NodeWord::Empty => Expr::Empty,
-        NodeWord::AnyByte => Expr::AnyByte,
+        NodeWord::Any => Expr::Any,
         NodeWord::Bytes(low, high) => Expr::Bytes(low, high),
         NodeWord::Folded(low, high) => Expr::Folded(low, high),
         NodeWord::Then(a, b) => then(tree(words, a), tree(words, b)),

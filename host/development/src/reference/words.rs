@@ -7,7 +7,7 @@ use super::top_bits::TopBits;
 /// A lawful node word. `usize` fields are child nodes.
 pub enum NodeWord {
     Empty,
-    AnyByte,
+    Any,
     Bytes(u8, u8),
     Folded(u8, u8),
     Then(usize, usize),
@@ -30,7 +30,7 @@ impl NodeWord {
             NodeWord::Then(a, b) | NodeWord::Else(a, b) => vec![a, b],
             NodeWord::Star(a) | NodeWord::Not(a) => vec![a],
             NodeWord::Empty
-            | NodeWord::AnyByte
+            | NodeWord::Any
             | NodeWord::Bytes(..)
             | NodeWord::Folded(..)
             | NodeWord::Call(_) => vec![],
@@ -88,7 +88,7 @@ fn read_node(bytes: [u8; 4], number: usize, header: &Header) -> Option<NodeWord>
     // "Question 4 allows the bit in kind 2 only."
     match (kind, fold) {
         (0, 0) if a == 0 && b == 0 => Some(NodeWord::Empty),
-        (1, 0) if a == 0 && b == 0 => Some(NodeWord::AnyByte),
+        (1, 0) if a == 0 && b == 0 => Some(NodeWord::Any),
         (2, 0) if a <= b && b <= 255 => Some(NodeWord::Bytes(a as u8, b as u8)),
         (2, 1) if a <= b && b <= 255 => Some(NodeWord::Folded(a as u8, b as u8)),
         (3, 0) if is_child(a) && is_child(b) => Some(NodeWord::Then(a, b)),

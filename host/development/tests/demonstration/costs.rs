@@ -3,13 +3,13 @@
 use super::output::{output, part};
 use super::typed::{first_reading, typed, Typed};
 use bannelgo_development::figures::grouped;
-use bannelgo_development::gap_sheet::{sheet_of_days, sheet_with_units};
-use bannelgo_development::gap_text::{long_sheet_of_days, SHEET_WITH_UNITS};
+use bannelgo_development::gap_sheet::{sheet_of_days, site_sheet};
+use bannelgo_development::gap_text::{long_sheet_of_days, SITE_SHEET};
 
 #[test]
 fn the_last_line_is_true() {
-    let grammar = sheet_with_units();
-    let keys = typed(&grammar, SHEET_WITH_UNITS, 0);
+    let grammar = site_sheet();
+    let keys = typed(&grammar, SITE_SHEET, 0);
     let first = |key: &Typed| first_reading(&grammar, &key.text).evaluations;
     let firsts: Vec<usize> = keys.iter().map(first).collect();
     let (count, each, instead) = (keys.len(), average_of(&keys), average(&firsts));

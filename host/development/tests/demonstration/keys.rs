@@ -1,24 +1,26 @@
 //! The table of keys, and the line that has a slip.
 
 use super::output::part;
-use super::typed::{first_reading, typed, typed_over, Typed};
-use bannelgo_development::gap_sheet::sheet_with_units;
-use bannelgo_development::gap_text::SHEET_WITH_UNITS;
+use super::table::{assert_table, stopped_at};
+use super::typed::{typed, typed_over, BACKSPACE};
+use bannelgo_development::gap_sheet::site_sheet;
+use bannelgo_development::gap_text::SITE_SHEET;
 
 #[test]
 fn each_key_has_the_ledgers_figures() {
-    assert_table("Keys", &typed(&sheet_with_units(), SHEET_WITH_UNITS, 0));
+    let keys = typed(&site_sheet(), SITE_SHEET, 0);
+    assert_table("Keys", &keys, stopped_at(&keys));
 }
 
 /// K is the other case of the letter that stands there, and x is not; both lines are shown.
 #[test]
 fn each_letter_typed_over_has_the_ledgers_figures() {
-    let (grammar, text) = (sheet_with_units(), SHEET_WITH_UNITS);
+    let (grammar, text) = (site_sheet(), SITE_SHEET);
     let unit = text.find(" kWh\n").expect("there is a unit") + 1;
     let keys = typed_over(&grammar, text, unit, "Kxk");
     let wholes: Vec<bool> = keys.iter().map(|key| key.stopped().is_none()).collect();
     assert_eq!(wholes, [true, false, true]);
-    assert_table("Letters in either case", &keys);
+    assert_table("Letters in either case", &keys, stopped_at(&keys));
 
     let number = text[..unit].lines().count();
     let before = text[..unit].lines().last().expect("the line has values");
@@ -29,36 +31,10 @@ fn each_letter_typed_over_has_the_ledgers_figures() {
     }
 }
 
-/// The part ends with a table that has a line for each key.
-fn assert_table(name: &str, keys: &[Typed]) {
-    let expected: Vec<String> = keys.iter().map(fields).collect();
-    let lines = part(name).into_iter();
-    let table: Vec<&str> = lines
-        .skip_while(|line| !line.starts_with("key "))
-        .filter(|line| !line.is_empty())
-        .collect();
-    assert!(table.iter().all(|line| line.len() <= 80));
-    let single_spaced = |line: &&str| line.split_whitespace().collect::<Vec<&str>>().join(" ");
-    let rows: Vec<String> = table.iter().skip(1).map(single_spaced).collect();
-    assert_eq!(rows, expected);
-}
-
-/// A row's fields with a space between them.
-fn fields(key: &Typed) -> String {
-    let read = key.read;
-    let first = first_reading(&sheet_with_units(), &key.text).evaluations;
-    let (bytes, outcome, evaluations) = (key.text.len(), read.reading.outcome, read.evaluations);
-    let fields = format!("{} {bytes} {outcome} {evaluations} {first}", key.name());
-    match key.stopped() {
-        None => fields,
-        Some((line, column)) => format!("{fields} line {line}, column {column}"),
-    }
-}
-
 #[test]
 fn the_slip_is_marked() {
-    let keys = typed(&sheet_with_units(), SHEET_WITH_UNITS, 0);
-    let taken_back = keys.iter().position(|key| key.key == '\u{8}');
+    let keys = typed(&site_sheet(), SITE_SHEET, 0);
+    let taken_back = keys.iter().position(|key| key.key == BACKSPACE);
     let slip = &keys[taken_back.expect("a key is taken back") - 1];
     let (line, column) = slip.stopped().expect("the slip does not match");
     let text = String::from_utf8_lossy(&slip.text);

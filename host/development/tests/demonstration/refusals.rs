@@ -2,11 +2,11 @@
 
 use super::output::part;
 use bannelgo::{LoanFault, Refusal};
-use bannelgo_development::gap_text::SHEET_WITH_UNITS;
+use bannelgo_development::gap_text::SITE_SHEET;
 
 #[test]
 fn the_refusals_have_number_and_words() {
-    let length = SHEET_WITH_UNITS.len();
+    let length = SITE_SHEET.len();
     let expected = [
         Refusal::Loan(LoanFault::Text { length, most: 100 }),
         Refusal::EditRange {

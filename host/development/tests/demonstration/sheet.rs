@@ -3,19 +3,19 @@
 use super::output::part;
 use super::typed::first_reading;
 use bannelgo::Row;
-use bannelgo_development::gap_sheet::{named_sheet_with_units, sheet_with_units};
-use bannelgo_development::gap_text::SHEET_WITH_UNITS;
+use bannelgo_development::gap_sheet::{named_site_sheet, site_sheet};
+use bannelgo_development::gap_text::SITE_SHEET;
 use bannelgo_development::reference::ledger::Ledger;
 
 #[test]
 fn the_sheet_is_shown_and_read() {
     let lines = part("The sheet");
-    for (number, line) in (1..).zip(SHEET_WITH_UNITS.lines()) {
+    for (number, line) in (1..).zip(SITE_SHEET.lines()) {
         let numbered = format!("   {number}  {line}");
         assert!(lines.contains(&numbered.trim_end()), "{numbered}");
     }
-    let read = first_reading(&sheet_with_units(), SHEET_WITH_UNITS.as_bytes());
-    let (bytes, pairs) = (SHEET_WITH_UNITS.len(), read.evaluations);
+    let read = first_reading(&site_sheet(), SITE_SHEET.as_bytes());
+    let (bytes, pairs) = (SITE_SHEET.len(), read.evaluations);
     assert!(read.reading.is_whole());
     let matched = format!("The whole sheet matched: {bytes} of {bytes} bytes.");
     let evaluated = format!("{pairs} pairs were evaluated; a pair is a rule at a position.");
@@ -26,7 +26,7 @@ fn the_sheet_is_shown_and_read() {
 /// The rows down to depth 2, then the first red entry with the calls made in it.
 #[test]
 fn the_rows_have_names() {
-    let (grammar, text) = (sheet_with_units(), SHEET_WITH_UNITS);
+    let (grammar, text) = (site_sheet(), SITE_SHEET);
     let rows = Ledger::open(&grammar, text.len(), text.as_bytes()).rows(1_000);
     let rows = rows.expect("there are at most 1,000");
     let shallow = rows.iter().filter(|row| row.depth <= 2);
@@ -47,8 +47,8 @@ fn the_rows_have_names() {
 }
 
 /// Rule and bytes, as the row begins in print.
-fn in_print(row: &Row, depth: usize) -> String {
-    let grammar = named_sheet_with_units();
+pub fn in_print(row: &Row, depth: usize) -> String {
+    let grammar = named_site_sheet();
     let name = grammar.name(row.rule).expect("the rule has a name");
     let (range, indent) = (row.range(), 2 * depth);
     format!("{:indent$}{name} {range:?} ", "")

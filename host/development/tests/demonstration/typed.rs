@@ -9,9 +9,12 @@ use std::ops::Range;
 /// The keys: an entry with a slip that is taken back.
 pub const KEYS: &str = "red;  14:000\u{8}:00 / 14:15:00;  7.5\n";
 
+/// What deletes the byte before the cursor.
+pub const BACKSPACE: u8 = 8;
+
 /// A key, the text behind it and its reading.
 pub struct Typed {
-    pub key: char,
+    pub key: u8,
     pub text: Vec<u8>,
     pub read: SheetReading,
 }
@@ -23,13 +26,10 @@ pub fn typed(grammar: &Grammar, text: &str, from: usize) -> Vec<Typed> {
     let mut ledger = Ledger::open(grammar, text.len() + KEYS.len(), text.as_bytes());
     read(&mut ledger);
     let mut keys = vec![];
-    for key in KEYS.chars() {
-        let (start, replacement) = match key {
-            '\u{8}' => (cursor - 1, String::new()),
-            key => (cursor, key.to_string()),
-        };
-        keys.push(type_one(&mut ledger, key, start..cursor, &replacement));
-        cursor = start + replacement.len();
+    for key in KEYS.bytes() {
+        let start = cursor - usize::from(key == BACKSPACE);
+        keys.push(type_one(&mut ledger, key, start..cursor));
+        cursor = start + usize::from(key != BACKSPACE);
     }
     keys
 }
@@ -38,15 +38,19 @@ pub fn typed(grammar: &Grammar, text: &str, from: usize) -> Vec<Typed> {
 pub fn typed_over(grammar: &Grammar, text: &str, place: usize, letters: &str) -> Vec<Typed> {
     let mut ledger = Ledger::open(grammar, text.len(), text.as_bytes());
     read(&mut ledger);
-    let letter = |key: char| type_one(&mut ledger, key, place..place + 1, &key.to_string());
-    letters.chars().map(letter).collect()
+    let letter = |key: u8| type_one(&mut ledger, key, place..place + 1);
+    letters.bytes().map(letter).collect()
 }
 
-fn type_one(ledger: &mut Ledger<'_>, key: char, bytes: Range<usize>, replacement: &str) -> Typed {
+/// Types a key in the place of these bytes, or deletes them, and reads.
+pub fn type_one(ledger: &mut Ledger<'_>, key: u8, bytes: Range<usize>) -> Typed {
     let edit = Call::Edit {
         start: bytes.start,
         end: bytes.end,
-        replacement: replacement.into(),
+        replacement: match key {
+            BACKSPACE => vec![],
+            key => vec![key],
+        },
     };
     ledger.call(&edit).expect("the edit is not refused");
     let read = read(ledger);
@@ -58,7 +62,7 @@ pub fn first_reading(grammar: &Grammar, text: &[u8]) -> SheetReading {
     read(&mut Ledger::open(grammar, text.len(), text))
 }
 
-fn read(ledger: &mut Ledger<'_>) -> SheetReading {
+pub fn read(ledger: &mut Ledger<'_>) -> SheetReading {
     match ledger.call(&Call::Read) {
         Ok(Answer::Reading(read)) => read,
         other => panic!("the ledger says {other:?}"),
@@ -68,10 +72,11 @@ fn read(ledger: &mut Ledger<'_>) -> SheetReading {
 impl Typed {
     pub fn name(&self) -> String {
         match self.key {
-            '\u{8}' => "backspace".into(),
-            '\n' => "enter".into(),
-            ' ' => "space".into(),
-            key => key.into(),
+            BACKSPACE => "backspace".into(),
+            b'\n' => "enter".into(),
+            b' ' => "space".into(),
+            key if key.is_ascii() => char::from(key).into(),
+            key => format!("byte {key:X}"),
         }
     }
 

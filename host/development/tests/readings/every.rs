@@ -1,4 +1,5 @@
-//! Every small grammar with every short text over two letters, and smaller ones over a letter in both cases.
+//! Every small grammar with every short text over two letters, and smaller ones over a letter in both cases and over
+//! bytes of characters.
 
 use super::subject::Subject;
 use super::tally::Tally;
@@ -13,17 +14,20 @@ struct Over {
 }
 
 const TWO_LETTERS: Over = Over {
-    leaves: &[Expr::Empty, Expr::AnyByte, Expr::Bytes(b'a', b'a')],
+    leaves: &[Expr::Empty, Expr::Any, Expr::Bytes(b'a', b'a')],
     letters: b"ab",
 };
 
 const BOTH_CASES: Over = Over {
-    leaves: &[
-        Expr::AnyByte,
-        Expr::Bytes(b'a', b'a'),
-        Expr::Folded(b'a', b'a'),
-    ],
+    leaves: &[Expr::Any, Expr::Bytes(b'a', b'a'), Expr::Folded(b'a', b'a')],
     letters: b"aAb",
+};
+
+/// With these bytes there are characters of 2, 3 and 4 bytes, and broken ones. E0, ED, F0 and F4, which each have a
+/// range of second bytes of their own, go on with one of 80 and A0 and break off at the other.
+const CHARACTERS: Over = Over {
+    leaves: &[Expr::Any, Expr::Bytes(0xC3, 0xC3), Expr::Bytes(0x80, 0xBF)],
+    letters: b"\x80\xA0\xC3\xE0\xED\xF0\xF4a",
 };
 
 /// One rule of at most 6 nodes, texts of at most 4 letters.
@@ -46,6 +50,16 @@ pub fn two_rules_in_both_cases() -> Tally {
     family("all of 2 rules, both cases", 2, 5, &BOTH_CASES, 3)
 }
 
+/// One rule of at most 5 nodes, texts of at most 4 bytes.
+pub fn one_rule_over_characters() -> Tally {
+    family("all of 1 rule, characters", 1, 5, &CHARACTERS, 4)
+}
+
+/// Two rules of at most 5 nodes together, texts of at most 3 bytes.
+pub fn two_rules_over_characters() -> Tally {
+    family("all of 2 rules, characters", 2, 5, &CHARACTERS, 3)
+}
+
 fn family(name: &'static str, rules: usize, nodes: usize, over: &Over, longest: usize) -> Tally {
     let mut tally = Tally::listed(name);
     let texts = texts_and_more(over.letters, longest);
@@ -63,7 +77,7 @@ fn family(name: &'static str, rules: usize, nodes: usize, over: &Over, longest: 
     tally
 }
 
-/// The length of each text over these letters, the shortest first, and its bytes with one letter more.
+/// The length of each text over these letters, the shortest first, and its bytes with the first letter behind them.
 ///
 /// That letter is not lent. A reader that takes it for the text's is noticed.
 fn texts_and_more(letters: &[u8], longest: usize) -> Vec<(usize, Vec<u8>)> {
@@ -72,7 +86,7 @@ fn texts_and_more(letters: &[u8], longest: usize) -> Vec<(usize, Vec<u8>)> {
     for length in 0..=longest {
         for number in 0..power(length) {
             let text = (0..length).map(|place| letters[number / power(place) % letters.len()]);
-            texts.push((length, text.chain([b'a']).collect()));
+            texts.push((length, text.chain([letters[0]]).collect()));
         }
     }
     texts

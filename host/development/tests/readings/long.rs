@@ -6,7 +6,7 @@ use bannelgo_development::expr::{byte, not, or_else, star, then, Expr, Grammar};
 use bannelgo_development::gap_sheet::sheet;
 use bannelgo_development::gap_text::long_sheet;
 use bannelgo_development::numbering::{image_of, Numbering};
-use Expr::{AnyByte, Bytes, Call, Empty};
+use Expr::{Any, Bytes, Call, Empty};
 
 const LENGTHS: [usize; 9] = [
     65_533, 65_534, 65_535, 65_536, 65_537, 65_600, 70_000, 131_071, 131_072,
@@ -34,28 +34,30 @@ fn with_letter_rule(body: Expr) -> Subject {
     Subject::of(&Grammar { start: 0, rules }, Numbering::Preorder)
 }
 
-fn texts(length: usize) -> [Vec<u8>; 3] {
+fn texts(length: usize) -> [Vec<u8>; 4] {
     let same = vec![b'a'; length];
     let mut last_differs = same.clone();
     last_differs[length - 1] = b'x';
     let in_turn = (0..length).map(|place| b"ab"[place % 2]).collect();
-    [same, last_differs, in_turn]
+    // Characters of 1 to 4 bytes; at most lengths the last is cut off.
+    let characters = "aé€𝄞".bytes().cycle().take(length).collect();
+    [same, last_differs, in_turn, characters]
 }
 
 fn bodies() -> [Expr; 12] {
-    let all = || star(AnyByte);
+    let all = || star(Any);
     [
         Empty,
-        AnyByte,
+        Any,
         all(),
-        then(all(), not(AnyByte)),
+        then(all(), not(Any)),
         not(all()),
-        not(not(then(all(), not(AnyByte)))),
-        or_else(then(all(), byte(b'x')), AnyByte),
+        not(not(then(all(), not(Any)))),
+        or_else(then(all(), byte(b'x')), Any),
         star(byte(b'a')),
         then(Call(1), star(Call(1))),
         then(star(Call(1)), byte(b'x')),
         star(then(byte(b'a'), star(byte(b'b')))),
-        then(AnyByte, star(then(AnyByte, AnyByte))),
+        then(Any, star(then(Any, Any))),
     ]
 }

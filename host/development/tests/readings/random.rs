@@ -4,7 +4,7 @@ use super::subject::Subject;
 use super::tally::Tally;
 use bannelgo_development::expr::Grammar;
 use bannelgo_development::generate::{
-    damage, guarded, some_letters, start_with_the_biggest, text_of, to_letters,
+    damage, guarded, some_text, start_with_the_biggest, text_of, to_letters,
 };
 use bannelgo_development::numbering::Numbering;
 use bannelgo_development::rng::Rng;
@@ -38,7 +38,7 @@ pub fn bytes(seed: u64) -> Tally {
     tally
 }
 
-/// The empty text, texts that probably match, their beginnings, damaged ones and any letters.
+/// The empty text, texts that probably match, their beginnings, damaged ones and any text.
 pub fn compare_texts(tally: &mut Tally, rng: &mut Rng, grammar: &Grammar, most_bytes: usize) {
     let subject = &Subject::of(grammar, Numbering::any(rng));
     assert!(subject.accepted(), "the grammar is accepted: {grammar:?}");
@@ -52,5 +52,5 @@ pub fn compare_texts(tally: &mut Tally, rng: &mut Rng, grammar: &Grammar, most_b
         tally.compare(subject, &text);
     }
     let count = rng.below(most_bytes);
-    tally.compare(subject, &some_letters(rng, count));
+    tally.compare(subject, &some_text(rng, count));
 }

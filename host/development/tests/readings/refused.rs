@@ -3,7 +3,7 @@
 use super::subject::Subject;
 use super::tally::Tally;
 use bannelgo_development::generate::{
-    change_field, change_one_node, guarded, some_letters, to_letters, wild, TASTES,
+    change_field, change_one_node, guarded, some_text, to_letters, wild, TASTES,
 };
 use bannelgo_development::numbering::{words_of, Numbering};
 use bannelgo_development::rng::Rng;
@@ -49,11 +49,11 @@ pub fn careless(seed: u64) -> Tally {
     tally
 }
 
-/// Letters, the empty text, and in one of eight cases a text above 65,535 bytes.
+/// Any text, the empty one, and in one of eight cases a text above 65,535 bytes.
 fn texts(tally: &mut Tally, rng: &mut Rng, subject: &Subject) {
     static TOO_LONG: [u8; 65_536] = [b'a'; 65_536];
     let count = rng.between(1, 12);
-    tally.compare(subject, &some_letters(rng, count));
+    tally.compare(subject, &some_text(rng, count));
     tally.compare(subject, &[]);
     if rng.one_in(8) {
         tally.compare(subject, &TOO_LONG);

@@ -2,8 +2,10 @@
 
 use bannelgo::Reading;
 use bannelgo_development::expr::Grammar;
-use bannelgo_development::generate::unfolded;
+use bannelgo_development::generate::Feature;
 use bannelgo_development::numbering::{image_of, Numbering};
+use bannelgo_development::reference::forms::Forms;
+use bannelgo_development::reference::machine::evaluate_start;
 use bannelgo_development::reference::{accepted_grammar, read};
 
 pub struct Subject {
@@ -33,10 +35,24 @@ impl Subject {
         }
     }
 
-    /// Whether the answer would be another one than this if no range had the fold bit.
-    pub fn folds_decide(&self, text: &[u8], most_work: u64, answer: Result<Reading, u64>) -> bool {
-        let plain = self.grammar.as_ref().ok().and_then(unfolded);
+    /// Whether the answer would be another one than this without the feature.
+    pub fn decides(
+        &self,
+        feature: Feature,
+        text: &[u8],
+        most_work: u64,
+        answer: Result<Reading, u64>,
+    ) -> bool {
+        let grammar = self.grammar.as_ref().ok();
+        let plain = grammar.and_then(|grammar| feature.taken_from(grammar));
         let plain = plain.and_then(|plain| read(&plain, text, most_work));
         plain.is_some_and(|plain| plain != answer)
+    }
+
+    /// The forms of any's matches in a reading.
+    pub fn forms(&self, text: &[u8], most_work: u64) -> Forms {
+        let grammar = self.grammar.as_ref().ok();
+        let found = grammar.and_then(|grammar| evaluate_start(grammar, text, most_work));
+        found.map_or(Forms::default(), |found| found.forms)
     }
 }

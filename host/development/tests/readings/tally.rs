@@ -3,6 +3,8 @@
 use super::subject::Subject;
 use bannelgo::{plain_reading, Outcome, Reading};
 use bannelgo_development::calls::number_of;
+use bannelgo_development::generate::Feature;
+use bannelgo_development::reference::forms::Forms;
 use std::io::Write;
 
 /// A pair on which a reading without records makes more evaluations than this is skipped.
@@ -24,9 +26,22 @@ const ANSWERS: [(u64, &str); 12] = [
     (100, "14"),
 ];
 
-/// How many readings that fold bits decide are counted in each family, and how many there have to be.
-const MOST_FOLDS: u64 = 1_000;
-const LEAST_FOLDS: u64 = 5_000;
+/// Readings that fold bits decide and that characters decide; then readings in which a match of any has one of
+/// the forms. How often each has to come up, and its name.
+const MORE: [(u64, &str); 9] = [
+    (5_000, "fold"),
+    (5_000, "char"),
+    (5_000, Forms::NAMES[0]),
+    (5_000, Forms::NAMES[1]),
+    (4_000, Forms::NAMES[2]),
+    (5_000, Forms::NAMES[3]),
+    (5_000, Forms::NAMES[4]),
+    (5_000, Forms::NAMES[5]),
+    (3_500, Forms::NAMES[6]),
+];
+
+/// How many of these are counted in each family.
+const MOST_OF_MORE: u64 = 1_000;
 
 /// The place of an answer in `ANSWERS`.
 fn place(answer: Result<Reading, u64>) -> usize {
@@ -48,7 +63,7 @@ pub struct Tally {
     most_work: u64,
     skipped: u64,
     counts: [u64; ANSWERS.len()],
-    folds: u64,
+    more: [u64; MORE.len()],
 }
 
 impl Tally {
@@ -60,7 +75,7 @@ impl Tally {
             most_work: MOST_WORK,
             skipped: 0,
             counts: [0; ANSWERS.len()],
-            folds: 0,
+            more: [0; MORE.len()],
         }
     }
 
@@ -90,14 +105,31 @@ impl Tally {
             return;
         };
         self.counts[place(reference)] += 1;
-        if self.folds < MOST_FOLDS && subject.folds_decide(text, self.most_work, reference) {
-            self.folds += 1;
-        }
+        self.count_more(subject, text, reference);
         let ours = plain_reading(&subject.image, text).map_err(|refusal| number_of(&refusal));
         if ours != reference {
             let (name, seed, pair) = (self.name, self.seed(), self.pairs());
             let shown = mismatch(&subject.image, text, ours, reference);
             panic!("{name}, seed {seed}, pair {pair}\n{shown}");
+        }
+    }
+
+    fn count_more(&mut self, subject: &Subject, text: &[u8], answer: Answer) {
+        let most_work = self.most_work;
+        let decides = |feature| subject.decides(feature, text, most_work, answer);
+        let (decided, forms) = self.more.split_at_mut(Feature::ALL.len());
+        for (count, feature) in decided.iter_mut().zip(Feature::ALL) {
+            let asked = *count < MOST_OF_MORE && feature.matters_in(text);
+            if asked && decides(feature) {
+                *count += 1;
+            }
+        }
+        if Feature::Characters.matters_in(text) {
+            let seen = subject.forms(text, most_work);
+            for (place, count) in forms.iter_mut().enumerate() {
+                let more = seen.has(place) && *count < MOST_OF_MORE;
+                *count += u64::from(more);
+            }
         }
     }
 
@@ -144,23 +176,21 @@ fn hex_runs(bytes: &[u8]) -> String {
 pub fn settle(tallies: &[Tally]) {
     let mut total = Tally::listed("total");
     for tally in tallies {
-        for (sum, count) in total.counts.iter_mut().zip(tally.counts) {
+        let counts = total.counts.iter_mut().zip(tally.counts);
+        let more = total.more.iter_mut().zip(tally.more);
+        for (sum, count) in counts.chain(more) {
             *sum += count;
         }
         total.skipped += tally.skipped;
-        total.folds += tally.folds;
     }
     print_table(tallies, &total);
     let pairs = total.pairs();
     assert!(pairs >= 1_000_000, "only {pairs} pairs");
-    for ((least, name), count) in ANSWERS.iter().zip(total.counts) {
+    let answers = ANSWERS.iter().zip(total.counts);
+    let more = MORE.iter().zip(total.more);
+    for ((least, name), count) in answers.chain(more) {
         assert!(count >= *least, "{name} came up only {count} times");
     }
-    let folds = total.folds;
-    assert!(
-        folds >= LEAST_FOLDS,
-        "fold bits decided only {folds} readings"
-    );
 }
 
 /// Writes to the standard output itself, which the test harness shows also for a passed test.
@@ -169,17 +199,15 @@ fn print_table(tallies: &[Tally], total: &Tally) {
         "\n{:<32}{:>5}{:>9}{:>8}",
         "family", "seed", "pairs", "skipped"
     );
-    for (_, name) in ANSWERS {
+    for (_, name) in ANSWERS.iter().chain(&MORE) {
         text += &format!("{name:>8}");
     }
-    text += &format!("{:>8}", "fold");
     for tally in tallies.iter().chain([total]) {
         let (seed, pairs, skipped) = (tally.seed(), tally.pairs(), tally.skipped);
         text += &format!("\n{:<32}{seed:>5}{pairs:>9}{skipped:>8}", tally.name);
-        for count in tally.counts {
+        for count in tally.counts.iter().chain(&tally.more) {
             text += &format!("{count:>8}");
         }
-        text += &format!("{:>8}", tally.folds);
     }
     writeln!(std::io::stdout(), "{text}").expect("the standard output can be written");
 }

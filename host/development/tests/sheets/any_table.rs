@@ -8,7 +8,7 @@ use super::session::first_difference;
 use super::tally::Tally;
 use bannelgo_development::calls::{Answer, Call};
 use bannelgo_development::expr::Grammar;
-use bannelgo_development::generate::unfolded;
+use bannelgo_development::generate::Feature;
 use bannelgo_development::numbering::{image_of, Numbering};
 use bannelgo_development::reference::lent::Loan;
 use bannelgo_development::reference::{lent_listing, lent_reading, Number};
@@ -46,13 +46,10 @@ impl<'a> AnyTable<'a> {
         let left = lent.left();
         let fences = lent.fences_stand();
         assert!(fences, "a fence is down\n{}", self.story(call, &before));
-        self.tally.count_case(call, &before.buffer[..before.n]);
         match expected(self.grammar, &mut self.loan, call) {
             Some(answer) => {
-                let grammar = self.grammar;
-                self.tally
-                    .count_fold(call, || folds_decide(grammar, &before, call, &answer));
                 let expected = fields_of(&answer);
+                self.count_more(call, &before, &answer);
                 self.tally.count_call(call, expected);
                 let rows = lent.rows_with(&row_words(&answer));
                 let settled = fields == expected && left == self.loan && lent.rows() == rows;
@@ -77,6 +74,21 @@ impl<'a> AnyTable<'a> {
         }
     }
 
+    fn count_more(&mut self, call: &Call, before: &Loan, answer: &Result<Answer, Number>) {
+        let text = &before.buffer[..before.n];
+        if answer.is_ok() {
+            let after = &self.loan.buffer[..self.loan.n];
+            self.tally.count_edit(call, text, after);
+        }
+        let grammar = self.grammar;
+        let decides = |feature: Feature| {
+            let plain = feature.taken_from(grammar);
+            let plain = plain.and_then(|plain| expected(&plain, &mut before.clone(), call));
+            plain.is_some_and(|plain| plain != *answer)
+        };
+        self.tally.count_decided(call, text, decides);
+    }
+
     fn story(&self, call: &Call, before: &Loan) -> String {
         let place = self.tally.place();
         let Loan { buffer, n, words } = before;
@@ -85,18 +97,6 @@ impl<'a> AnyTable<'a> {
         let lent = format!("buffer \"{text}\", n {n}, words {}", words.join(" "));
         format!("{place}\n  {:?}\n  {call}\n  {lent}", self.grammar)
     }
-}
-
-/// Whether the call would have another answer than this if no range had the fold bit.
-fn folds_decide(
-    grammar: &Grammar,
-    before: &Loan,
-    call: &Call,
-    answer: &Result<Answer, Number>,
-) -> bool {
-    let plain = unfolded(grammar);
-    let plain = plain.and_then(|plain| expected(&plain, &mut before.clone(), call));
-    plain.is_some_and(|plain| plain != *answer)
 }
 
 /// What the paper says of a call, and does with the loan; nothing for one that is free.

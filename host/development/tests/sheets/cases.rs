@@ -1,34 +1,23 @@
 //! Every small grammar over a letter in both cases, with texts in which the case of each letter is changed.
 
+use super::every::each_pair;
 use super::session::Session;
 use super::tally::Tally;
 use bannelgo_development::calls::Call;
 use bannelgo_development::expr::{Expr, Grammar};
-use bannelgo_development::generate::{each_grammar, CASE};
-use bannelgo_development::numbering::{image_of, Numbering};
-use bannelgo_development::reference;
+use bannelgo_development::generate::CASE;
 use bannelgo_development::rng::Rng;
 
 /// The leaves besides calls.
-const LEAVES: [Expr; 3] = [
-    Expr::AnyByte,
-    Expr::Bytes(b'a', b'a'),
-    Expr::Folded(b'a', b'a'),
-];
+const LEAVES: [Expr; 3] = [Expr::Any, Expr::Bytes(b'a', b'a'), Expr::Folded(b'a', b'a')];
 
 const TEXTS: [&[u8]; 8] = [b"a", b"A", b"aa", b"aA", b"Aa", b"AA", b"aab", b"AbA"];
 
-/// Two rules of at most 4 nodes together.
 pub fn changes(seed: u64) -> Tally {
     let mut tally = Tally::drawn("all of 2 rules, both cases", seed);
     let rng = &mut Rng::new(seed);
-    each_grammar(2, 4, &LEAVES, &mut |grammar| {
-        let image = image_of(grammar, Numbering::Preorder);
-        if reference::check(&image) == 0 {
-            for text in TEXTS {
-                changes_of(&mut tally, rng, grammar, text);
-            }
-        }
+    each_pair(&LEAVES, &TEXTS, |grammar, text| {
+        changes_of(&mut tally, rng, grammar, text);
     });
     tally
 }

@@ -6,7 +6,7 @@ use super::tally::Tally;
 use super::words::any_table;
 use bannelgo_development::calls::Call;
 use bannelgo_development::expr::{then, Expr, Grammar};
-use bannelgo_development::generate::{small_grammar, some_letters, text_of, Typist};
+use bannelgo_development::generate::{small_grammar, some_junk, some_text, text_of, Typist};
 use bannelgo_development::reference::lent::Loan;
 use bannelgo_development::rng::Rng;
 
@@ -30,13 +30,13 @@ pub fn listings(seed: u64) -> Tally {
     })
 }
 
-/// 63 rules call each other in a ring that the grammar leaves only after a byte; records that say
-/// that the byte's rule matched nothing close it. No greater nesting takes more stack.
+/// 63 rules call each other in a ring that has any in it; records that say that any's rule matched
+/// nothing close it. No greater nesting takes more stack.
 pub fn endless(seed: u64) -> Tally {
     let mut tally = Tally::drawn("a ring of records", seed);
     let rng = &mut Rng::new(seed);
     let mut rules: Vec<Expr> = (1..63).map(Expr::Call).collect();
-    rules.extend([then(Expr::Call(63), Expr::Call(0)), Expr::AnyByte]);
+    rules.extend([then(Expr::Call(63), Expr::Call(0)), Expr::Any]);
     let grammar = Grammar { start: 0, rules };
     let loan = Loan {
         buffer: b"a".to_vec(),
@@ -77,13 +77,10 @@ fn any_loan(rng: &mut Rng, grammar: &Grammar) -> Loan {
     let count = rng.below(10);
     let text = match rng.below(2) {
         0 => text_of(rng, grammar, 10),
-        _ => some_letters(rng, count),
+        _ => some_text(rng, count),
     };
     let room = rng.below(5);
-    let junk = match rng.below(2) {
-        0 => vec![0; room],
-        _ => some_letters(rng, room),
-    };
+    let junk = some_junk(rng, room);
     let mut words = any_table(rng, grammar, &text, text.len() + room);
     words.extend((0..rng.below(4)).map(|_| rng.draw()));
     Loan {

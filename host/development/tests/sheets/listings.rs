@@ -3,10 +3,11 @@
 use super::session::Session;
 use super::tally::Tally;
 use bannelgo_development::calls::Call;
+use bannelgo_development::dots::one_by_one;
 use bannelgo_development::expr::{byte, not, or_else, star, then, Expr, Grammar};
 use bannelgo_development::generate::{brackets_of_nesting, Levels};
 use bannelgo_development::rng::Rng;
-use Expr::{AnyByte, Bytes, Call as Rule, Empty};
+use Expr::{Any, Bytes, Call as Rule, Empty};
 
 /// Nestings from 4,091 to 4,102: listings of a text that was not read, and after edits of it.
 pub fn near_the_limit(seed: u64) -> Tally {
@@ -73,7 +74,8 @@ fn doubling_grammar(rules: usize) -> Grammar {
 
 const MOST: usize = 65_535;
 
-/// Texts of up to 65,535 bytes with a row for each byte, or with rows only at the end or nowhere.
+/// Texts of up to 65,535 bytes with a row for each byte, with rows only at the end or nowhere, and with a row for
+/// each character.
 pub fn long_texts(seed: u64) -> Tally {
     let mut tally = Tally::drawn("listings of long texts", seed);
     let rng = &mut Rng::new(seed);
@@ -89,11 +91,27 @@ pub fn long_texts(seed: u64) -> Tally {
         session.edit(1, MOST, b"");
         session.list(rng);
     }
+    long_text_of_characters(&mut tally, rng);
     tally
 }
 
+/// 21,845 characters; then the first is broken, and each of its bytes has a row.
+fn long_text_of_characters(tally: &mut Tally, rng: &mut Rng) {
+    let grammar = one_by_one();
+    let text: Vec<u8> = "€".bytes().cycle().take(MOST).collect();
+    let session = &mut Session::open(tally, rng, &grammar, MOST, &text);
+    let rows = MOST / 3 + 1;
+    for slots in [rows - 1, rows] {
+        session.call(Call::List { slots });
+    }
+    session.edit(1, 2, b"x");
+    for slots in [rows + 1, rows + 2] {
+        session.call(Call::List { slots });
+    }
+}
+
 fn bodies() -> [Expr; 6] {
-    let all = || star(AnyByte);
+    let all = || star(Any);
     [
         star(Rule(1)),
         then(star(Rule(1)), not(Rule(1))),

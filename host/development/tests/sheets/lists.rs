@@ -5,7 +5,7 @@ use super::session::Session;
 use super::tally::Tally;
 use bannelgo_development::expr::Grammar;
 use bannelgo_development::generate::{
-    guarded, small_grammar, some_letters, start_with_the_biggest, text_of, Typist,
+    guarded, small_grammar, some_text, start_with_the_biggest, text_of, Typist,
 };
 use bannelgo_development::rng::Rng;
 
@@ -51,12 +51,12 @@ pub fn full(seed: u64) -> Tally {
     tally
 }
 
-/// A text that probably matches, several of them one after the other, or any letters.
+/// A text that probably matches, several of them one after the other, or any text.
 fn opening_text(rng: &mut Rng, grammar: &Grammar, longest: usize) -> Vec<u8> {
     let count = rng.below(longest + 1);
     let mut text = match rng.below(3) {
         0 => text_of(rng, grammar, longest),
-        1 => some_letters(rng, count),
+        1 => some_text(rng, count),
         _ => (0..4)
             .flat_map(|_| text_of(rng, grammar, longest))
             .collect(),

@@ -3,9 +3,10 @@
 use super::session::Session;
 use super::tally::Tally;
 use bannelgo_development::calls::Call;
+use bannelgo_development::dots::one_by_one;
 use bannelgo_development::expr::{byte, not, or_else, star, then, Expr, Grammar};
 use bannelgo_development::rng::Rng;
-use Expr::{AnyByte, Bytes, Call as Rule, Empty};
+use Expr::{Any, Bytes, Call as Rule, Empty};
 
 const MOST: usize = 65_535;
 
@@ -21,18 +22,23 @@ pub fn most_bytes(seed: u64) -> Tally {
             ends(Session::open(&mut tally, rng, &grammar, MOST, &text));
         }
     }
+    for length in [MOST, MOST - 1] {
+        let grammar = one_by_one();
+        let text: Vec<u8> = "é".bytes().cycle().take(length).collect();
+        ends(Session::open(&mut tally, rng, &grammar, MOST, &text));
+    }
     most_words(&mut tally, rng);
     tally
 }
 
 fn bodies() -> [Expr; 5] {
-    let all = || star(AnyByte);
+    let all = || star(Any);
     [
         star(Rule(1)),
-        then(star(Rule(1)), not(AnyByte)),
+        then(star(Rule(1)), not(Any)),
         or_else(then(all(), byte(b'x')), then(Rule(1), Empty)),
         then(Rule(1), star(then(Rule(1), Rule(1)))),
-        not(then(star(Rule(1)), AnyByte)),
+        not(then(star(Rule(1)), Any)),
     ]
 }
 

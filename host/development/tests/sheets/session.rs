@@ -11,7 +11,7 @@ use super::tally::Tally;
 use bannelgo::raw::Fields;
 use bannelgo_development::calls::Call;
 use bannelgo_development::expr::Grammar;
-use bannelgo_development::generate::{letter, unfolded};
+use bannelgo_development::generate::{letter, Feature};
 use bannelgo_development::numbering::{image_of, Numbering};
 use bannelgo_development::reference;
 use bannelgo_development::reference::ledger::Ledger;
@@ -66,13 +66,17 @@ impl<'a> Session<'a> {
 
     /// Makes a call in both ways.
     pub fn call(&mut self, call: Call) -> Fields {
-        self.tally.count_case(&call, self.ledger.text());
+        let before = self.ledger.text().to_vec();
         let fields = self.lent.call(&self.image, &call);
         let answer = self.ledger.call(&call);
         let expected = fields_of(&answer);
         self.tally.count_call(&call, expected);
         let (grammar, text) = (self.grammar, self.ledger.text());
-        self.tally.count_fold(&call, || folds_decide(grammar, text));
+        if expected.number == 0 {
+            self.tally.count_edit(&call, &before, text);
+        }
+        let decides = |feature| decides(feature, grammar, text);
+        self.tally.count_decided(&call, text, decides);
         self.calls.push(call);
         self.compare("call", fields, expected, &row_words(&answer));
         fields
@@ -140,10 +144,11 @@ impl<'a> Session<'a> {
     }
 }
 
-/// Whether the text's reading would be another one if no range had the fold bit.
-fn folds_decide(grammar: &Grammar, text: &[u8]) -> bool {
+/// Whether the text's reading would be another one without the feature.
+fn decides(feature: Feature, grammar: &Grammar, text: &[u8]) -> bool {
     let read = |grammar: &Grammar| reference::read(grammar, text, u64::MAX);
-    unfolded(grammar).is_some_and(|plain| read(&plain) != read(grammar))
+    let plain = feature.taken_from(grammar);
+    plain.is_some_and(|plain| read(&plain) != read(grammar))
 }
 
 /// The text, or its length where it is long.

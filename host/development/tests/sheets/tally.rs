@@ -1,27 +1,29 @@
 //! Counts lists, calls and answers.
 
+use super::edited::sorts;
 use bannelgo::raw::Fields;
 use bannelgo_development::calls::Call;
+use bannelgo_development::generate::Feature;
 use std::io::Write;
 
 /// The kinds of answer: an open, an edit, a look-up, the outcomes of a reading, the refusals, a listing
-/// with rows and one without, and a reading and a listing that the paper leaves free. Beside the answers three
-/// more are counted: readings that fold bits decide, listings that they decide, and edits that change only cases.
-const COUNTED: [&str; 27] = [
+/// with rows and one without, and a reading and a listing that the paper leaves free. Beside the answers more is
+/// counted: readings and listings that fold bits decide, those that characters decide, and sorts of edits.
+const COUNTED: [&str; 34] = [
     "open", "edit", "word", "whole", "part", "none", "1", "2", "3", "4", "5", "6", "7", "8", "9",
-    "10", "11", "12", "14", "15", "rows", "0 rows", "free", "free l", "fold", "fold l", "case",
+    "10", "11", "12", "14", "15", "rows", "0 rows", "free", "free l", "fold", "fold l", "char",
+    "char l", "case", "inside", "split", "join", "goes on", "unlawful",
 ];
 
 const ROWS: usize = 20;
 const NO_ROWS: usize = 21;
 const FREE: usize = 22;
 const FREE_LISTING: usize = 23;
-const FOLD: usize = 24;
-const FOLD_LISTING: usize = 25;
-const CASE: usize = 26;
+const DECIDED: usize = 24;
+const SORTS: usize = 28;
 
-/// How many readings that fold bits decide are counted in each family, and how many listings.
-const MOST_FOLDS: u64 = 1_000;
+/// How many readings that something decides are counted in each family, and how many listings.
+const MOST_DECIDED: u64 = 1_000;
 
 /// The counts of one family.
 pub struct Tally {
@@ -81,31 +83,27 @@ impl Tally {
         });
     }
 
-    /// Counts a reading or a listing where fold bits decide it, which is asked until enough are counted.
-    pub fn count_fold(&mut self, call: &Call, folds_decide: impl FnOnce() -> bool) {
-        let place = match call {
-            Call::Read => FOLD,
-            Call::List { .. } => FOLD_LISTING,
+    /// Counts a reading or a listing of a text for each feature that decides it, which is asked until enough are
+    /// counted.
+    pub fn count_decided(&mut self, call: &Call, text: &[u8], decides: impl Fn(Feature) -> bool) {
+        let listing = match call {
+            Call::Read => 0,
+            Call::List { .. } => 1,
             _ => return,
         };
-        if self.counts[place] < MOST_FOLDS && folds_decide() {
-            self.count(place);
+        for (number, feature) in Feature::ALL.into_iter().enumerate() {
+            let place = DECIDED + 2 * number + listing;
+            let asked = self.counts[place] < MOST_DECIDED && feature.matters_in(text);
+            if asked && decides(feature) {
+                self.count(place);
+            }
         }
     }
 
-    /// Counts an edit of a text where it changes only the cases of letters.
-    pub fn count_case(&mut self, call: &Call, text: &[u8]) {
-        let Call::Edit {
-            start,
-            end,
-            replacement,
-        } = call
-        else {
-            return;
-        };
-        let only_cases = |old: &[u8]| old != replacement && old.eq_ignore_ascii_case(replacement);
-        if text.get(*start..*end).is_some_and(only_cases) {
-            self.count(CASE);
+    /// Counts an accepted edit as each sort that it is.
+    pub fn count_edit(&mut self, call: &Call, before: &[u8], after: &[u8]) {
+        for (place, is_one) in (SORTS..).zip(sorts(call, before, after)) {
+            self.counts[place] += u64::from(is_one);
         }
     }
 
@@ -154,13 +152,13 @@ pub fn settle(tallies: &[Tally], fewest_lists: u64, fewest: &[(&str, u64)]) {
 fn print_table(tallies: &[Tally], total: &Tally) {
     let mut text = format!("\n{:<28}{:>5}{:>8}", "family", "seed", "lists");
     for name in COUNTED {
-        text += &format!("{name:>7}");
+        text += &format!("{name:>9}");
     }
     for tally in tallies.iter().chain([total]) {
         let (seed, lists) = (tally.seed(), tally.lists);
         text += &format!("\n{:<28}{seed:>5}{lists:>8}", tally.name);
         for count in tally.counts {
-            text += &format!("{count:>7}");
+            text += &format!("{count:>9}");
         }
     }
     writeln!(std::io::stdout(), "{text}").expect("the standard output can be written");

@@ -10,7 +10,7 @@ use super::tally::Tally;
 use bannelgo::raw::Fields;
 use bannelgo_development::calls::{Answer, Call};
 use bannelgo_development::expr::Grammar;
-use bannelgo_development::generate::{brackets_of_nesting, small_grammar, some_letters};
+use bannelgo_development::generate::{brackets_of_nesting, small_grammar, some_junk, some_text};
 use bannelgo_development::numbering::{image_of, Numbering};
 use bannelgo_development::reference::ledger::Ledger;
 use bannelgo_development::reference::lent::Loan;
@@ -36,7 +36,7 @@ fn tables(mut tally: Tally, seed: u64, made: Made) -> Tally {
     for _ in 0..30_000 {
         let grammar = small_grammar(rng);
         let count = rng.below(16);
-        let text = some_letters(rng, count);
+        let text = some_text(rng, count);
         let pairs = rng.below(6);
         let held = held_pairs(rng, &grammar, &text, pairs);
         made(&mut tally, rng, &grammar, &text, &held);
@@ -56,7 +56,7 @@ fn loan_of(rng: &mut Rng, grammar: &Grammar, text: &[u8], held: &PairMap<Found>)
     let cap = text.len() + rng.below(4);
     let words = rules * (cap + 1) + rng.below(3);
     let mut loan = Loan {
-        buffer: [text, &some_letters(rng, cap - text.len())].concat(),
+        buffer: [text, &some_junk(rng, cap - text.len())].concat(),
         n: text.len(),
         words: (0..words).map(|_| rng.draw() >> 1).collect(),
     };

@@ -34,12 +34,12 @@ pub fn ring(rng: &mut Rng) -> Grammar {
         };
         rules.push(around(rng, before, next, length));
     }
-    rules.push(or_else(Expr::AnyByte, Expr::Empty));
+    rules.push(or_else(Expr::Any, Expr::Empty));
     rules.push(not(Expr::Empty));
     rules.push(if rng.one_in(20) {
         Expr::Call(length as u8 + 2)
     } else {
-        not(Expr::AnyByte)
+        not(Expr::Any)
     });
     rules.push(byte(b'x'));
     Grammar { start: 0, rules }
@@ -49,7 +49,7 @@ pub fn ring(rng: &mut Rng) -> Grammar {
 fn part_with_zero(rng: &mut Rng, length: usize) -> Expr {
     match rng.below(7) {
         0 => Expr::Empty,
-        1 => star(Expr::AnyByte),
+        1 => star(Expr::Any),
         2 => not(byte(b'a')),
         3 => Expr::Call(length as u8),
         4 => Expr::Call(length as u8 + 2),
@@ -61,11 +61,11 @@ fn part_with_zero(rng: &mut Rng, length: usize) -> Expr {
 /// A part that can't.
 fn consuming_part(rng: &mut Rng, length: usize) -> Expr {
     match rng.below(5) {
-        0 => Expr::AnyByte,
+        0 => Expr::Any,
         1 => Expr::Call(length as u8 + 1),
         2 => Expr::Call(length as u8 + 3),
         3 => then(star(byte(b'a')), byte(b'b')),
-        _ => or_else(Expr::AnyByte, not(star(byte(b'a')))),
+        _ => or_else(Expr::Any, not(star(byte(b'a')))),
     }
 }
 
@@ -99,7 +99,7 @@ const LAYERS: [fn(Expr) -> Expr; 7] = [
 /// One rule is a chain of 1 to 1,023 nodes, with each kind of end; a second rule stands beside it.
 pub fn deep_trees() -> Tally {
     let mut tally = Tally::listed("deep trees");
-    let ends = [Expr::Empty, Expr::AnyByte, Expr::Call(0), Expr::Call(1)];
+    let ends = [Expr::Empty, Expr::Any, Expr::Call(0), Expr::Call(1)];
     for end in &ends {
         for depth in [1, 2, 3, 10, 100, 511, 1020, 1021, 1023] {
             for layer in LAYERS {
@@ -115,8 +115,8 @@ fn deep_tree(tally: &mut Tally, end: &Expr, depth: usize, layer: fn(Expr) -> Exp
     while layer(Expr::Empty).nodes() - 1 + body.nodes() <= depth {
         body = layer(body);
     }
-    let second = or_else(Expr::AnyByte, Expr::Empty);
-    let with_star = then(star(Expr::AnyByte), Expr::Empty);
+    let second = or_else(Expr::Any, Expr::Empty);
+    let with_star = then(star(Expr::Any), Expr::Empty);
     for second in [second, with_star, Expr::Call(0)] {
         if body.nodes() + second.nodes() > 1024 {
             continue;
@@ -155,7 +155,7 @@ fn relay_with_ending(rules: usize, ending: usize) -> Grammar {
     let more = match ending {
         0 => star(Expr::Call(1)),
         1 => star(Expr::Call(0)),
-        2 => star(then(Expr::Call(1), Expr::AnyByte)),
+        2 => star(then(Expr::Call(1), Expr::Any)),
         3 => not(star(not(not(not(Expr::Call(1)))))),
         4 => then(Expr::Call(1), Expr::Call(last)),
         _ => then(not(Expr::Call(0)), then(not(Expr::Call(0)), Expr::Call(0))),

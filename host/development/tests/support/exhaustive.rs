@@ -64,7 +64,7 @@ pub fn lawful_words() -> Tally {
 }
 
 /// The leaves of small grammars, besides calls.
-pub const LEAVES: [Expr; 2] = [Expr::Empty, Expr::AnyByte];
+pub const LEAVES: [Expr; 2] = [Expr::Empty, Expr::Any];
 
 /// Every grammar of 1, 2 or 3 rules with few nodes in all.
 pub fn small_grammars() -> Tally {

@@ -1,6 +1,7 @@
 //! Times the proved library against Rust code written apart from it, in one run.
 
 mod cases;
+mod characters;
 mod checks;
 mod keys;
 mod listings;
@@ -14,10 +15,11 @@ mod typing;
 use std::process::ExitCode;
 
 /// What is printed where no part is named.
-const USUAL: [(&str, fn()); 6] = [
+const USUAL: [(&str, fn()); 7] = [
     ("checks", checks::print),
     ("readings", readings::print),
     ("cases", cases::print),
+    ("characters", characters::print),
     ("keys", keys::print),
     ("listings", listings::print),
     ("stack", stack::print),

@@ -1,18 +1,18 @@
 //! Letters typed over the first one of a unit, which is read in either case.
 
 use crate::compared::Compared;
-use crate::keys::{show_table, typed};
+use crate::keys::{show_table, stopped_at, typed, STOPPED_AT};
 use crate::layout::{heading, numbered};
 use crate::typing::over;
 use crate::Shown;
-use bannelgo_development::gap_text::SHEET_WITH_UNITS;
+use bannelgo_development::gap_text::SITE_SHEET;
 use std::io::Write;
 
 /// The other case of the letter that stands there, another letter, and the first one again.
 const LETTERS: &[u8] = b"Kxk";
 
 pub fn show(out: &mut impl Write, compared: &mut Compared) -> Shown {
-    let place = SHEET_WITH_UNITS.find("kWh").expect("a value has its unit");
+    let place = SITE_SHEET.find("kWh").expect("a value has its unit");
     let keys = typed(over(place, LETTERS), compared)?;
     heading(out, "Letters in either case")?;
     writeln!(
@@ -27,5 +27,5 @@ pub fn show(out: &mut impl Write, compared: &mut Compared) -> Shown {
         writeln!(out, "{}", numbered(number + 1, line))?;
     }
     writeln!(out)?;
-    show_table(out, &keys)
+    show_table(out, &keys, STOPPED_AT, stopped_at)
 }

@@ -4,6 +4,7 @@
 //! Every answer is compared with that of a ledger or a checker written apart. The exit status is 1
 //! where one of them differs.
 
+mod accents;
 mod cases;
 mod compared;
 mod cost;
@@ -47,11 +48,13 @@ fn show(out: &mut impl Write, compared: &mut Compared) -> Shown {
          docs/WORDS.md explains the words, a ledger among them."
     )?;
     planner::show(out, compared)?;
-    rows::show(out, compared)?;
+    let tree = rows::tree(compared)?;
+    rows::show(out, &tree)?;
     let line = keys::typed_line(compared)?;
     keys::show(out, &line)?;
     stopped::show(out, &line)?;
     cases::show(out, compared)?;
+    accents::show(out, &tree, compared)?;
     summary::show(out, compared)?;
     refusals::show(out, compared)?;
     images::show(out, compared)?;

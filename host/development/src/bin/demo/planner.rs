@@ -5,24 +5,24 @@ use crate::first::{expected, FirstReading};
 use crate::layout::{grouped, heading, numbered};
 use crate::Shown;
 use bannelgo::{Grammar, SheetReading};
-use bannelgo_development::gap_sheet::named_sheet_with_units;
-use bannelgo_development::gap_text::SHEET_WITH_UNITS;
+use bannelgo_development::gap_sheet::named_site_sheet;
+use bannelgo_development::gap_text::SITE_SHEET;
 use std::io::Write;
 
 pub fn show(out: &mut impl Write, compared: &mut Compared) -> Shown {
-    let grammar = named_sheet_with_units();
+    let grammar = named_site_sheet();
     heading(out, "The sheet")?;
     writeln!(
         out,
         "A sheet is a text that is being typed. This one is a planner's, about gaps in\n\
-         what a meter recorded: a colour, from when to when, the values in the gap, and\n\
-         their unit.\n"
+         what a meter recorded at a site: a colour, from when to when, the values in the\n\
+         gap, and their unit.\n"
     )?;
-    for (number, line) in (1..).zip(SHEET_WITH_UNITS.lines()) {
+    for (number, line) in (1..).zip(SITE_SHEET.lines()) {
         writeln!(out, "{}", numbered(number, line))?;
     }
     writeln!(out, "\n{}", rules_in_words(&grammar))?;
-    let text = SHEET_WITH_UNITS.as_bytes();
+    let text = SITE_SHEET.as_bytes();
     let first = FirstReading::of(&grammar, text)?;
     compared.compare(
         "the first reading of the sheet",
@@ -45,7 +45,7 @@ fn rules_in_words(grammar: &Grammar) -> String {
 }
 
 fn reading_in_words(read: &SheetReading) -> String {
-    let (matched, all) = (read.reading.length, SHEET_WITH_UNITS.len());
+    let (matched, all) = (read.reading.length, SITE_SHEET.len());
     let verdict = match read.reading.is_whole() {
         true => "The whole sheet matched",
         false => "The sheet did not match as a whole",

@@ -5,8 +5,8 @@ use crate::layout::{grouped, heading};
 use crate::Shown;
 use bannelgo::{Grammar, Refusal, Sheet};
 use bannelgo_development::calls::{number_of, Call};
-use bannelgo_development::gap_sheet::{named_sheet_with_units, tree_of};
-use bannelgo_development::gap_text::SHEET_WITH_UNITS;
+use bannelgo_development::gap_sheet::{named_site_sheet, tree_of};
+use bannelgo_development::gap_text::SITE_SHEET;
 use bannelgo_development::reference::ledger::Ledger;
 use bannelgo_development::reference::lent::lent_wholly;
 use bannelgo_development::samples::M10;
@@ -24,7 +24,7 @@ struct Asked {
 }
 
 pub fn show(out: &mut impl Write, compared: &mut Compared) -> Shown {
-    let end = SHEET_WITH_UNITS.len();
+    let end = SITE_SHEET.len();
     let asked = [
         opening(100),
         edit("A byte behind the text is deleted", end..end + 1, "")?,
@@ -63,13 +63,13 @@ impl Asked {
 }
 
 fn opening(room: usize) -> Asked {
-    let grammar = named_sheet_with_units();
-    let (rules, length) = (grammar.names().count(), SHEET_WITH_UNITS.len());
+    let grammar = named_site_sheet();
+    let (rules, length) = (grammar.names().count(), SITE_SHEET.len());
     let expected = match lent_wholly(rules, room, length, rules * (room + 1)) {
         true => Ok(()),
         false => Err(8),
     };
-    let said = Sheet::open(&grammar, SHEET_WITH_UNITS, room);
+    let said = Sheet::open(&grammar, SITE_SHEET, room);
     Asked {
         about: format!("The sheet is opened with room for {room} bytes"),
         said: said.map(|_| ()),
@@ -79,8 +79,8 @@ fn opening(room: usize) -> Asked {
 
 /// An edit of the planner's sheet, which has no room to grow.
 fn edit(about: &str, bytes: Range<usize>, replacement: &str) -> Result<Asked, Refusal> {
-    let grammar = named_sheet_with_units();
-    let text = SHEET_WITH_UNITS.as_bytes();
+    let grammar = named_site_sheet();
+    let text = SITE_SHEET.as_bytes();
     let written_apart = tree_of(&grammar);
     let mut sheet = Sheet::open(&grammar, text, text.len())?;
     let mut ledger = Ledger::open(&written_apart, text.len(), text);

@@ -3,10 +3,10 @@
 use crate::compared::Compared;
 use crate::layout::heading;
 use crate::Shown;
-use bannelgo::{Listing, Sheet, Tree, MOST_ROWS};
+use bannelgo::{Listing, Refusal, Sheet, Tree, MOST_ROWS};
 use bannelgo_development::calls::{Answer, Call};
-use bannelgo_development::gap_sheet::{named_sheet_with_units, tree_of};
-use bannelgo_development::gap_text::SHEET_WITH_UNITS;
+use bannelgo_development::gap_sheet::{named_site_sheet, tree_of};
+use bannelgo_development::gap_text::SITE_SHEET;
 use bannelgo_development::reference::ledger::Ledger;
 use std::io::Write;
 
@@ -16,15 +16,18 @@ const DEEPEST: usize = 2;
 /// The entry that is shown with the calls inside it.
 const SHOWN_ENTRY: &str = "red;";
 
-pub fn show(out: &mut impl Write, compared: &mut Compared) -> Shown {
-    let grammar = named_sheet_with_units();
-    let text = SHEET_WITH_UNITS.as_bytes();
+pub fn tree(compared: &mut Compared) -> Result<Tree, Refusal> {
+    let grammar = named_site_sheet();
+    let text = SITE_SHEET.as_bytes();
     let tree = Sheet::open(&grammar, text, text.len())?.tree()?;
     let written_apart = tree_of(&grammar);
     let mut ledger = Ledger::open(&written_apart, text.len(), text);
     let expected = ledger.call(&Call::List { slots: MOST_ROWS });
     compared.compare("the rows of the sheet", &listed(&tree), &expected);
+    Ok(tree)
+}
 
+pub fn show(out: &mut impl Write, tree: &Tree) -> Shown {
     heading(out, "The rows")?;
     writeln!(
         out,
@@ -32,7 +35,20 @@ pub fn show(out: &mut impl Write, compared: &mut Compared) -> Shown {
          that it was made in. Down to depth {DEEPEST}:\n"
     )?;
     write!(out, "{}", tree.down_to(DEEPEST))?;
-    show_entry(out, &tree)
+    let mut calls = tree.calls();
+    let shown = calls
+        .find(|call| call.name() == "Entry" && call.text().starts_with(SHOWN_ENTRY.as_bytes()));
+    writeln!(out, "\nOne entry with the calls made in it:\n")?;
+    show_with_children(out, shown.expect("the sheet has this entry"))
+}
+
+/// A call, and the calls made in it.
+pub fn show_with_children(out: &mut impl Write, call: bannelgo::Call<'_>) -> Shown {
+    writeln!(out, "{call}")?;
+    for child in call.children() {
+        writeln!(out, "  {child}")?;
+    }
+    Ok(())
 }
 
 /// The tree as the listing that it was made from.
@@ -41,17 +57,4 @@ fn listed(tree: &Tree) -> Result<Answer, u64> {
         read: tree.reading(),
         rows: tree.calls().map(|call| call.row()).collect(),
     }))
-}
-
-fn show_entry(out: &mut impl Write, tree: &Tree) -> Shown {
-    let mut calls = tree.calls();
-    let shown = calls
-        .find(|call| call.name() == "Entry" && call.text().starts_with(SHOWN_ENTRY.as_bytes()));
-    if let Some(entry) = shown {
-        writeln!(out, "\nOne entry with the calls made in it:\n\n{entry}")?;
-        for child in entry.children() {
-            writeln!(out, "  {child}")?;
-        }
-    }
-    Ok(())
 }

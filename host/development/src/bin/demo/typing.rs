@@ -1,4 +1,4 @@
-//! Keys that are typed into a sheet: a line at a cursor, or letters over one byte.
+//! Keys that are typed into a sheet: a line at a cursor, or keys in the place of bytes.
 
 use crate::compared::Compared;
 use bannelgo::{Edited, Grammar, Refusal, Sheet, SheetReading};
@@ -14,12 +14,40 @@ pub const TYPED: &str = "red;  14:000\u{8}:00 / 14:15:00;  7.5\n";
 /// What deletes the byte before the cursor.
 pub const BACKSPACE: u8 = 8;
 
-/// A key: the bytes of the range give way to the replacement.
+/// A key: the bytes of the range give way to the replacement. Behind the reading a pair may be looked up.
 #[derive(Clone)]
 pub struct Stroke {
     pub key: u8,
     bytes: Range<usize>,
     replacement: Vec<u8>,
+    looked_up: Option<Pair>,
+}
+
+/// A rule at a position.
+#[derive(Clone, Copy)]
+pub struct Pair {
+    pub rule: usize,
+    pub position: usize,
+}
+
+impl Stroke {
+    /// A key in the place of these bytes, which a backspace deletes.
+    pub fn new(key: u8, bytes: Range<usize>) -> Stroke {
+        Stroke {
+            key,
+            bytes,
+            replacement: match key {
+                BACKSPACE => vec![],
+                key => vec![key],
+            },
+            looked_up: None,
+        }
+    }
+
+    pub fn and_look_up(self, pair: Pair) -> Stroke {
+        let looked_up = Some(pair);
+        Stroke { looked_up, ..self }
+    }
 }
 
 /// What a key did to the sheet.
@@ -27,6 +55,8 @@ pub struct Step {
     pub stroke: Stroke,
     edited: Edited,
     pub read: SheetReading,
+    /// The word of the pair that was looked up.
+    pub word: Option<u64>,
     /// The text that the edit left.
     pub text: Vec<u8>,
     /// The time of edit and reading together.
@@ -43,27 +73,20 @@ pub fn before_blank_line(text: &[u8], from: usize) -> usize {
 pub fn line_at(mut cursor: usize) -> Vec<Stroke> {
     let mut strokes = vec![];
     for key in TYPED.bytes() {
-        let (bytes, replacement) = match key {
-            BACKSPACE => (cursor - 1..cursor, vec![]),
-            key => (cursor..cursor, vec![key]),
+        let bytes = match key {
+            BACKSPACE => cursor - 1..cursor,
+            _ => cursor..cursor,
         };
-        cursor = bytes.start + replacement.len();
-        strokes.push(Stroke {
-            key,
-            bytes,
-            replacement,
-        });
+        let stroke = Stroke::new(key, bytes);
+        cursor = stroke.bytes.start + stroke.replacement.len();
+        strokes.push(stroke);
     }
     strokes
 }
 
 /// Keys typed one after the other over the byte at a place.
 pub fn over(place: usize, keys: &[u8]) -> Vec<Stroke> {
-    let stroke = |&key: &u8| Stroke {
-        key,
-        bytes: place..place + 1,
-        replacement: vec![key],
-    };
+    let stroke = |&key: &u8| Stroke::new(key, place..place + 1);
     keys.iter().map(stroke).collect()
 }
 
@@ -101,10 +124,13 @@ impl Step {
         let edited = sheet.edit(stroke.bytes.clone(), &stroke.replacement);
         let read = sheet.read();
         let time = begin.elapsed();
+        let pair = stroke.looked_up;
+        let word = pair.map(|Pair { rule, position }| sheet.word(rule, position));
         Ok(Step {
             stroke,
             edited: edited?,
             read: read?,
+            word: word.transpose()?,
             text: sheet.text().to_vec(),
             time,
         })
@@ -112,7 +138,10 @@ impl Step {
 
     fn compare(&self, ledger: &mut Ledger<'_>, compared: &mut Compared) {
         let Stroke {
-            bytes, replacement, ..
+            bytes,
+            replacement,
+            looked_up,
+            ..
         } = self.stroke.clone();
         let edit = Call::Edit {
             start: bytes.start,
@@ -133,5 +162,10 @@ impl Step {
             &read,
             &ledger.call(&Call::Read),
         );
+        if let (Some(Pair { rule, position }), Some(word)) = (looked_up, self.word) {
+            let look_up = Call::LookUp { rule, position };
+            let word = Ok(Answer::Word(word));
+            compared.compare(&look_up.to_string(), &word, &ledger.call(&look_up));
+        }
     }
 }

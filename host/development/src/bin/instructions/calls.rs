@@ -3,6 +3,7 @@
 use bannelgo::raw::check_image;
 use bannelgo::{lending, plain_reading};
 use bannelgo_development::big_images::{blocks, relay};
+use bannelgo_development::dots::{self, lines_of};
 use bannelgo_development::expr::Grammar;
 use bannelgo_development::gap_sheet::{named_sheet, sheet, sheet_of_days, sheet_of_lines};
 use bannelgo_development::gap_text::{keys, long_sheet, long_sheet_of_days, typing_places};
@@ -39,6 +40,7 @@ const SIZES: [(&str, usize); 2] = [("60,000 bytes", 60_000), ("6,000 bytes", 6_0
 pub fn all() -> Vec<Counted> {
     let mut calls = checks();
     calls.extend(SIZES.map(plain));
+    calls.extend(dots::grammars().map(plain_by_any));
     calls.extend(SIZES.map(opening));
     for size in SIZES {
         calls.extend(GRAMMARS.map(|grammar| first_reading(grammar, size)));
@@ -83,6 +85,19 @@ fn plain((size, bytes): (&str, usize)) -> Counted {
         work: Box::new(move || {
             let image = image_of(&sheet(), Numbering::Preorder);
             let read = plain_reading(&image, &long_sheet(bytes));
+            assert!(read.is_ok_and(|read| read.is_whole()));
+        }),
+    }
+}
+
+/// A text of ASCII.
+fn plain_by_any((name, grammar): (&str, Grammar)) -> Counted {
+    Counted {
+        name: format!("plain reading, {name}, 6,000 bytes"),
+        symbol: "bannelgo_plain_reading",
+        work: Box::new(move || {
+            let image = image_of(&grammar, Numbering::Preorder);
+            let read = plain_reading(&image, &lines_of(dots::ASCII, 6_000));
             assert!(read.is_ok_and(|read| read.is_whole()));
         }),
     }

@@ -62,7 +62,7 @@ const MATCHED_NOTHING: u64 = 0xC000_0002_0000_0000;
 /// matched nothing: it goes round until the allowance is used up.
 fn ring_stack() -> usize {
     let mut rules: Vec<Expr> = (1..63).map(Expr::Call).collect();
-    rules.extend([then(Expr::Call(63), Expr::Call(0)), Expr::AnyByte]);
+    rules.extend([then(Expr::Call(63), Expr::Call(0)), Expr::Any]);
     let image = image_of(&Grammar { start: 0, rules }, Numbering::Preorder);
     let mut table = [[MATCHED_NOTHING; 64], [0; 64]].concat();
     let mut slots = vec![0; SLOTS];

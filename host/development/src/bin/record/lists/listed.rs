@@ -5,7 +5,7 @@ use bannelgo_development::expr::{byte, not, or_else, sequence, star, then, Expr}
 use bannelgo_development::gap_sheet::sheet;
 use bannelgo_development::gap_text::PLANNERS_SHEET;
 use bannelgo_development::samples::{D2, M10};
-use Expr::{AnyByte, Call as Rule, Empty};
+use Expr::{Any, Call as Rule, Empty};
 
 pub fn digits() -> Vec<Line> {
     vec![
@@ -74,7 +74,7 @@ pub fn rows_of_calls() -> Vec<Line> {
     let bodies = [
         or_else(Rule(3), then(Rule(1), Rule(1))),
         star(then(Rule(1), Rule(2))),
-        sequence([not(Rule(2)), not(not(Rule(1))), AnyByte, Rule(2)]),
+        sequence([not(Rule(2)), not(not(Rule(1))), Any, Rule(2)]),
         or_else(then(Rule(1), not(Rule(2))), then(Rule(3), Rule(4))),
         then(Rule(1), not(Rule(2))),
     ];

@@ -56,7 +56,7 @@ pub fn digits() -> Vec<Line> {
 pub fn tempting() -> Vec<Line> {
     let empty_then_byte = Grammar {
         start: 0,
-        rules: vec![then(Expr::Call(1), Expr::AnyByte), Expr::Empty],
+        rules: vec![then(Expr::Call(1), Expr::Any), Expr::Empty],
     };
     let mut lines = vec![
         comment("M1, then (2, 3, \"3\"): whole."),

@@ -1,5 +1,6 @@
 //! The recorded lists.
 
+mod accented;
 mod deep;
 mod drawn;
 mod folded;
@@ -14,7 +15,7 @@ use bannelgo_development::expr::Grammar;
 use bannelgo_development::numbering::{image_of, Numbering};
 
 pub fn all() -> Vec<Line> {
-    let parts: [fn() -> Vec<Line>; 18] = [
+    let parts: [fn() -> Vec<Line>; 21] = [
         marked::before_anything,
         marked::digits,
         marked::tempting,
@@ -27,6 +28,9 @@ pub fn all() -> Vec<Line> {
         folded::unit,
         folded::from_capital_z_to_small_a,
         folded::refused_images,
+        accented::name,
+        accented::typed_by_bytes,
+        accented::unlawful,
         drawn::drawn,
         listed::digits,
         listed::refused,
@@ -55,11 +59,11 @@ fn open(text: &[u8]) -> Line {
     Line::Open(text.to_vec())
 }
 
-fn edit(start: usize, end: usize, replacement: &str) -> Line {
+fn edit(start: usize, end: usize, replacement: impl AsRef<[u8]>) -> Line {
     Line::Call(Call::Edit {
         start,
         end,
-        replacement: replacement.into(),
+        replacement: replacement.as_ref().to_vec(),
     })
 }
 

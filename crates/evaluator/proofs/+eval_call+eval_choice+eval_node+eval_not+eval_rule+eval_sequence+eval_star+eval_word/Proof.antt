@@ -3,7 +3,7 @@
 -- something inside.
 -- Assumes nothing.
 use Rattle.packrat.proofs.Rules.{was-possible, was-impossible, rule-impossible, rule-too-deep, rule-met, rule-refused, rule-stored, node-too-deep, node-goes, word-goes, call-goes, past-7}
-use Rattle.evaluator.proofs.Terminals.{terminal-goes}
+use Rattle.evaluator.proofs.Terminals.{terminal-goes, first-any, first-range}
 use Rattle.packrat.proofs.LoadedRuns.{word-is}
 use Rattle.packrat.proofs.Stars.{Rounds, rounds-start, round-refused, round-still, round-fails, round-goes, round-bounds}
 use Rattle.packrat.proofs.Runs.{not-refused, not-answered, call-refused, call-answered, nesting-allowed, says-itself, length-within}
@@ -16,8 +16,7 @@ use Rattle.records.specs.Words.{wordOf, possible, recordOf, recordWord}
 use Rattle.records.specs.declared.Record.{Record}
 use Rattle.evaluation.proofs.Shape.{empty-within}
 use Rattle.grammar.specs.Evaluates.{emptyHere}
-use Rattle.grammar.proofs.Nodes.{is-empty, is-any, is-plain-range, is-folded-range, is-sequence, is-choice, is-star, is-not, is-call, is-unlawful}
-use Rattle.image.proofs.PlainRange.{said-plain, said-folded-word}
+use Rattle.grammar.proofs.Nodes.{is-empty, is-any, is-range, is-sequence, is-choice, is-star, is-not, is-call, is-unlawful}
 use lib.ListN.{length, getD}
 use mathlib.Core.Path.{_≡_, refl, sym, ap, _∙_}
 use borrow.Author.Tests.{not-true, not-false}
@@ -28,29 +27,29 @@ use borrow.Fn.Kinds.{In, Out}
 use borrow.Fn.PlainCycle.{Measures, is, falls, and}
 use Rattle.evaluator.proofs.eval_call.Reads as eval-call
 use Rattle.evaluator.proofs.eval_call.Kinds as eval-call-kinds
-use Rattle.evaluator.proofs.+eval_call+eval_choice+eval_kind+eval_node+eval_not+eval_rule+eval_sequence+eval_star.Lts-eval_call as eval-call-lts
+use Rattle.evaluator.proofs.+eval_call+eval_choice+eval_node+eval_not+eval_rule+eval_sequence+eval_star+eval_word.Lts-eval_call as eval-call-lts
 use Rattle.evaluator.proofs.eval_choice.Reads as eval-choice
 use Rattle.evaluator.proofs.eval_choice.Kinds as eval-choice-kinds
-use Rattle.evaluator.proofs.+eval_call+eval_choice+eval_kind+eval_node+eval_not+eval_rule+eval_sequence+eval_star.Lts-eval_choice as eval-choice-lts
-use Rattle.evaluator.proofs.eval_kind.Reads as eval-kind
-use Rattle.evaluator.proofs.eval_kind.Kinds as eval-kind-kinds
-use Rattle.evaluator.proofs.+eval_call+eval_choice+eval_kind+eval_node+eval_not+eval_rule+eval_sequence+eval_star.Lts-eval_kind as eval-kind-lts
+use Rattle.evaluator.proofs.+eval_call+eval_choice+eval_node+eval_not+eval_rule+eval_sequence+eval_star+eval_word.Lts-eval_choice as eval-choice-lts
+use Rattle.evaluator.proofs.eval_word.Reads as eval-word
+use Rattle.evaluator.proofs.eval_word.Kinds as eval-word-kinds
+use Rattle.evaluator.proofs.+eval_call+eval_choice+eval_node+eval_not+eval_rule+eval_sequence+eval_star+eval_word.Lts-eval_word as eval-word-lts
 use Rattle.evaluator.proofs.eval_node.Reads as eval-node
 use Rattle.evaluator.proofs.eval_node.Kinds as eval-node-kinds
-use Rattle.evaluator.proofs.+eval_call+eval_choice+eval_kind+eval_node+eval_not+eval_rule+eval_sequence+eval_star.Lts-eval_node as eval-node-lts
+use Rattle.evaluator.proofs.+eval_call+eval_choice+eval_node+eval_not+eval_rule+eval_sequence+eval_star+eval_word.Lts-eval_node as eval-node-lts
 use Rattle.evaluator.proofs.eval_not.Reads as eval-not
 use Rattle.evaluator.proofs.eval_not.Kinds as eval-not-kinds
-use Rattle.evaluator.proofs.+eval_call+eval_choice+eval_kind+eval_node+eval_not+eval_rule+eval_sequence+eval_star.Lts-eval_not as eval-not-lts
+use Rattle.evaluator.proofs.+eval_call+eval_choice+eval_node+eval_not+eval_rule+eval_sequence+eval_star+eval_word.Lts-eval_not as eval-not-lts
 use Rattle.evaluator.proofs.eval_rule.Reads as eval-rule
 use Rattle.evaluator.proofs.eval_rule.Kinds as eval-rule-kinds
-use Rattle.evaluator.proofs.+eval_call+eval_choice+eval_kind+eval_node+eval_not+eval_rule+eval_sequence+eval_star.Lts-eval_rule as eval-rule-lts
+use Rattle.evaluator.proofs.+eval_call+eval_choice+eval_node+eval_not+eval_rule+eval_sequence+eval_star+eval_word.Lts-eval_rule as eval-rule-lts
 use Rattle.evaluator.proofs.eval_sequence.Reads as eval-sequence
 use Rattle.evaluator.proofs.eval_sequence.Kinds as eval-sequence-kinds
-use Rattle.evaluator.proofs.+eval_call+eval_choice+eval_kind+eval_node+eval_not+eval_rule+eval_sequence+eval_star.Lts-eval_sequence as eval-sequence-lts
+use Rattle.evaluator.proofs.+eval_call+eval_choice+eval_node+eval_not+eval_rule+eval_sequence+eval_star+eval_word.Lts-eval_sequence as eval-sequence-lts
 use Rattle.evaluator.proofs.eval_star.Reads as eval-star
 use Rattle.evaluator.proofs.eval_star.Kinds as eval-star-kinds
-use Rattle.evaluator.proofs.+eval_call+eval_choice+eval_kind+eval_node+eval_not+eval_rule+eval_sequence+eval_star.Lts-eval_star as eval-star-lts
-use Rattle.image.proofs.is_plain_range.Reads as is-plain-range-reads
+use Rattle.evaluator.proofs.+eval_call+eval_choice+eval_node+eval_not+eval_rule+eval_sequence+eval_star+eval_word.Lts-eval_star as eval-star-lts
+use Rattle.image.proofs.first_byte.Reads as first-byte-reads
 use Rattle.image.proofs.node_of.Reads as node-of-reads
 use Rattle.answers.proofs.answer.Reads as answer-reads
 use Rattle.answers.proofs.first_failed.Reads as first-failed-reads
@@ -62,9 +61,11 @@ use Rattle.answers.proofs.taken_over.Reads as taken-over-reads
 use Rattle.loaded.proofs.rules_in.Reads as rules-in-reads
 use Rattle.memo.proofs.look.Reads as look-reads
 use Rattle.memo.proofs.put.Reads as put-reads
-use Rattle.terminals.proofs.any_byte.Reads as any-byte-reads
+use Rattle.terminals.proofs.characters.any_character.Reads as any-character-reads
+use Rattle.terminals.proofs.characters.is_ascii.Reads as is-ascii-reads
+use Rattle.terminals.proofs.CharacterWords.{ascii-word}
 use Rattle.terminals.proofs.byte_between.Reads as byte-between-reads
-use Rattle.terminals.proofs.byte_folded.Reads as byte-folded-reads
+use Rattle.terminals.proofs.byte_range.Reads as byte-range-reads
 use Rattle.terminals.proofs.end_of.Reads as end-of-reads
 use Rattle.records.proofs.Record.from_word.Reads as from-word-reads
 use Rattle.records.proofs.Record.word.Reads as word-reads
@@ -74,10 +75,10 @@ use Rattle.records.proofs.length_of.Reads as length-of-reads
 use Rattle.records.proofs.matched_of.Reads as matched-of-reads
 use Rattle.records.proofs.nesting_of.Reads as nesting-of-reads
 use Rattle.std.proofs.num.wrapping_add_u64.Reads as wrapping-add-u64-reads
-use Rattle.evaluator.proofs.+eval_call+eval_choice+eval_kind+eval_node+eval_not+eval_rule+eval_sequence+eval_star.{
+use Rattle.evaluator.proofs.+eval_call+eval_choice+eval_node+eval_not+eval_rule+eval_sequence+eval_star+eval_word.{
   statement,
 }
-use Rattle.evaluator.proofs.+eval_call+eval_choice+eval_kind+eval_node+eval_not+eval_rule+eval_sequence+eval_star.Tie.{
+use Rattle.evaluator.proofs.+eval_call+eval_choice+eval_node+eval_not+eval_rule+eval_sequence+eval_star+eval_word.Tie.{
   close,
 }
 
@@ -89,8 +90,8 @@ abbrev μ-eval-choice : Measures 5 eval-choice-kinds.ps ℕ
 μ-eval-choice κs a =
     4 * (a .1 .1 .1 .1 .1 .1 .1 .0) + 3
 
-abbrev μ-eval-kind : Measures 5 eval-kind-kinds.ps ℕ
-μ-eval-kind κs a =
+abbrev μ-eval-word : Measures 5 eval-word-kinds.ps ℕ
+μ-eval-word κs a =
     4 * (a .1 .1 .1 .1 .1 .1 .0) + 0
 
 abbrev μ-eval-node : Measures 5 eval-node-kinds.ps ℕ
@@ -128,12 +129,12 @@ abbrev eval-choice-below : ℕ → In 5 eval-choice-kinds.ps
 eval-choice-below t =
     and 5 eval-choice-kinds.ps (falls 5 eval-choice-kinds.ps _<_ μ-eval-choice t) eval-choice.Pre
 
-abbrev eval-kind-at : ℕ → In 5 eval-kind-kinds.ps
-eval-kind-at t = and 5 eval-kind-kinds.ps (is 5 eval-kind-kinds.ps μ-eval-kind t) eval-kind.Pre
+abbrev eval-word-at : ℕ → In 5 eval-word-kinds.ps
+eval-word-at t = and 5 eval-word-kinds.ps (is 5 eval-word-kinds.ps μ-eval-word t) eval-word.Pre
 
-abbrev eval-kind-below : ℕ → In 5 eval-kind-kinds.ps
-eval-kind-below t =
-    and 5 eval-kind-kinds.ps (falls 5 eval-kind-kinds.ps _<_ μ-eval-kind t) eval-kind.Pre
+abbrev eval-word-below : ℕ → In 5 eval-word-kinds.ps
+eval-word-below t =
+    and 5 eval-word-kinds.ps (falls 5 eval-word-kinds.ps _<_ μ-eval-word t) eval-word.Pre
 
 abbrev eval-node-at : ℕ → In 5 eval-node-kinds.ps
 eval-node-at t = and 5 eval-node-kinds.ps (is 5 eval-node-kinds.ps μ-eval-node t) eval-node.Pre
@@ -187,14 +188,14 @@ eval-choice-claims t = (eval-node-below t, eval-node.Post, matched-of-reads.Aske
 abbrev eval-choice-place : (eval-choice-lts.Claims → In 5 eval-choice-kinds.ps → Out 5 eval-choice-kinds.ps eval-choice-kinds.r → Type 0) → ℕ → Type 0
 eval-choice-place place t = place (eval-choice-claims t) (eval-choice-at t) eval-choice.Post
 
-abbrev eval-kind-claims : ℕ → eval-kind-lts.Claims
-eval-kind-claims t = (node-of-reads.Asked, node-of-reads.Learnt, any-byte-reads.Asked, any-byte-reads.Learnt, byte-folded-reads.Asked, byte-folded-reads.Learnt, eval-sequence-below t, eval-sequence.Post, eval-choice-below t, eval-choice.Post, eval-star-below t, eval-star.Post, eval-not-below t, eval-not.Post, eval-call-below t, eval-call.Post)
+abbrev eval-word-claims : ℕ → eval-word-lts.Claims
+eval-word-claims t = (node-of-reads.Asked, node-of-reads.Learnt, any-character-reads.Asked, any-character-reads.Learnt, byte-range-reads.Asked, byte-range-reads.Learnt, eval-sequence-below t, eval-sequence.Post, eval-choice-below t, eval-choice.Post, eval-star-below t, eval-star.Post, eval-not-below t, eval-not.Post, eval-call-below t, eval-call.Post)
 
-abbrev eval-kind-place : (eval-kind-lts.Claims → In 5 eval-kind-kinds.ps → Out 5 eval-kind-kinds.ps eval-kind-kinds.r → Type 0) → ℕ → Type 0
-eval-kind-place place t = place (eval-kind-claims t) (eval-kind-at t) eval-kind.Post
+abbrev eval-word-place : (eval-word-lts.Claims → In 5 eval-word-kinds.ps → Out 5 eval-word-kinds.ps eval-word-kinds.r → Type 0) → ℕ → Type 0
+eval-word-place place t = place (eval-word-claims t) (eval-word-at t) eval-word.Post
 
 abbrev eval-node-claims : ℕ → eval-node-lts.Claims
-eval-node-claims t = (node-of-reads.Asked, node-of-reads.Learnt, is-plain-range-reads.Asked, is-plain-range-reads.Learnt, byte-between-reads.Asked, byte-between-reads.Learnt, eval-kind-below t, eval-kind.Post)
+eval-node-claims t = (first-byte-reads.Asked, first-byte-reads.Learnt, node-of-reads.Asked, node-of-reads.Learnt, byte-between-reads.Asked, byte-between-reads.Learnt, is-ascii-reads.Asked, is-ascii-reads.Learnt, eval-word-below t, eval-word.Post)
 
 abbrev eval-node-place : (eval-node-lts.Claims → In 5 eval-node-kinds.ps → Out 5 eval-node-kinds.ps eval-node-kinds.r → Type 0) → ℕ → Type 0
 eval-node-place place t = place (eval-node-claims t) (eval-node-at t) eval-node.Post
@@ -346,176 +347,176 @@ eval-choice-returns-4 t c =
     let pre = start .pre in
     choice-second (a .text .now .now) (nodeW (a .words .now) (a .text .now .now) (a .left)) (pairM (rulesIn (a .words .now)) (a .b) (a .text .now .now) (nodeW (a .words .now) (a .text .now .now) (a .left)) (a .left)) (a .table .now) (a .count .now) (pre .1 .0 .short) (pre .1 .0 .most) (a .a) (a .b) (after-eval-node .eval-node .ensures) (else1 .if1 .left) (sym (after-matched-of .matched-of .ensures) ∙ else2 .if2 .left) (after-eval-node2 .eval-node2 .ensures) (else3 .if3 .left) (c .second-choice .ensures)
 
-eval-kind-node-of-requires : (t : ℕ) → eval-kind-lts.Need-node-of-requires (eval-kind-claims t) (eval-kind-at t) eval-kind.Post
-eval-kind-node-of-requires t c κs = search needs
+eval-word-node-of-requires : (t : ℕ) → eval-word-lts.Need-node-of-requires (eval-word-claims t) (eval-word-at t) eval-word.Post
+eval-word-node-of-requires t c κs = search needs
 
-eval-kind-any-byte-requires : (t : ℕ) → eval-kind-lts.Need-any-byte-requires (eval-kind-claims t) (eval-kind-at t) eval-kind.Post
-eval-kind-any-byte-requires t c κs = search needs
+eval-word-any-character-requires : (t : ℕ) → eval-word-lts.Need-any-character-requires (eval-word-claims t) (eval-word-at t) eval-word.Post
+eval-word-any-character-requires t c κs = search needs
 
-eval-kind-byte-folded-requires : (t : ℕ) → eval-kind-lts.Need-byte-folded-requires (eval-kind-claims t) (eval-kind-at t) eval-kind.Post
-eval-kind-byte-folded-requires t c κs = search needs
+eval-word-byte-range-requires : (t : ℕ) → eval-word-lts.Need-byte-range-requires (eval-word-claims t) (eval-word-at t) eval-word.Post
+eval-word-byte-range-requires t c κs = search needs
 
-eval-kind-sub-eval-sequence : (t : ℕ) → eval-kind-lts.Need-sub-eval-sequence (eval-kind-claims t) (eval-kind-at t) eval-kind.Post
-eval-kind-sub-eval-sequence t c =
-    let start : eval-kind-place eval-kind-lts.Start t = search in
+eval-word-sub-eval-sequence : (t : ℕ) → eval-word-lts.Need-sub-eval-sequence (eval-word-claims t) (eval-word-at t) eval-word.Post
+eval-word-sub-eval-sequence t c =
+    let start : eval-word-place eval-word-lts.Start t = search in
     omega (arith, start .pre .1 .1)
 
-eval-kind-eval-sequence-requires : (t : ℕ) → eval-kind-lts.Need-eval-sequence-requires (eval-kind-claims t) (eval-kind-at t) eval-kind.Post
-eval-kind-eval-sequence-requires t c κs =
-    let after-node-of : eval-kind-place eval-kind-lts.After-node-of t = search in
-    let start : eval-kind-place eval-kind-lts.Start t = search in
+eval-word-eval-sequence-requires : (t : ℕ) → eval-word-lts.Need-eval-sequence-requires (eval-word-claims t) (eval-word-at t) eval-word.Post
+eval-word-eval-sequence-requires t c κs =
+    let after-node-of : eval-word-place eval-word-lts.After-node-of t = search in
+    let start : eval-word-place eval-word-lts.Start t = search in
     let pre = start .pre in
     (omega (arith, pre .0, pre .1 .1), (record { short = pre .1 .0 .short; here = pre .1 .0 .here; most = omega (arith, pre .1 .0 .most, pre .1 .1) }, omega (arith, after-node-of .node-of .ensures .its-a), omega (arith, after-node-of .node-of .ensures .its-b)))
 
-eval-kind-sub-eval-choice : (t : ℕ) → eval-kind-lts.Need-sub-eval-choice (eval-kind-claims t) (eval-kind-at t) eval-kind.Post
-eval-kind-sub-eval-choice t c =
-    let start : eval-kind-place eval-kind-lts.Start t = search in
+eval-word-sub-eval-choice : (t : ℕ) → eval-word-lts.Need-sub-eval-choice (eval-word-claims t) (eval-word-at t) eval-word.Post
+eval-word-sub-eval-choice t c =
+    let start : eval-word-place eval-word-lts.Start t = search in
     omega (arith, start .pre .1 .1)
 
-eval-kind-eval-choice-requires : (t : ℕ) → eval-kind-lts.Need-eval-choice-requires (eval-kind-claims t) (eval-kind-at t) eval-kind.Post
-eval-kind-eval-choice-requires t c κs =
-    let after-node-of : eval-kind-place eval-kind-lts.After-node-of t = search in
-    let start : eval-kind-place eval-kind-lts.Start t = search in
+eval-word-eval-choice-requires : (t : ℕ) → eval-word-lts.Need-eval-choice-requires (eval-word-claims t) (eval-word-at t) eval-word.Post
+eval-word-eval-choice-requires t c κs =
+    let after-node-of : eval-word-place eval-word-lts.After-node-of t = search in
+    let start : eval-word-place eval-word-lts.Start t = search in
     let pre = start .pre in
     (omega (arith, pre .0, pre .1 .1), (record { short = pre .1 .0 .short; here = pre .1 .0 .here; most = omega (arith, pre .1 .0 .most, pre .1 .1) }, omega (arith, after-node-of .node-of .ensures .its-a), omega (arith, after-node-of .node-of .ensures .its-b)))
 
-eval-kind-sub-eval-star : (t : ℕ) → eval-kind-lts.Need-sub-eval-star (eval-kind-claims t) (eval-kind-at t) eval-kind.Post
-eval-kind-sub-eval-star t c =
-    let start : eval-kind-place eval-kind-lts.Start t = search in
+eval-word-sub-eval-star : (t : ℕ) → eval-word-lts.Need-sub-eval-star (eval-word-claims t) (eval-word-at t) eval-word.Post
+eval-word-sub-eval-star t c =
+    let start : eval-word-place eval-word-lts.Start t = search in
     omega (arith, start .pre .1 .1)
 
-eval-kind-eval-star-requires : (t : ℕ) → eval-kind-lts.Need-eval-star-requires (eval-kind-claims t) (eval-kind-at t) eval-kind.Post
-eval-kind-eval-star-requires t c κs =
-    let after-node-of : eval-kind-place eval-kind-lts.After-node-of t = search in
-    let start : eval-kind-place eval-kind-lts.Start t = search in
+eval-word-eval-star-requires : (t : ℕ) → eval-word-lts.Need-eval-star-requires (eval-word-claims t) (eval-word-at t) eval-word.Post
+eval-word-eval-star-requires t c κs =
+    let after-node-of : eval-word-place eval-word-lts.After-node-of t = search in
+    let start : eval-word-place eval-word-lts.Start t = search in
     let pre = start .pre in
     (omega (arith, pre .0, pre .1 .1), (record { short = pre .1 .0 .short; here = pre .1 .0 .here; most = omega (arith, pre .1 .0 .most, pre .1 .1) }, omega (arith, after-node-of .node-of .ensures .its-a)))
 
-eval-kind-sub-eval-not : (t : ℕ) → eval-kind-lts.Need-sub-eval-not (eval-kind-claims t) (eval-kind-at t) eval-kind.Post
-eval-kind-sub-eval-not t c =
-    let start : eval-kind-place eval-kind-lts.Start t = search in
+eval-word-sub-eval-not : (t : ℕ) → eval-word-lts.Need-sub-eval-not (eval-word-claims t) (eval-word-at t) eval-word.Post
+eval-word-sub-eval-not t c =
+    let start : eval-word-place eval-word-lts.Start t = search in
     omega (arith, start .pre .1 .1)
 
-eval-kind-eval-not-requires : (t : ℕ) → eval-kind-lts.Need-eval-not-requires (eval-kind-claims t) (eval-kind-at t) eval-kind.Post
-eval-kind-eval-not-requires t c κs =
-    let after-node-of : eval-kind-place eval-kind-lts.After-node-of t = search in
-    let start : eval-kind-place eval-kind-lts.Start t = search in
+eval-word-eval-not-requires : (t : ℕ) → eval-word-lts.Need-eval-not-requires (eval-word-claims t) (eval-word-at t) eval-word.Post
+eval-word-eval-not-requires t c κs =
+    let after-node-of : eval-word-place eval-word-lts.After-node-of t = search in
+    let start : eval-word-place eval-word-lts.Start t = search in
     let pre = start .pre in
     (omega (arith, pre .0, pre .1 .1), (record { short = pre .1 .0 .short; here = pre .1 .0 .here; most = omega (arith, pre .1 .0 .most, pre .1 .1) }, omega (arith, after-node-of .node-of .ensures .its-a)))
 
-eval-kind-sub-eval-call : (t : ℕ) → eval-kind-lts.Need-sub-eval-call (eval-kind-claims t) (eval-kind-at t) eval-kind.Post
-eval-kind-sub-eval-call t c =
-    let start : eval-kind-place eval-kind-lts.Start t = search in
+eval-word-sub-eval-call : (t : ℕ) → eval-word-lts.Need-sub-eval-call (eval-word-claims t) (eval-word-at t) eval-word.Post
+eval-word-sub-eval-call t c =
+    let start : eval-word-place eval-word-lts.Start t = search in
     omega (arith, start .pre .1 .1)
 
-eval-kind-eval-call-requires : (t : ℕ) → eval-kind-lts.Need-eval-call-requires (eval-kind-claims t) (eval-kind-at t) eval-kind.Post
-eval-kind-eval-call-requires t c κs =
-    let after-node-of : eval-kind-place eval-kind-lts.After-node-of t = search in
-    let start : eval-kind-place eval-kind-lts.Start t = search in
+eval-word-eval-call-requires : (t : ℕ) → eval-word-lts.Need-eval-call-requires (eval-word-claims t) (eval-word-at t) eval-word.Post
+eval-word-eval-call-requires t c κs =
+    let after-node-of : eval-word-place eval-word-lts.After-node-of t = search in
+    let start : eval-word-place eval-word-lts.Start t = search in
     let pre = start .pre in
     (omega (arith, pre .0, pre .1 .1), (record { short = pre .1 .0 .short; here = pre .1 .0 .here; most = omega (arith, pre .1 .0 .most, pre .1 .1) }, omega (arith, after-node-of .node-of .ensures .its-a), omega (arith, after-node-of .node-of .ensures .its-b)))
 
-eval-kind-returns : (t : ℕ) → eval-kind-lts.Need-returns (eval-kind-claims t) (eval-kind-at t) eval-kind.Post
+eval-word-returns : (t : ℕ) → eval-word-lts.Need-returns (eval-word-claims t) (eval-word-at t) eval-word.Post
 unfolding kindM wordOf
-eval-kind-returns t c =
-    let after-node-of : eval-kind-place eval-kind-lts.After-node-of t = search in
-    let start : eval-kind-place eval-kind-lts.Start t = search in
+eval-word-returns t c =
+    let after-node-of : eval-word-place eval-word-lts.After-node-of t = search in
+    let start : eval-word-place eval-word-lts.Start t = search in
     let a = start .args in
     let pre = start .pre in
     word-goes (a .words .now) (a .text .now .now) (a .left) (a .word) (a .at) (a .table .now) (a .count .now) (λ z. let l = pre .1 .1 in omega arith) (word-is (a .word) (after-node-of .node-of .ensures) (is-empty _ (omega arith))) (gives-value emptyHere refl refl (empty-within (pre .1 .0 .here)) (omega arith))
 
-eval-kind-returns-2 : (t : ℕ) → eval-kind-lts.Need-returns-2 (eval-kind-claims t) (eval-kind-at t) eval-kind.Post
-eval-kind-returns-2 t c =
-    let after-node-of : eval-kind-place eval-kind-lts.After-node-of t = search in
-    let start : eval-kind-place eval-kind-lts.Start t = search in
+eval-word-returns-2 : (t : ℕ) → eval-word-lts.Need-returns-2 (eval-word-claims t) (eval-word-at t) eval-word.Post
+eval-word-returns-2 t c =
+    let after-node-of : eval-word-place eval-word-lts.After-node-of t = search in
+    let start : eval-word-place eval-word-lts.Start t = search in
     let a = start .args in
-    terminal-goes (a .words .now) (a .text .now .now) (a .left) (a .word) (a .at) (a .table .now) (a .count .now) (start .pre .1 .0) (start .pre .1 .1) (word-is (a .word) (after-node-of .node-of .ensures) (is-any _ (omega arith))) (c .any-byte .ensures)
+    terminal-goes (a .words .now) (a .text .now .now) (a .left) (a .word) (a .at) (a .table .now) (a .count .now) (start .pre .1 .0) (start .pre .1 .1) (word-is (a .word) (after-node-of .node-of .ensures) (is-any _ (omega arith))) (c .any-character .ensures)
 
-eval-kind-returns-3 : (t : ℕ) → eval-kind-lts.Need-returns-3 (eval-kind-claims t) (eval-kind-at t) eval-kind.Post
-eval-kind-returns-3 t c =
-    let after-node-of : eval-kind-place eval-kind-lts.After-node-of t = search in
-    let start : eval-kind-place eval-kind-lts.Start t = search in
+eval-word-returns-3 : (t : ℕ) → eval-word-lts.Need-returns-3 (eval-word-claims t) (eval-word-at t) eval-word.Post
+eval-word-returns-3 t c =
+    let after-node-of : eval-word-place eval-word-lts.After-node-of t = search in
+    let start : eval-word-place eval-word-lts.Start t = search in
     let a = start .args in
     let pre = start .pre in
     let f = after-node-of .node-of in
-    terminal-goes (a .words .now) (a .text .now .now) (a .left) (a .word) (a .at) (a .table .now) (a .count .now) (pre .1 .0) (pre .1 .1) (word-is (a .word) (f .ensures) (is-folded-range _ (omega arith) (omega (arith, f .ensures .its-zero, pre .1 .2 (omega (arith, f .ensures .its-kind)))))) (c .byte-folded .ensures)
+    terminal-goes (a .words .now) (a .text .now .now) (a .left) (a .word) (a .at) (a .table .now) (a .count .now) (pre .1 .0) (pre .1 .1) (word-is (a .word) (f .ensures) (is-range _ (omega arith))) (c .byte-range .ensures)
 
-eval-kind-same-length : (t : ℕ) → eval-kind-lts.Need-same-length (eval-kind-claims t) (eval-kind-at t) eval-kind.Post
-eval-kind-same-length t c = search needs
+eval-word-same-length : (t : ℕ) → eval-word-lts.Need-same-length (eval-word-claims t) (eval-word-at t) eval-word.Post
+eval-word-same-length t c = search needs
 
-eval-kind-returns-4 : (t : ℕ) → eval-kind-lts.Need-returns-4 (eval-kind-claims t) (eval-kind-at t) eval-kind.Post
+eval-word-returns-4 : (t : ℕ) → eval-word-lts.Need-returns-4 (eval-word-claims t) (eval-word-at t) eval-word.Post
 unfolding kindM
-eval-kind-returns-4 t c =
-    let after-eval-sequence : eval-kind-place eval-kind-lts.After-eval-sequence t = search in
-    let after-node-of : eval-kind-place eval-kind-lts.After-node-of t = search in
-    let start : eval-kind-place eval-kind-lts.Start t = search in
+eval-word-returns-4 t c =
+    let after-eval-sequence : eval-word-place eval-word-lts.After-eval-sequence t = search in
+    let after-node-of : eval-word-place eval-word-lts.After-node-of t = search in
+    let start : eval-word-place eval-word-lts.Start t = search in
     let a = start .args in
     word-goes (a .words .now) (a .text .now .now) (a .left) (a .word) (a .at) (a .table .now) (a .count .now) (λ z. let l = start .pre .1 .1 in omega arith) (word-is (a .word) (after-node-of .node-of .ensures) (is-sequence _ (omega arith))) (after-eval-sequence .eval-sequence .ensures)
 
-eval-kind-same-length-2 : (t : ℕ) → eval-kind-lts.Need-same-length-2 (eval-kind-claims t) (eval-kind-at t) eval-kind.Post
-eval-kind-same-length-2 t c = search needs
+eval-word-same-length-2 : (t : ℕ) → eval-word-lts.Need-same-length-2 (eval-word-claims t) (eval-word-at t) eval-word.Post
+eval-word-same-length-2 t c = search needs
 
-eval-kind-returns-5 : (t : ℕ) → eval-kind-lts.Need-returns-5 (eval-kind-claims t) (eval-kind-at t) eval-kind.Post
+eval-word-returns-5 : (t : ℕ) → eval-word-lts.Need-returns-5 (eval-word-claims t) (eval-word-at t) eval-word.Post
 unfolding kindM
-eval-kind-returns-5 t c =
-    let after-eval-choice : eval-kind-place eval-kind-lts.After-eval-choice t = search in
-    let after-node-of : eval-kind-place eval-kind-lts.After-node-of t = search in
-    let start : eval-kind-place eval-kind-lts.Start t = search in
+eval-word-returns-5 t c =
+    let after-eval-choice : eval-word-place eval-word-lts.After-eval-choice t = search in
+    let after-node-of : eval-word-place eval-word-lts.After-node-of t = search in
+    let start : eval-word-place eval-word-lts.Start t = search in
     let a = start .args in
     word-goes (a .words .now) (a .text .now .now) (a .left) (a .word) (a .at) (a .table .now) (a .count .now) (λ z. let l = start .pre .1 .1 in omega arith) (word-is (a .word) (after-node-of .node-of .ensures) (is-choice _ (omega arith))) (after-eval-choice .eval-choice .ensures)
 
-eval-kind-same-length-3 : (t : ℕ) → eval-kind-lts.Need-same-length-3 (eval-kind-claims t) (eval-kind-at t) eval-kind.Post
-eval-kind-same-length-3 t c = search needs
+eval-word-same-length-3 : (t : ℕ) → eval-word-lts.Need-same-length-3 (eval-word-claims t) (eval-word-at t) eval-word.Post
+eval-word-same-length-3 t c = search needs
 
-eval-kind-returns-6 : (t : ℕ) → eval-kind-lts.Need-returns-6 (eval-kind-claims t) (eval-kind-at t) eval-kind.Post
+eval-word-returns-6 : (t : ℕ) → eval-word-lts.Need-returns-6 (eval-word-claims t) (eval-word-at t) eval-word.Post
 unfolding kindM
-eval-kind-returns-6 t c =
-    let after-eval-star : eval-kind-place eval-kind-lts.After-eval-star t = search in
-    let after-node-of : eval-kind-place eval-kind-lts.After-node-of t = search in
-    let start : eval-kind-place eval-kind-lts.Start t = search in
+eval-word-returns-6 t c =
+    let after-eval-star : eval-word-place eval-word-lts.After-eval-star t = search in
+    let after-node-of : eval-word-place eval-word-lts.After-node-of t = search in
+    let start : eval-word-place eval-word-lts.Start t = search in
     let a = start .args in
     word-goes (a .words .now) (a .text .now .now) (a .left) (a .word) (a .at) (a .table .now) (a .count .now) (λ z. let l = start .pre .1 .1 in omega arith) (word-is (a .word) (after-node-of .node-of .ensures) (is-star _ (omega arith))) (after-eval-star .eval-star .ensures)
 
-eval-kind-same-length-4 : (t : ℕ) → eval-kind-lts.Need-same-length-4 (eval-kind-claims t) (eval-kind-at t) eval-kind.Post
-eval-kind-same-length-4 t c = search needs
+eval-word-same-length-4 : (t : ℕ) → eval-word-lts.Need-same-length-4 (eval-word-claims t) (eval-word-at t) eval-word.Post
+eval-word-same-length-4 t c = search needs
 
-eval-kind-returns-7 : (t : ℕ) → eval-kind-lts.Need-returns-7 (eval-kind-claims t) (eval-kind-at t) eval-kind.Post
+eval-word-returns-7 : (t : ℕ) → eval-word-lts.Need-returns-7 (eval-word-claims t) (eval-word-at t) eval-word.Post
 unfolding kindM
-eval-kind-returns-7 t c =
-    let after-eval-not : eval-kind-place eval-kind-lts.After-eval-not t = search in
-    let after-node-of : eval-kind-place eval-kind-lts.After-node-of t = search in
-    let start : eval-kind-place eval-kind-lts.Start t = search in
+eval-word-returns-7 t c =
+    let after-eval-not : eval-word-place eval-word-lts.After-eval-not t = search in
+    let after-node-of : eval-word-place eval-word-lts.After-node-of t = search in
+    let start : eval-word-place eval-word-lts.Start t = search in
     let a = start .args in
     word-goes (a .words .now) (a .text .now .now) (a .left) (a .word) (a .at) (a .table .now) (a .count .now) (λ z. let l = start .pre .1 .1 in omega arith) (word-is (a .word) (after-node-of .node-of .ensures) (is-not _ (omega arith))) (after-eval-not .eval-not .ensures)
 
-eval-kind-same-length-5 : (t : ℕ) → eval-kind-lts.Need-same-length-5 (eval-kind-claims t) (eval-kind-at t) eval-kind.Post
-eval-kind-same-length-5 t c = search needs
+eval-word-same-length-5 : (t : ℕ) → eval-word-lts.Need-same-length-5 (eval-word-claims t) (eval-word-at t) eval-word.Post
+eval-word-same-length-5 t c = search needs
 
-eval-kind-returns-8 : (t : ℕ) → eval-kind-lts.Need-returns-8 (eval-kind-claims t) (eval-kind-at t) eval-kind.Post
+eval-word-returns-8 : (t : ℕ) → eval-word-lts.Need-returns-8 (eval-word-claims t) (eval-word-at t) eval-word.Post
 unfolding kindM
-eval-kind-returns-8 t c =
-    let after-eval-call : eval-kind-place eval-kind-lts.After-eval-call t = search in
-    let after-node-of : eval-kind-place eval-kind-lts.After-node-of t = search in
-    let start : eval-kind-place eval-kind-lts.Start t = search in
+eval-word-returns-8 t c =
+    let after-eval-call : eval-word-place eval-word-lts.After-eval-call t = search in
+    let after-node-of : eval-word-place eval-word-lts.After-node-of t = search in
+    let start : eval-word-place eval-word-lts.Start t = search in
     let a = start .args in
     call-goes (a .words .now) (a .text .now .now) (a .left) (a .word) (a .at) (a .table .now) (a .count .now) (λ z. let l = start .pre .1 .1 in omega arith) (after-node-of .node-of .ensures .its-b) (word-is (a .word) (after-node-of .node-of .ensures) (is-call _ (omega arith))) (after-eval-call .eval-call .ensures)
 
-eval-kind-returns-9 : (t : ℕ) → eval-kind-lts.Need-returns-9 (eval-kind-claims t) (eval-kind-at t) eval-kind.Post
+eval-word-returns-9 : (t : ℕ) → eval-word-lts.Need-returns-9 (eval-word-claims t) (eval-word-at t) eval-word.Post
 unfolding kindM
-eval-kind-returns-9 t c =
-    let at-match-rest : eval-kind-place eval-kind-lts.At-match-rest t = search in
-    let after-node-of : eval-kind-place eval-kind-lts.After-node-of t = search in
-    let start : eval-kind-place eval-kind-lts.Start t = search in
+eval-word-returns-9 t c =
+    let at-match-rest : eval-word-place eval-word-lts.At-match-rest t = search in
+    let after-node-of : eval-word-place eval-word-lts.After-node-of t = search in
+    let start : eval-word-place eval-word-lts.Start t = search in
     let a = start .args in
     let k = past-7 (after-node-of .node-of .result .kind) (at-match-rest .match .rest .0 .0 .0 .0 .0 .0 .0 .1) (at-match-rest .match .rest .0 .0 .0 .0 .0 .0 .1) (at-match-rest .match .rest .0 .0 .0 .0 .0 .1) (at-match-rest .match .rest .0 .0 .0 .0 .1) (at-match-rest .match .rest .0 .0 .0 .1) (at-match-rest .match .rest .0 .0 .1) (at-match-rest .match .rest .0 .1) (at-match-rest .match .rest .1) in
     word-goes (a .words .now) (a .text .now .now) (a .left) (a .word) (a .at) (a .table .now) (a .count .now) (λ z. let l = start .pre .1 .1 in omega arith) (word-is (a .word) (after-node-of .node-of .ensures) (is-unlawful _ k)) (gives-refusal refl (omega arith))
 
-eval-kind-returns-10 : (t : ℕ) → eval-kind-lts.Need-returns-10 (eval-kind-claims t) (eval-kind-at t) eval-kind.Post
+eval-word-returns-10 : (t : ℕ) → eval-word-lts.Need-returns-10 (eval-word-claims t) (eval-word-at t) eval-word.Post
 unfolding kindM
-eval-kind-returns-10 t c =
-    let at-match-rest : eval-kind-place eval-kind-lts.At-match-rest t = search in
-    let after-node-of : eval-kind-place eval-kind-lts.After-node-of t = search in
-    let start : eval-kind-place eval-kind-lts.Start t = search in
+eval-word-returns-10 t c =
+    let at-match-rest : eval-word-place eval-word-lts.At-match-rest t = search in
+    let after-node-of : eval-word-place eval-word-lts.After-node-of t = search in
+    let start : eval-word-place eval-word-lts.Start t = search in
     let a = start .args in
     let k = past-7 (after-node-of .node-of .result .kind) (at-match-rest .match .rest .0 .0 .0 .0 .0 .0 .0 .1) (at-match-rest .match .rest .0 .0 .0 .0 .0 .0 .1) (at-match-rest .match .rest .0 .0 .0 .0 .0 .1) (at-match-rest .match .rest .0 .0 .0 .0 .1) (at-match-rest .match .rest .0 .0 .0 .1) (at-match-rest .match .rest .0 .0 .1) (at-match-rest .match .rest .0 .1) (at-match-rest .match .rest .1) in
     word-goes (a .words .now) (a .text .now .now) (a .left) (a .word) (a .at) (a .table .now) (a .count .now) (λ z. let l = start .pre .1 .1 in omega arith) (word-is (a .word) (after-node-of .node-of .ensures) (is-unlawful _ k)) (gives-refusal refl (omega arith))
@@ -536,52 +537,61 @@ eval-node-element-copy-out-word t c =
     let start : eval-node-place eval-node-lts.Start t = search in
     omega (arith, start .pre .1 .1)
 
+eval-node-first-byte-requires : (t : ℕ) → eval-node-lts.Need-first-byte-requires (eval-node-claims t) (eval-node-at t) eval-node.Post
+eval-node-first-byte-requires t c κs = search needs
+
 eval-node-node-of-requires : (t : ℕ) → eval-node-lts.Need-node-of-requires (eval-node-claims t) (eval-node-at t) eval-node.Post
 eval-node-node-of-requires t c κs = search needs
-
-eval-node-is-plain-range-requires : (t : ℕ) → eval-node-lts.Need-is-plain-range-requires (eval-node-claims t) (eval-node-at t) eval-node.Post
-eval-node-is-plain-range-requires t c κs = search needs
 
 eval-node-byte-between-requires : (t : ℕ) → eval-node-lts.Need-byte-between-requires (eval-node-claims t) (eval-node-at t) eval-node.Post
 eval-node-byte-between-requires t c κs = search needs
 
 eval-node-returns-2 : (t : ℕ) → eval-node-lts.Need-returns-2 (eval-node-claims t) (eval-node-at t) eval-node.Post
 eval-node-returns-2 t c =
-    let then2 : eval-node-place eval-node-lts.Then2 t = search in
-    let after-is-plain-range : eval-node-place eval-node-lts.After-is-plain-range t = search in
+    let then3 : eval-node-place eval-node-lts.Then3 t = search in
+    let after-first-byte : eval-node-place eval-node-lts.After-first-byte t = search in
     let after-node-of : eval-node-place eval-node-lts.After-node-of t = search in
     let else1 : eval-node-place eval-node-lts.Else1 t = search in
     let start : eval-node-place eval-node-lts.Start t = search in
     let a = start .args in
     let word = getD (a .words .now) (a .node) 0 in
-    let f = after-node-of .node-of in
-    let u = said-plain (f .result .kind) (f .result .zero) (sym (after-is-plain-range .is-plain-range .ensures) ∙ then2 .if2 .taken) in
     let ne = else1 .if1 .left in
     node-goes (a .words .now) (a .text .now .now) (a .left) (a .node) (a .at) (a .table .now) (a .count .now) ne
-    (terminal-goes (a .words .now) (a .text .now .now) (a .left) word (a .at) (a .table .now) (a .count .now) (start .pre .1 .0) (omega (arith, ne)) (word-is word (f .ensures) (is-plain-range _ (u .0) (u .1))) (c .byte-between .ensures))
+    (terminal-goes (a .words .now) (a .text .now .now) (a .left) word (a .at) (a .table .now) (a .count .now) (start .pre .1 .0) (omega (arith, ne)) (first-range word (after-node-of .node-of .ensures) (sym (after-first-byte .first-byte .ensures) ∙ then3 .if3 .taken)) (c .byte-between .ensures))
 
-eval-node-eval-kind-requires : (t : ℕ) → eval-node-lts.Need-eval-kind-requires (eval-node-claims t) (eval-node-at t) eval-node.Post
-eval-node-eval-kind-requires t c κs =
-    let after-is-plain-range : eval-node-place eval-node-lts.After-is-plain-range t = search in
-    let after-node-of : eval-node-place eval-node-lts.After-node-of t = search in
+eval-node-is-ascii-requires : (t : ℕ) → eval-node-lts.Need-is-ascii-requires (eval-node-claims t) (eval-node-at t) eval-node.Post
+eval-node-is-ascii-requires t c κs = search needs
+
+eval-node-returns-3 : (t : ℕ) → eval-node-lts.Need-returns-3 (eval-node-claims t) (eval-node-at t) eval-node.Post
+eval-node-returns-3 t c =
+    let then4 : eval-node-place eval-node-lts.Then4 t = search in
+    let after-first-byte : eval-node-place eval-node-lts.After-first-byte t = search in
+    let else1 : eval-node-place eval-node-lts.Else1 t = search in
+    let start : eval-node-place eval-node-lts.Start t = search in
+    let a = start .args in
+    let word = getD (a .words .now) (a .node) 0 in
+    let ne = else1 .if1 .left in
+    node-goes (a .words .now) (a .text .now .now) (a .left) (a .node) (a .at) (a .table .now) (a .count .now) ne
+    (terminal-goes (a .words .now) (a .text .now .now) (a .left) word (a .at) (a .table .now) (a .count .now) (start .pre .1 .0) (omega (arith, ne)) (first-any word (sym (after-first-byte .first-byte .ensures) ∙ then4 .if4 .taken)) (ascii-word (a .text .now .now) (a .at) (sym (c .before .is-ascii .ensures) ∙ c .if5 .taken)))
+
+eval-node-eval-word-requires : (t : ℕ) → eval-node-lts.Need-eval-word-requires (eval-node-claims t) (eval-node-at t) eval-node.Post
+eval-node-eval-word-requires t c κs =
     let start : eval-node-place eval-node-lts.Start t = search in
     let pre = start .pre in
-    let else2 : eval-node-place eval-node-lts.Else2 t = search in
-    let f = after-node-of .node-of in
     let else1 : eval-node-place eval-node-lts.Else1 t = search in
     let ne = else1 .if1 .left in
-    (omega (arith, pre .0), (pre .1 .0, omega (arith, ne), λ e. said-folded-word (getD (start .args .words .now) (start .args .node) 0) (f .ensures) (sym (after-is-plain-range .is-plain-range .ensures) ∙ else2 .if2 .left) e))
+    (omega (arith, pre .0), (pre .1 .0, omega (arith, ne)))
 
 eval-node-same-length : (t : ℕ) → eval-node-lts.Need-same-length (eval-node-claims t) (eval-node-at t) eval-node.Post
 eval-node-same-length t c = search needs
 
-eval-node-returns-3 : (t : ℕ) → eval-node-lts.Need-returns-3 (eval-node-claims t) (eval-node-at t) eval-node.Post
-eval-node-returns-3 t c =
-    let after-eval-kind : eval-node-place eval-node-lts.After-eval-kind t = search in
+eval-node-returns-4 : (t : ℕ) → eval-node-lts.Need-returns-4 (eval-node-claims t) (eval-node-at t) eval-node.Post
+eval-node-returns-4 t c =
+    let after-eval-word : eval-node-place eval-node-lts.After-eval-word t = search in
     let else1 : eval-node-place eval-node-lts.Else1 t = search in
     let start : eval-node-place eval-node-lts.Start t = search in
     let a = start .args in
-    node-goes (a .words .now) (a .text .now .now) (a .left) (a .node) (a .at) (a .table .now) (a .count .now) (else1 .if1 .left) (after-eval-kind .eval-kind .ensures)
+    node-goes (a .words .now) (a .text .now .now) (a .left) (a .node) (a .at) (a .table .now) (a .count .now) (else1 .if1 .left) (after-eval-word .eval-word .ensures)
 
 eval-not-eval-node-requires : (t : ℕ) → eval-not-lts.Need-eval-node-requires (eval-not-claims t) (eval-not-at t) eval-not.Post
 eval-not-eval-node-requires t c κs =
@@ -1019,18 +1029,18 @@ eval-star-loop-again t c =
     let pre = start .pre in
     (after-eval-node .eval-node .kept .1 .1 .0 ∙ at-loop .loop .inv .0, round-goes (nodeW (a .words .now) (a .text .now .now) (a .left)) (a .a) (pre .1 .0 .short) (pre .1 .0 .most) (at-loop .loop .inv .1) (after-eval-node .eval-node .ensures) (else1 .if1 .left) (sym (after-matched-of .matched-of .ensures) ∙ not-false (after-matched-of .matched-of .result) (else2 .if2 .left)) (rw (after-examined-of .examined-of .ensures .0) at (after-larger .larger .ensures)) (rw (after-nesting-of .nesting-of .ensures .0) at (after-larger2 .larger2 .ensures)) (after-length-of .length-of .ensures .0) (c .if3 .left))
 
-pub +eval-call+eval-choice+eval-kind+eval-node+eval-not+eval-rule+eval-sequence+eval-star-spec :
+pub +eval-call+eval-choice+eval-node+eval-not+eval-rule+eval-sequence+eval-star+eval-word-spec :
     {M : Type 1} → statement M
-+eval-call+eval-choice+eval-kind+eval-node+eval-not+eval-rule+eval-sequence+eval-star-spec =
++eval-call+eval-choice+eval-node+eval-not+eval-rule+eval-sequence+eval-star+eval-word-spec =
     close
     μ-eval-call
     μ-eval-choice
-    μ-eval-kind
     μ-eval-node
     μ-eval-not
     μ-eval-rule
     μ-eval-sequence
     μ-eval-star
+    μ-eval-word
     (λ t. eval-call-lts.spec (eval-call-claims t)
     (eval-call-at t)
     eval-call.Post
@@ -1056,50 +1066,21 @@ pub +eval-call+eval-choice+eval-kind+eval-node+eval-not+eval-rule+eval-sequence+
     (eval-choice-second-choice-requires t)
     (eval-choice-same-length-4 t)
     (eval-choice-returns-4 t))
-    (λ t. eval-kind-lts.spec (eval-kind-claims t)
-    (eval-kind-at t)
-    eval-kind.Post
-    (eval-kind-node-of-requires t)
-    (eval-kind-any-byte-requires t)
-    (eval-kind-byte-folded-requires t)
-    (eval-kind-sub-eval-sequence t)
-    (eval-kind-eval-sequence-requires t)
-    (eval-kind-sub-eval-choice t)
-    (eval-kind-eval-choice-requires t)
-    (eval-kind-sub-eval-star t)
-    (eval-kind-eval-star-requires t)
-    (eval-kind-sub-eval-not t)
-    (eval-kind-eval-not-requires t)
-    (eval-kind-sub-eval-call t)
-    (eval-kind-eval-call-requires t)
-    (eval-kind-returns t)
-    (eval-kind-returns-2 t)
-    (eval-kind-returns-3 t)
-    (eval-kind-same-length t)
-    (eval-kind-returns-4 t)
-    (eval-kind-same-length-2 t)
-    (eval-kind-returns-5 t)
-    (eval-kind-same-length-3 t)
-    (eval-kind-returns-6 t)
-    (eval-kind-same-length-4 t)
-    (eval-kind-returns-7 t)
-    (eval-kind-same-length-5 t)
-    (eval-kind-returns-8 t)
-    (eval-kind-returns-9 t)
-    (eval-kind-returns-10 t))
     (λ t. eval-node-lts.spec (eval-node-claims t)
     (eval-node-at t)
     eval-node.Post
     (eval-node-returns t)
     (eval-node-mul-word t)
     (eval-node-element-copy-out-word t)
+    (eval-node-first-byte-requires t)
     (eval-node-node-of-requires t)
-    (eval-node-is-plain-range-requires t)
     (eval-node-byte-between-requires t)
     (eval-node-returns-2 t)
-    (eval-node-eval-kind-requires t)
+    (eval-node-is-ascii-requires t)
+    (eval-node-returns-3 t)
+    (eval-node-eval-word-requires t)
     (eval-node-same-length t)
-    (eval-node-returns-3 t))
+    (eval-node-returns-4 t))
     (λ t. eval-not-lts.spec (eval-not-claims t)
     (eval-not-at t)
     eval-not.Post
@@ -1151,7 +1132,7 @@ pub +eval-call+eval-choice+eval-kind+eval-node+eval-not+eval-rule+eval-sequence+
     (eval-sequence-in-sequence-requires t)
     (eval-sequence-same-length-4 t)
     (eval-sequence-returns-4 t))
-    λ t. eval-star-lts.spec (eval-star-claims t)
+    (λ t. eval-star-lts.spec (eval-star-claims t)
     (eval-star-at t)
     eval-star.Post
     eval-star-Inv-loop
@@ -1176,4 +1157,35 @@ pub +eval-call+eval-choice+eval-kind+eval-node+eval-not+eval-rule+eval-sequence+
     (eval-star-returns-3 t)
     (eval-star-add-consumed t)
     (eval-star-loop-less t)
-    (eval-star-loop-again t)
+    (eval-star-loop-again t))
+    λ t. eval-word-lts.spec (eval-word-claims t)
+    (eval-word-at t)
+    eval-word.Post
+    (eval-word-node-of-requires t)
+    (eval-word-any-character-requires t)
+    (eval-word-byte-range-requires t)
+    (eval-word-sub-eval-sequence t)
+    (eval-word-eval-sequence-requires t)
+    (eval-word-sub-eval-choice t)
+    (eval-word-eval-choice-requires t)
+    (eval-word-sub-eval-star t)
+    (eval-word-eval-star-requires t)
+    (eval-word-sub-eval-not t)
+    (eval-word-eval-not-requires t)
+    (eval-word-sub-eval-call t)
+    (eval-word-eval-call-requires t)
+    (eval-word-returns t)
+    (eval-word-returns-2 t)
+    (eval-word-returns-3 t)
+    (eval-word-same-length t)
+    (eval-word-returns-4 t)
+    (eval-word-same-length-2 t)
+    (eval-word-returns-5 t)
+    (eval-word-same-length-3 t)
+    (eval-word-returns-6 t)
+    (eval-word-same-length-4 t)
+    (eval-word-returns-7 t)
+    (eval-word-same-length-5 t)
+    (eval-word-returns-8 t)
+    (eval-word-returns-9 t)
+    (eval-word-returns-10 t)
