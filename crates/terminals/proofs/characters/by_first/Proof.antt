@@ -83,7 +83,7 @@ returns-6 c =
     let a = start .args in
     let else1 : tie.Else1 = search in
     let then2 : tie.Then2 = search in
-    has-later (a .first) (a .text .now) (a .at) (from-C2 (a .first) (omega (arith, else1 .if1 .left)) (omega (arith, then2 .if2 .taken))) (c .from-first5 .ensures)
+    has-later (a .first) (a .text .now) (a .at) (from-C2 (a .first) (else1 .if1 .left) (omega (arith, then2 .if2 .taken))) (c .from-first5 .ensures)
 
 returns-7 : tie.Need-returns-7
 returns-7 c =
