@@ -47,6 +47,7 @@ from_on :
     → ascend k lines ≡ true
     → IsOne (begins first later) lines
     → k ≤ first.lowest
+from_on {first = first} {later = later} k [] e x = elim x [ ]
 from_on k (begins first later ∷ lines) e here = leb-true k first.lowest (both _ _ e).0
 from_on k (begins other later ∷ lines) e (further i) =
     let t = both _ _ e in
@@ -63,6 +64,7 @@ pub found :
     → IsOne (begins first later) lines
     → is_in first byte ≡ true
     → later_in lines byte ≡ later
+found {first = first} {later = later} byte k [] e x h = elim x [ ]
 found byte k (begins first later ∷ lines) e here h = ap (λ (b : Bool). cond b later (later_in lines byte)) h
 found {first} byte k (begins other later ∷ lines) e (further i) h =
     let t = both (leb k other.lowest) _ e in

@@ -58,6 +58,7 @@ data Every (P : Line → Type 0) : List Line → Type 0 where
   ◌and◌ : {line : Line} {lines : List Line} → P line → Every P lines → Every P (line ∷ lines)
 
 the_one : (P : Line → Type 0) {line : Line} {lines : List Line} → Every P lines → IsOne line lines → P line
+the_one P {line = line} end x = elim x [ ]
 the_one P (p and every) here = p
 the_one P (p and every) (further i) = the_one P every i
 

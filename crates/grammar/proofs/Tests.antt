@@ -69,7 +69,7 @@ module _ (img : List ℕ) where
         unused_A = λ h. eqb-true a 0 (asked _ _ t4.0 (le-leb k 1 h));
         unused_B = λ h. eqb-true b 0 (asked _ _ t5.0 (le-leb k 1 h));
         unused_B_5_to_7 = λ h. eqb-true b 0 (asked _ _ t6.0 (le-leb 5 k h));
-        byte_range_lem = λ h. let t = both _ _ (asked _ _ t7.0 (eq-eqb k 2 h)) in (leb-true a b t.0, leb-true b 255 t.1);
+        byte_range = λ h. let t = both _ _ (asked _ _ t7.0 (eq-eqb k 2 h)) in (leb-true a b t.0, leb-true b 255 t.1);
         child_A = λ h l. let t = both _ _ (asked _ _ t8.0 (joined (le-leb 3 k h) (le-leb k 6 l))) in (ltb-true n a t.0, ltb-true a (nodes img) t.1);
         child_B = λ h l. let t = both _ _ (asked _ _ t9.0 (joined (le-leb 3 k h) (le-leb k 4 l))) in (ltb-true n b t.0, ltb-true b (nodes img) t.1);
         called = λ h. ltb-true a (rules img) (asked _ _ t9.1 (eq-eqb k 7 h));
@@ -87,7 +87,7 @@ module _ (img : List ℕ) where
       (joined (asks _ _ (λ h. eq-eqb a 0 (q.unused_A (leb-true k 1 h))))
       (joined (asks _ _ (λ h. eq-eqb b 0 (q.unused_B (leb-true k 1 h))))
       (joined (asks _ _ (λ h. eq-eqb b 0 (q.unused_B_5_to_7 (leb-true 5 k h))))
-      (joined (asks _ _ (λ h. let r = q.byte_range_lem (eqb-true k 2 h) in joined (le-leb a b r.0) (le-leb b 255 r.1)))
+      (joined (asks _ _ (λ h. let r = q.byte_range (eqb-true k 2 h) in joined (le-leb a b r.0) (le-leb b 255 r.1)))
       (joined
       (asks _ _ (λ h. let t = both (leb 3 k) (leb k 6) h in let r = q.child_A (leb-true 3 k t.0) (leb-true k 6 t.1) in joined (lt-ltb n a r.0) (lt-ltb a (nodes img) r.1)))
       (joined

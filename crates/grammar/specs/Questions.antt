@@ -50,7 +50,7 @@ pub record LawfulNode (img : List ℕ) (n : ℕ) : Type 0 where
   pub unused_A : kind img n ≤ 1 → field_a img n ≡ 0
   pub unused_B : kind img n ≤ 1 → field_b img n ≡ 0
   pub unused_B_5_to_7 : 5 ≤ kind img n → field_b img n ≡ 0
-  pub byte_range_lem : kind img n ≡ 2 → (field_a img n ≤ field_b img n) × (field_b img n ≤ 255)
+  pub byte_range : kind img n ≡ 2 → (field_a img n ≤ field_b img n) × (field_b img n ≤ 255)
   pub child_A : 3 ≤ kind img n → kind img n ≤ 6 → (n < field_a img n) × (field_a img n < nodes img)
   pub child_B : 3 ≤ kind img n → kind img n ≤ 4 → (n < field_b img n) × (field_b img n < nodes img)
   pub called : kind img n ≡ 7 → field_a img n < rules img

@@ -13,14 +13,14 @@ use Rattle.marked.specs.Images.{D2, M7, M8, M9, M10, brackets, parts, second_edi
 
 pub data Line : Type 0 where
   -- the image check gives this image this number
-  image_number_lem : (img : List ℕ) (number : ℕ) → Line
+  image_number : (img : List ℕ) (number : ℕ) → Line
   -- the plain reading answers this for this text
   plain_reading : (img text : List ℕ) (answer : PlainAnswer) → Line
   -- a session: the text opened in a buffer of cap bytes, the calls, and the reply of each
   session : (img text : List ℕ) (cap : ℕ) (calls : List Call) (answers : List Reply) → Line
 
 abbrev pub Says : Line → Type 0
-Says (image_number_lem img number) = Checked img number
+Says (image_number img number) = Checked img number
 Says (plain_reading img text answer) = PlainRead img text answer
 Says (session img text cap calls answers) = SessionSays img text cap calls answers
 
@@ -33,17 +33,17 @@ Hold (line ∷ lines) = Says line × Hold lines
 -- M10 S = ("(" then S) else empty: 1,364 brackets have nesting 4,095; 1,365 give 14."
 abbrev pub marked : List Line
 marked =
-    image_number_lem D2 0
+    image_number D2 0
     ∷ session D2 text12a 4 calls1 replies1
     ∷ session D2 text12a 4 calls2 replies2
     ∷ session D2 text12a 4 calls3 replies3
     ∷ session D2 text12a 4 calls4 replies4
     ∷ session D2 [] 4 calls5 replies5
     ∷ session D2 text12 4 calls6 replies6
-    ∷ image_number_lem M7 7
-    ∷ image_number_lem M8 7
-    ∷ image_number_lem M9 6
-    ∷ image_number_lem M10 0
+    ∷ image_number M7 7
+    ∷ image_number M8 7
+    ∷ image_number M9 6
+    ∷ image_number M10 0
     ∷ plain_reading M10 (brackets 1364)
     (PlainAnswer.Read (record { outcome = Outcome.Whole; length = 1364; examined = 1365; nesting = 4095 }))
     ∷ plain_reading M10 (brackets 1365) (PlainAnswer.Refused 14)
@@ -53,24 +53,24 @@ marked =
 -- and R-5's.
 abbrev pub witnesses : List Line
 witnesses =
-    image_number_lem [] 1
-    ∷ image_number_lem second_edition 1
-    ∷ image_number_lem start_too_high 2
-    ∷ image_number_lem byte_too_many 3
-    ∷ image_number_lem own_child 4
-    ∷ image_number_lem orphan 5
+    image_number [] 1
+    ∷ image_number second_edition 1
+    ∷ image_number start_too_high 2
+    ∷ image_number byte_too_many 3
+    ∷ image_number own_child 4
+    ∷ image_number orphan 5
     ∷ session D2 text12a 4 calls_over replies_over
     ∷ session D2 text12a 4 calls_refused replies_refused
     ∷ session D2 text12 4 calls_listed replies_listed
-    ∷ image_number_lem parts 0
+    ∷ image_number parts 0
     ∷ session parts text_parts 3 calls_parts replies_parts
     ∷ session M10 (brackets 1365) 1365 calls_deep replies_deep
-    ∷ image_number_lem kilo 0
-    ∷ image_number_lem folded_any 4
-    ∷ image_number_lem second_bit 4
+    ∷ image_number kilo 0
+    ∷ image_number folded_any 4
+    ∷ image_number second_bit 4
     ∷ session kilo text_fold 1 calls_fold replies_fold
-    ∷ image_number_lem dot 0
-    ∷ image_number_lem letters 0
+    ∷ image_number dot 0
+    ∷ image_number letters 0
     ∷ session letters text_letter 3 calls_letter replies_letter
     ∷ []
 

@@ -30,7 +30,7 @@ module _
         go : (i : ℕ) → kind img n ≡ i → f.a < 1024
         go zero e = omega (arith, w.same_a, lawful.unused_A (omega arith))
         go (suc zero) e = omega (arith, w.same_a, lawful.unused_A (omega arith))
-        go (suc (suc zero)) e = omega (arith, w.same_a, (lawful.byte_range_lem e).0, (lawful.byte_range_lem e).1)
+        go (suc (suc zero)) e = omega (arith, w.same_a, (lawful.byte_range e).0, (lawful.byte_range e).1)
         go (suc (suc (suc zero))) e = child (omega arith) (omega arith)
         go (suc (suc (suc (suc zero)))) e = child (omega arith) (omega arith)
         go (suc (suc (suc (suc (suc zero))))) e = child (omega arith) (omega arith)
@@ -47,7 +47,7 @@ module _
         go : (i : ℕ) → kind img n ≡ i → f.b < 1024
         go zero e = own (λ h. omega arith) (omega (arith, lawful.unused_B (omega arith)))
         go (suc zero) e = own (λ h. omega arith) (omega (arith, lawful.unused_B (omega arith)))
-        go (suc (suc zero)) e = own (λ h. omega arith) (omega (arith, (lawful.byte_range_lem e).1))
+        go (suc (suc zero)) e = own (λ h. omega arith) (omega (arith, (lawful.byte_range e).1))
         go (suc (suc (suc zero))) e = own (λ h. omega arith) (b_below img counts words n l (omega arith) (omega arith))
         go (suc (suc (suc (suc zero)))) e = own (λ h. omega arith) (b_below img counts words n l (omega arith) (omega arith))
         go (suc (suc (suc (suc (suc zero))))) e = own (λ h. omega arith) (omega (arith, lawful.unused_B_5_to_7 (omega arith)))

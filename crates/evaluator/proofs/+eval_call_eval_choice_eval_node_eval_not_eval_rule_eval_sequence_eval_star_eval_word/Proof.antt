@@ -435,7 +435,7 @@ eval-word-returns-3 t c =
     let a = start.args in
     let pre = start.pre in
     let f = after-node-of.node_of in
-    terminal_goes a.words.now a.text.now.now a.left a.word a.at a.table.now a.count.now pre.1.0 pre.1.1 (word_is a.word f.ensures (is_range _ (omega arith))) c.byte_range_lem.ensures
+    terminal_goes a.words.now a.text.now.now a.left a.word a.at a.table.now a.count.now pre.1.0 pre.1.1 (word_is a.word f.ensures (is_range _ (omega arith))) c.byte_range.ensures
 
 eval-word-same-length : (t : ℕ) → eval-word-lts.Need-same-length (eval-word-claims t) (eval-word-at t) eval-word.Post
 eval-word-same-length t c = search rules

@@ -41,7 +41,7 @@ returns-2 c =
     told_of c.range-lawful.ensures (λ p. let else1 : tie.Else1 = search in
     let z = (zeros else1).all_but_fold (omega arith) in
     search rules)
-    (λ h. record { rising = omega (arith, h.byte_range_lem (omega arith)); a_byte = omega (arith, h.byte_range_lem (omega arith)) })
+    (λ h. record { rising = omega (arith, h.byte_range (omega arith)); a_byte = omega (arith, h.byte_range (omega arith)) })
 
 returns-3 : tie.Need-returns-3
 returns-3 c =

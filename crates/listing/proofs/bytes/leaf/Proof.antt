@@ -25,7 +25,7 @@ returns c =
     record {
       of_empty = λ e. absurd (omega arith);
       of_any = λ e. absurd (omega arith);
-      of_range = λ e. c.told.ensures ∙ ap (λ (w : ℕ). told_length (value_of w)) c.before.byte_range_lem.ensures ∙ ap told_length (says_terminal (range_by a.zero a.from a.to) a.text.now.now a.at);
+      of_range = λ e. c.told.ensures ∙ ap (λ (w : ℕ). told_length (value_of w)) c.before.byte_range.ensures ∙ ap told_length (says_terminal (range_by a.zero a.from a.to) a.text.now.now a.at);
     }
 
 is-ascii-requires : tie.Need-is-ascii-requires

@@ -1,0 +1,20 @@
+use Prim.Native.Nat.{◌≤◌, ◌-◌}
+use native.Mathlib.Omega.{arith}
+use mathlib.Core.Path.{refl}
+use lib.ListN.{length}
+use borrow.Author.Rules.{rules}
+use Rattle.buffers.proofs.Fill.{none, up, fit}
+use Rattle.buffers.specs.Filled.{Filled, at}
+use Rattle.buffers.proofs.bytes.copy.Goals as goal
+
+-- `bytes::copy` meets its contract: up to i the bytes are the text's. Assumes nothing.
+pub loop-i-init : goal.loop-i-init
+loop-i-init c = (omega arith, none 0)
+
+pub loop-i-preserved : goal.loop-i-preserved
+loop-i-preserved c =
+    let m = c.loop-i.invariant.1.long in
+    (omega arith, up c.loop-i.invariant.1 (omega arith) (omega arith) refl)
+
+pub returns : goal.returns
+returns c = fit c.loop-i.invariant.1 refl (omega arith) (λ j h k. refl)

@@ -1,0 +1,8 @@
+use Rattle.records.specs.Words.{length_of}
+use native.Mathlib.Omega.{arith}
+use borrow.Author.Rules.{rules}
+use Rattle.records.proofs.length_of.Goals as goal
+
+pub returns : goal.returns
+unfolding length_of
+returns c = omega arith
