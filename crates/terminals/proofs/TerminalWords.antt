@@ -2,7 +2,7 @@
 use Prim.Native.Nat.{ℕ, ◌≤◌, ◌<◌}
 use native.Mathlib.Omega.{arith}
 use mathlib.Core.Path.{◌≡◌, sym, ap, ◌∙◌}
-use mathlib.Core.Bool.{Bool, true, false, ◌&&◌, ◌||◌, cond, and_false}
+use mathlib.Core.Bool.{Bool, true, false, ◌&&◌, ◌||◌, cond, and-false}
 use mathlib.Core.List.{List, []}
 use lib.ListN.{length}
 use lib.Dec.{ltb}
@@ -28,7 +28,7 @@ module _ (t : Terminal) (text : List ℕ) (p : ℕ) where
 
   pub failure_word : accepts t (byte_at text p) ≡ false → 0x8000_0002_0001_0000 ≡ word_of (terminal_at t text p)
   unfolding word_of
-  failure_word a = sym (ap word_of (by_first_test (ap (λ (b : Bool). ltb p (length text) && b) a ∙ and_false (ltb p (length text)))))
+  failure_word a = sym (ap word_of (by_first_test (ap (λ (b : Bool). ltb p (length text) && b) a ∙ and-false (ltb p (length text)))))
 
   pub end_word : length text ≤ p → 0x8000_0002_0001_0000 ≡ word_of (terminal_at t text p)
   unfolding word_of
