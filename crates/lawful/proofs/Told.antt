@@ -1,6 +1,6 @@
 -- Making and using what a function that answers a bool promises. Assumes nothing.
 use mathlib.Core.Path.{◌≡◌, sym}
-use mathlib.Core.Bool.{Bool, true, false, not, true≢false}
+use mathlib.Core.Bool.{Bool, true, false, true≢false}
 use lib.Dec.{T}
 use Rattle.lawful.specs.Tells.{Tells}
 
@@ -13,19 +13,19 @@ module _ {P : Type 0} where
 
 -- After `if !f(..)`: where the branch is taken f said no, where it is not f said yes.
 module _ {b : Bool} {P : Type 0} (t : Tells b P) where
-  pub said_no : not b ≡ true → P → ⊥
+  pub said_no : b ≡ false → P → ⊥
   said_no e p = go b e (t.no p)
     where
-      go : (b : Bool) → not b ≡ true → T b → ⊥
-      go true e u = true≢false (sym e)
+      go : (b : Bool) → b ≡ false → T b → ⊥
+      go true e u = true≢false e
       go false e u = u
 
-  pub said_yes : not b ≡ false → P
+  pub said_yes : b ≡ true → P
   said_yes e = t.yes (go b e)
     where
-      go : (b : Bool) → not b ≡ false → T b
+      go : (b : Bool) → b ≡ true → T b
       go true e = tt
-      go false e = absurd (true≢false e)
+      go false e = absurd (true≢false (sym e))
 
 -- What is told of P is told of what says the same.
 pub told_of : {b : Bool} {P Q : Type 0} → Tells b P → (P → Q) → (Q → P) → Tells b Q

@@ -1,0 +1,14 @@
+use Rattle.grammar.specs.Image.{nodes}
+use mathlib.Core.Path.{◌≡◌}
+use Rattle.lawful.proofs.Tallies.{tallied_none, tallied_more, children_step}
+use Rattle.grammar.specs.Questions.{children_below}
+use Rattle.lawful.specs.Tally.{Tallied}
+use native.Mathlib.Omega.{arith}
+use Prim.Native.Nat.{◌≤◌, ◌-◌}
+use Rattle.lawful.proofs.once.tally_children.Given as goal
+
+abbrev pub invariant-loop-n : goal.invariant-loop-n
+invariant-loop-n l = (l.n ≤ l.n-end) × Tallied l.initial.counts l.counts (children_below l.image l.n)
+
+abbrev pub decreases-loop-n : goal.decreases-loop-n
+decreases-loop-n l = l.n-end - l.n
