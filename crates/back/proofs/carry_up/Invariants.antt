@@ -1,0 +1,13 @@
+use Prim.Native.Nat.{ℕ, ◌≤◌, ◌-◌, ◌+◌}
+use native.Mathlib.Omega.{arith}
+use mathlib.Core.Path.{◌≡◌, sym, subst}
+use Rattle.buffers.specs.Filled.{at}
+use Rattle.back.proofs.Turns.{Left, none_left, carried_up, all_carried}
+use Rattle.editing.proofs.Held.{held_most}
+use Rattle.back.proofs.carry_up.Given as goal
+
+abbrev pub invariant-loop-i : goal.invariant-loop-i
+invariant-loop-i l = (l.i ≤ l.count) × Left l.initial.part l.part l.from l.to l.count l.i l.c
+
+abbrev pub decreases-loop-i : goal.decreases-loop-i
+decreases-loop-i l = l.i

@@ -1,0 +1,83 @@
+use Prim.Native.Nat.{ℕ, ◌≤◌, ◌-◌, ◌+◌, ◌*◌}
+use native.Mathlib.Omega.{arith}
+use mathlib.Core.Path.{◌≡◌, refl, ap}
+use Rattle.buffers.proofs.Parts.{mid_long}
+use Rattle.buffers.proofs.Fill.{empty}
+use Rattle.front.specs.Front.{KeptRows}
+use Rattle.records.proofs.Slots.{rows_room}
+use Rattle.front.proofs.Rows.{part_done, counts_fit}
+use Rattle.front.proofs.Turns.{counted_all}
+use Rattle.front.proofs.keep_groups.Goals as goal
+
+-- `keep_groups` meets its contract: the first i rows are done. Assumes nothing.
+pub loop-i-init : goal.loop-i-init
+loop-i-init c = (omega arith, counted_all (record { filled = empty refl; counted = refl }) (omega arith))
+
+pub overflow_mul-from : goal.overflow_mul-from
+overflow_mul-from c =
+    omega (arith, rows_room c.args.rules c.loop-i.i c.at_most-next.result c.args.rows (omega arith))
+
+pub overflow_mul-to : goal.overflow_mul-to
+overflow_mul-to c =
+    omega (arith, rows_room c.args.rules c.loop-i.i c.at_most-next.result c.args.rows (omega arith))
+
+pub overflow_add-to : goal.overflow_add-to
+overflow_add-to c =
+    omega (arith, rows_room c.args.rules c.loop-i.i c.at_most-next.result c.args.rows (omega arith))
+
+pub offset_bounds-part-from : goal.offset_bounds-part-from
+offset_bounds-part-from c =
+    omega (arith, rows_room c.args.rules c.loop-i.i c.at_most-next.result c.args.rows (omega arith))
+
+pub slice_bounds-keep_group-end : goal.slice_bounds-keep_group-end
+slice_bounds-keep_group-end c =
+    omega (arith, c.loop-i.invariant.1.filled.long, rows_room c.args.rules c.loop-i.i c.at_most-next.result c.args.rows (omega arith))
+
+pub keep_group-c-requires : goal.keep_group-c-requires
+keep_group-c-requires c =
+    let room = rows_room c.args.rules c.loop-i.i c.at_most-next.result c.args.rows (omega arith) in
+    let long = c.loop-i.invariant.1.filled.long in
+    let w =
+    mid_long
+    (c.loop-i.i * c.args.rules)
+    (c.loop-i.i * c.args.rules + c.at_most-next.result * c.args.rules - c.loop-i.i * c.args.rules)
+    c.loop-i.part
+    (omega arith) in
+    (omega arith, omega arith, omega arith, omega arith)
+
+pub overflow_add-c : goal.overflow_add-c
+overflow_add-c c =
+    let room = rows_room c.args.rules c.loop-i.i c.at_most-next.result c.args.rows (omega arith) in
+    let few = counts_fit c.loop-i.invariant.1 c.keep_group-c.ensures in
+    omega arith
+
+pub loop-i-smaller : goal.loop-i-smaller
+loop-i-smaller c = omega arith
+
+pub loop-i-preserved : goal.loop-i-preserved
+loop-i-preserved c =
+    let room = rows_room c.args.rules c.loop-i.i c.at_most-next.result c.args.rows (omega arith) in (
+      omega arith,
+      part_done
+          c.args.rules
+          c.args.s
+          c.args.q
+          (c.args.q + c.loop-i.i)
+          c.loop-i.i
+          c.at_most-next.result
+          (c.loop-i.i * c.args.rules + c.at_most-next.result * c.args.rules - c.loop-i.i * c.args.rules)
+          (omega arith)
+          refl
+          (omega arith)
+          (omega arith)
+          c.loop-i.invariant.1
+          c.keep_group-c.ensures,
+    )
+
+pub shape_of-part : goal.shape_of-part
+shape_of-part c = c.loop-i.invariant.1.filled.long
+
+pub returns : goal.returns
+returns c =
+    let end : c.loop-i.i ≡ c.args.rows = omega arith in
+    counted_all c.loop-i.invariant.1 (ap (λ (x : ℕ). x * c.args.rules) end)

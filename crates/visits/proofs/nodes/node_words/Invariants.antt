@@ -1,0 +1,13 @@
+use Rattle.image.specs.Linked.{linked_from, linked_word}
+use Rattle.grammar.proofs.Writes.{next_written}
+use native.Mathlib.Omega.{arith}
+use lib.ListN.{length, get_or, length-set}
+use mathlib.Core.Path.{◌≡◌, ap, ◌∙◌}
+use Prim.Native.Nat.{ℕ, ◌≤◌, ◌<◌, ◌-◌}
+use Rattle.visits.proofs.nodes.node_words.Given as goal
+
+abbrev pub invariant-loop-n : goal.invariant-loop-n
+invariant-loop-n l = (l.n ≤ l.count) × (length l.words ≡ 1024) × ((k : ℕ) → k < l.n → get_or l.words k 0 ≡ linked_word l.image k)
+
+abbrev pub decreases-loop-n : goal.decreases-loop-n
+decreases-loop-n l = l.count - l.n
