@@ -3,21 +3,11 @@ use Rattle.text.proofs.TextLaw.{edit_is}
 use Rattle.editing.proofs.Lengths.{new_is}
 use Rattle.text.proofs.edit_text.Goals as goal
 
-pub returns : goal.returns
-returns c =
-    let at = c.args in (
-      sym (new_is at.n at.s at.e _ c.requires.ordered c.requires.within),
-      edit_is
-          at.text.now
-          at.replacement.now
-          at.n
-          at.s
-          at.e
-          c.requires
-          _
-          _
-          _
-          c.shift.ensures
-          c.copy.ensures
-          c.clear.ensures,
-    )
+pub returns-clause-value : goal.returns-clause-value
+returns-clause-value c =
+    sym (new_is c.args.n c.args.s c.args.e _ c.requires.ordered c.requires.within)
+
+pub returns-clause-text_after : goal.returns-clause-text_after
+returns-clause-text_after c =
+    let at = c.args in
+    edit_is at.text.now at.replacement.now at.n at.s at.e c.requires _ _ _ c.shift.ensures c.copy.ensures c.clear.ensures

@@ -1,0 +1,27 @@
+use Rattle.rounds.specs.Visits.{join_at}
+use Rattle.rounds.specs.Rounds.{no_marks, SoundMarks}
+use Rattle.grammar.specs.Image.{nodes}
+use borrow.Author.Tests.{not-true, not-false}
+use mathlib.Core.Logic.{⊎_elim}
+use mathlib.Core.Path.{◌≡◌, refl, sym, ap, ◌∙◌}
+use Rattle.rounds.proofs.FormedRounds.{marks, marks_start, marked, marked-heavier, marked_visit, unqualified_visit, marked_before, marks_bound, round-marks, formed-nodes-left}
+use Rattle.rounds.proofs.Turns.{Reached, reached_none, reached_more, Turned, turn_none, turn_write, turn_keep, turn_made, nothing_more}
+use Rattle.rounds.proofs.Orders.{array_node}
+use native.Mathlib.Omega.{arith}
+use lib.ListN.{length, get_or, take}
+use lib.Seq.{get_or-take}
+use mathlib.Core.Bool.{false}
+use Prim.Native.Nat.{◌≤◌, ◌<◌, ◌-◌}
+use Rattle.checker.proofs.formed.formed_nodes.Given as goal
+
+abbrev pub invariant-loop-i : goal.invariant-loop-i
+invariant-loop-i l = (l.i ≤ l.count) × Turned (join_at l.image l.known) marks (SoundMarks l.image) (take (nodes l.image) l.order) l.initial.formed l.formed l.i l.added
+
+abbrev pub decreases-loop-i : goal.decreases-loop-i
+decreases-loop-i l = l.count - l.i
+
+abbrev pub invariant-rounds : goal.invariant-rounds
+invariant-rounds l = SoundMarks l.image l.formed × Reached (join_at l.image l.known) (take (nodes l.image) l.order) no_marks l.formed
+
+abbrev pub decreases-rounds : goal.decreases-rounds
+decreases-rounds l = l.count - marks l.formed

@@ -1,0 +1,59 @@
+use Rattle.rounds.specs.Visits.{gathered, gather_at}
+use Rattle.rounds.specs.Sets.{union}
+use Rattle.rounds.specs.Rounds.{Sound}
+use Rattle.grammar.specs.Image.{node, nodes}
+use mathlib.Core.Logic.{⊎_elim}
+use mathlib.Core.Path.{◌≡◌, sym, ap, ◌∙◌}
+use Rattle.rounds.proofs.OutcomeRounds.{weight, stored, stored-heavier, stored-visit, kept-visit, full_visit}
+use Rattle.rounds.proofs.Turns.{Turned, turn_none, turn_write, turn_keep, turn_made}
+use Rattle.rounds.proofs.Orders.{array_node}
+use native.Mathlib.Omega.{arith}
+use lib.ListN.{length, get_or, take}
+use lib.Seq.{get_or-take}
+use Prim.Native.Nat.{◌≤◌, ◌<◌, ◌-◌}
+use borrow.Author.Rules.{rules}
+use Rattle.checker.proofs.outcomes.outcome_round.Goals as goal
+
+pub loop-i-init : goal.loop-i-init
+loop-i-init c = (search rules, turn_none c.requires.4)
+
+pub visited-n-requires : goal.visited-n-requires
+visited-n-requires c = omega (arith, c.requires.0.counts.few_nodes)
+
+pub bounds-known-n : goal.bounds-known-n
+bounds-known-n c =
+    let few = c.requires.0.counts.few_nodes in
+    omega (arith, array_node (nodes c.args.image.now) c.args.order.now c.loop-i.i c.requires.1 (omega arith), c.loop-i.invariant.1.good.as_long)
+
+pub node_outcomes-requires : goal.node_outcomes-requires
+node_outcomes-requires c =
+    let in-nodes = array_node (nodes c.args.image.now) c.args.order.now c.loop-i.i c.requires.1 (omega arith) in
+    (c.requires.0, omega arith, c.requires.2, c.requires.3, c.loop-i.invariant.1.good.small)
+
+pub bounds-known-n-then-new-old : goal.bounds-known-n-then-new-old
+bounds-known-n-then-new-old c =
+    let few = c.requires.0.counts.few_nodes in
+    let count = c.requires.5 in
+    omega (arith, array_node (nodes c.args.image.now) c.args.order.now c.loop-i.i c.requires.1 (omega (arith, count, c.loop-i-test.true)), c.loop-i.invariant.1.good.as_long)
+
+pub loop-i-preserved : goal.loop-i-preserved
+loop-i-preserved c =
+    let img = c.args.image.now in
+    let array = c.args.order.now in
+    let known = c.loop-i.known in
+    let i = c.loop-i.i in
+    let n = c.visited-n.result in
+    let t = c.loop-i.invariant.1 in
+    let few = c.requires.0.counts.few_nodes in
+    let i-in : i < nodes img = omega arith in
+    let in_order : i < length (take (nodes img) array) = omega (arith, c.requires.1.as_long) in
+    let in-nodes : n < nodes img = omega (arith, array_node (nodes img) array i c.requires.1 i-in) in
+    let small : n < 1024 = omega arith in
+    let at : n ≡ get_or (take (nodes img) array) i 0 = c.visited-n.ensures ∙ sym (get_or-take (nodes img) array i 0 i-in) in (
+      search rules,
+      elim c.if-old-ne7.branch [ then-x w ↦ ? | else-x w ↦ ? ],
+    )
+
+pub returns : goal.returns
+returns c =
+    turn_made c.loop-i.invariant.1 (omega (arith, c.requires.1.as_long, c.requires.5))

@@ -1,0 +1,12 @@
+use Rattle.lawful.proofs.Told.{so, not_so, said_no, said_yes}
+use Rattle.rounds.specs.Rounds.{StarConsumes}
+use borrow.Author.Count.{below_none, below_more}
+use native.Mathlib.Omega.{arith}
+use Prim.Native.Nat.{ℕ, ◌≤◌, ◌<◌, ◌-◌}
+use Rattle.checker.proofs.outcomes.stars_consume.Given as goal
+
+abbrev pub invariant-loop-n : goal.invariant-loop-n
+invariant-loop-n l = (l.n ≤ l.n-end) × ((k : ℕ) → k < l.n → StarConsumes l.image k)
+
+abbrev pub decreases-loop-n : goal.decreases-loop-n
+decreases-loop-n l = l.n-end - l.n
