@@ -14,6 +14,7 @@ use mathlib.Core.Bool.{false}
 use Prim.Native.Nat.{◌≤◌, ◌<◌, ◌-◌}
 use borrow.Author.Rules.{rules}
 use Rattle.checker.proofs.formed.formed_nodes.Goals as goal
+use Rattle.checker.proofs.formed.formed_nodes.Goals.{then-not-old+then-node_formed, then-not-old+else-node_formed, else-not-old}
 
 pub rounds-init : goal.rounds-init
 rounds-init c = (marks_start c.args.image.now 1024 refl, reached_none _)
@@ -55,7 +56,20 @@ loop-i-preserved c =
     let in_list : n < length formed = omega (arith, t.good.as_long) in
     let at : n ≡ get_or (take (nodes img) array) i 0 = c.visited-n.ensures ∙ sym (get_or-take (nodes img) array i 0 i-in) in (
       search rules,
-      elim c.if-not-old.branch [ then-x w ↦ ? | else-x w ↦ ? ],
+      elim c.if-not-old.branch [
+        then-not-old+then-node_formed w ↦
+          rw (w.formed-is, w.added-is)
+          (turn_write t in_order
+          (marked_visit img known formed n (cc) ∙ ap (join_at img known formed) at)
+          (marked img known formed c.requires.0.words c.requires.2 t.good n in-nodes in_list (cc))
+          (marked-heavier img known formed c.requires.0.words c.requires.2 t.good n in-nodes in_list w.if-not-old.true))
+        | then-not-old+else-node_formed w ↦
+          rw (w.formed-is, w.added-is)
+          (turn_keep t in_order (ap (join_at img known formed) (sym at) ∙ unqualified_visit img known formed n (cc)))
+        | else-not-old w ↦
+          rw (w.formed-is, w.added-is)
+          (turn_keep t in_order (ap (join_at img known formed) (sym at) ∙ marked_before img known formed n w.if-not-old.false))
+      ],
     )
 
 pub rounds-smaller : goal.rounds-smaller

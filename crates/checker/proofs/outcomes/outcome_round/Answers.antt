@@ -13,6 +13,7 @@ use lib.Seq.{get_or-take}
 use Prim.Native.Nat.{◌≤◌, ◌<◌, ◌-◌}
 use borrow.Author.Rules.{rules}
 use Rattle.checker.proofs.outcomes.outcome_round.Goals as goal
+use Rattle.checker.proofs.outcomes.outcome_round.Goals.{then-old-ne7+then-new-old, then-old-ne7+else-new-old, else-old-ne7}
 
 pub loop-i-init : goal.loop-i-init
 loop-i-init c = (search rules, turn_none c.requires.4)
@@ -51,7 +52,23 @@ loop-i-preserved c =
     let small : n < 1024 = omega arith in
     let at : n ≡ get_or (take (nodes img) array) i 0 = c.visited-n.ensures ∙ sym (get_or-take (nodes img) array i 0 i-in) in (
       search rules,
-      elim c.if-old-ne7.branch [ then-x w ↦ ? | else-x w ↦ ? ],
+      elim c.if-old-ne7.branch [
+        then-old-ne7+then-new-old w ↦
+          let v = w.join-new.result in
+          let gained : v ≡ union (get_or known n 0) (gathered img known (node img n)) = cc in
+          rw (w.known-is, w.added-is)
+          (turn_write t in_order
+          (stored-visit img known t.good n v in-nodes small gained ∙ ap (gather_at img known) at)
+          (stored img known t.good n v in-nodes small gained)
+          (stored-heavier img known t.good n v in-nodes small gained w.if-new-old.true))
+        | then-old-ne7+else-new-old w ↦
+          let v = w.join-new.result in
+          let gained : v ≡ union (get_or known n 0) (gathered img known (node img n)) = cc in
+          rw (w.known-is, w.added-is)
+          (turn_keep t in_order (ap (gather_at img known) (sym at) ∙ kept-visit img known t.good n v in-nodes small gained w.if-new-old.false))
+        | else-old-ne7 w ↦
+          rw (w.known-is, w.added-is) (turn_keep t in_order (ap (gather_at img known) (sym at) ∙ full_visit img known n w.if-old-ne7.false))
+      ],
     )
 
 pub returns : goal.returns
