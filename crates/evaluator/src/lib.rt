@@ -21,7 +21,7 @@ const NESTING: u64 = numbers::NESTING as u64;
 
 // A node at a position. A byte range without the fold bit and an ASCII character are answered here, which saves the call that most
 // visits would end in.
-#[cycle(eval_call_eval_choice_eval_node_eval_not_eval_rule_eval_sequence_eval_star_eval_word)]
+#[cycle(eval)]
 fn eval_node(
     words: &[u32; 4097],
     text: &&[u8],
@@ -54,7 +54,7 @@ fn eval_node(
 }
 
 // A node's word at a position, by its kind.
-#[cycle(eval_call_eval_choice_eval_node_eval_not_eval_rule_eval_sequence_eval_star_eval_word)]
+#[cycle(eval)]
 pub fn eval_word(
     words: &[u32; 4097],
     text: &&[u8],
@@ -86,7 +86,7 @@ pub fn eval_word(
 }
 
 // A then B.
-#[cycle(eval_call_eval_choice_eval_node_eval_not_eval_rule_eval_sequence_eval_star_eval_word)]
+#[cycle(eval)]
 fn eval_sequence(
     words: &[u32; 4097],
     text: &&[u8],
@@ -123,7 +123,7 @@ fn eval_sequence(
 }
 
 // A else B.
-#[cycle(eval_call_eval_choice_eval_node_eval_not_eval_rule_eval_sequence_eval_star_eval_word)]
+#[cycle(eval)]
 fn eval_choice(
     words: &[u32; 4097],
     text: &&[u8],
@@ -152,7 +152,7 @@ fn eval_choice(
 }
 
 // Not A.
-#[cycle(eval_call_eval_choice_eval_node_eval_not_eval_rule_eval_sequence_eval_star_eval_word)]
+#[cycle(eval)]
 fn eval_not(
     words: &[u32; 4097],
     text: &&[u8],
@@ -173,7 +173,7 @@ fn eval_not(
 }
 
 // A zero or more times: rounds until one fails. A matched round of length 0 gets refusal 12.
-#[cycle(eval_call_eval_choice_eval_node_eval_not_eval_rule_eval_sequence_eval_star_eval_word)]
+#[cycle(eval)]
 fn eval_star(
     words: &[u32; 4097],
     text: &&[u8],
@@ -208,7 +208,7 @@ fn eval_star(
 }
 
 // A call of a rule.
-#[cycle(eval_call_eval_choice_eval_node_eval_not_eval_rule_eval_sequence_eval_star_eval_word)]
+#[cycle(eval)]
 fn eval_call(
     words: &[u32; 4097],
     text: &&[u8],
@@ -230,7 +230,7 @@ fn eval_call(
 }
 
 // A rule, whose body has that root, at a position: its pair is looked up before its body is evaluated.
-#[cycle(eval_call_eval_choice_eval_node_eval_not_eval_rule_eval_sequence_eval_star_eval_word)]
+#[cycle(eval)]
 fn eval_rule(
     words: &[u32; 4097],
     text: &&[u8],
