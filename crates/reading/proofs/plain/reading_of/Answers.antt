@@ -1,0 +1,15 @@
+use Rattle.std.proofs.Common.{eqb, ◌∙◌, rules}
+use Rattle.records.specs.Words.{value_of}
+use Rattle.reading.specs.Plain.{outcome_of}
+use Rattle.reading.proofs.plain.reading_of.Goals as goal
+
+pub returns : goal.returns
+unfolding value_of
+returns c =
+    let o = c.outcome_of-outcome.ensures ∙ (λ i. outcome_of (c.matched_of.ensures i) (eqb (c.length_of-length.ensures.0 i) c.args.n)) in
+    λ i. record {
+      outcome = o i;
+      length = c.length_of-length.ensures.0 i;
+      examined = c.examined_of-examined.ensures.0 i;
+      nesting = c.nesting_of.ensures.0 i;
+    }
