@@ -5,7 +5,7 @@ use Prim.Native.Nat.{ℕ, ◌+◌, ◌≤◌}
 use native.Mathlib.Omega.{arith}
 use mathlib.Core.Path.{◌≡◌, refl}
 use mathlib.Core.List.{List, [], ◌∷◌, map}
-use mathlib.Core.Logic.{⊎_elim}
+use mathlib.Core.Logic.{◌⊎◌, inl, inr, ⊎_elim}
 use Rattle.grammar.specs.declared.Evaluation.{Evaluation}
 use Rattle.grammar.specs.Evaluates.{Fresh, Subject, a_pair}
 use Rattle.grammar.specs.Evaluates.{ev_empty, ev_terminal, ev_then_first_fails, ev_then, ev_else_first, ev_else_second}
@@ -63,10 +63,16 @@ pub record Shifted (k : ℕ) (y : Pair) (ps : List Pair) : Type 0 where
 
 pub in_shifted : (k : ℕ) {y : Pair} (ps : List Pair) → In y (map (shifted k) ps) → Shifted k y ps
 in_shifted k [] i = absurd (none_in i)
-in_shifted k (x ∷ ps) here = record { pair = x; among = here; is = refl }
-in_shifted k (x ∷ ps) (later i) =
+in_shifted k (x ∷ ps) i =
+    ⊎_elim (λ e. record { pair = x; among = here; is = e })
+    (λ i.
     let t = in_shifted k ps i in
-    record { pair = t.pair; among = later t.among; is = t.is }
+    record { pair = t.pair; among = later t.among; is = t.is })
+    (first_or_later i)
+  where
+    first_or_later : {y z : Pair} {zs : List Pair} → In y (z ∷ zs) → (y ≡ z) ⊎ In y zs
+    first_or_later here = inl refl
+    first_or_later (later i) = inr i
 
 pub shifted_in : (k : ℕ) {x : Pair} {ps : List Pair} → In x ps → In (shifted k x) (map (shifted k) ps)
 shifted_in k here = here

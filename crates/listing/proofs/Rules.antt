@@ -2,7 +2,7 @@
 use Prim.Native.Nat.{ℕ, zero, suc, ◌+◌, ◌-◌, ◌%◌, ◌≤◌, ◌<◌}
 use native.Mathlib.Omega.{arith}
 use mathlib.Core.Path.{◌≡◌, refl, sym, ap, ◌∙◌, subst}
-use mathlib.Core.Bool.{Bool, true, false, ◌&&◌, and_false}
+use mathlib.Core.Bool.{Bool, true, false, ◌&&◌, and-false}
 use mathlib.Core.List.{List, [], ◌∷◌}
 use lib.ListN.{length, get_or, set}
 use lib.Dec.{leb}
@@ -52,7 +52,7 @@ module _ (rules root room : ℕ) (text table : List ℕ) (ev : Walker) (r at lo 
     rule-impossible e =
         at_once (stopped 12)
         (opens ∙ ap (λ (b : Bool). met b (matched_of word) c (Inner word))
-        (ap (λ (b : Bool). is_held word && b) e ∙ and_false (is_held word)))
+        (ap (λ (b : Bool). is_held word && b) e ∙ and-false (is_held word)))
         refl
 
     module _ (held : is_held word ≡ true) (fine : possible word at (length text) ≡ true) where

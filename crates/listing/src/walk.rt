@@ -20,7 +20,7 @@ const NESTING: usize = numbers::NESTING as usize;
 const ROWS: usize = numbers::ROWS as usize;
 
 // A node at a position.
-#[cycle(walk_choice_walk_node_walk_not_walk_part_walk_rule_walk_sequence_walk_star)]
+#[cycle(walk)]
 fn walk_node(
     words: &[u32; 4097],
     text: &&[u8],
@@ -127,7 +127,7 @@ fn walk_node(
 }
 
 // A then B. What fails or is refused ends it.
-#[cycle(walk_choice_walk_node_walk_not_walk_part_walk_rule_walk_sequence_walk_star)]
+#[cycle(walk)]
 fn walk_sequence(
     words: &[u32; 4097],
     text: &&[u8],
@@ -173,7 +173,7 @@ fn walk_sequence(
 }
 
 // A else B.
-#[cycle(walk_choice_walk_node_walk_not_walk_part_walk_rule_walk_sequence_walk_star)]
+#[cycle(walk)]
 fn walk_choice(
     words: &[u32; 4097],
     text: &&[u8],
@@ -204,7 +204,7 @@ fn walk_choice(
 }
 
 // Not A: only looked at.
-#[cycle(walk_choice_walk_node_walk_not_walk_part_walk_rule_walk_sequence_walk_star)]
+#[cycle(walk)]
 fn walk_not(
     words: &[u32; 4097],
     text: &&[u8],
@@ -244,7 +244,7 @@ fn walk_not(
 }
 
 // A zero or more times: rounds until one fails.
-#[cycle(walk_choice_walk_node_walk_not_walk_part_walk_rule_walk_sequence_walk_star)]
+#[cycle(walk)]
 fn walk_star(
     words: &[u32; 4097],
     text: &&[u8],
@@ -292,7 +292,7 @@ fn walk_star(
 }
 
 // A node that may fail: looked at first, then walked where it matched and the window touches it.
-#[cycle(walk_choice_walk_node_walk_not_walk_part_walk_rule_walk_sequence_walk_star)]
+#[cycle(walk)]
 fn walk_part(
     words: &[u32; 4097],
     text: &&[u8],
@@ -336,7 +336,7 @@ fn walk_part(
 }
 
 // A rule at a position: its record, its row, and the rows of its body, which has that root.
-#[cycle(walk_choice_walk_node_walk_not_walk_part_walk_rule_walk_sequence_walk_star)]
+#[cycle(walk)]
 pub fn walk_rule(
     words: &[u32; 4097],
     text: &&[u8],
