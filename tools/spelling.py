@@ -16,7 +16,7 @@ import sys
 
 WORD = re.compile(r"[^\s(){}.;,@\"«»\[\]\\]+")
 TOP = re.compile(r"^(?:abbrev |unfoldable )?(?:pub )?(data |record )?([^\s(){}.;,@\"«»:]+)(?= *:| \(|$)")
-INSIDE = re.compile(r"^  (?:pub )?([^\s(){}.;,@\"«»:]+) *:(?: |$)")
+INSIDE = re.compile(r"^(?:  (?:pub )?| +(?:(?:abbrev |unfoldable )(?:pub )?|pub (?:abbrev |unfoldable )?))([^\s(){}.;,@\"«»:]+) *:(?: |$)")
 # Names of std that a lemma's name may join by a dash.
 OF_STD = {"append", "length", "take", "drop", "set", "map", "get_or", "sum", "max", "min"}
 # A lemma that would have its definition's name ends in _lem.

@@ -21,8 +21,8 @@ module _ (a k : ℕ) (xs : List ℕ) where
     front : length (take a xs) ≡ a
     front = length-take-le a xs (omega arith)
 
-    pub put-long : length (put_mid a k xs ys) ≡ length xs
-    put-long =
+    pub put_long : length (put_mid a k xs ys) ≡ length xs
+    put_long =
         let e = length-append (take a xs) (ys ++ drop k (drop a xs)) in
         let d = length-append ys (drop k (drop a xs)) in
         let c = length-drop k (drop a xs) in
@@ -30,21 +30,21 @@ module _ (a k : ℕ) (xs : List ℕ) where
         let f = front in
         omega arith
 
-    pub put-before : (j : ℕ) → j < a → at (put_mid a k xs ys) j ≡ at xs j
-    put-before j h =
+    pub put_before : (j : ℕ) → j < a → at (put_mid a k xs ys) j ≡ at xs j
+    put_before j h =
         get_or-append (take a xs) (ys ++ drop k (drop a xs)) 0 j (let f = front in omega arith) ∙ get_or-take a xs j 0 h
 
     inner : (j : ℕ) → at (put_mid a k xs ys) (a + j) ≡ at (ys ++ drop k (drop a xs)) j
     inner j =
         ap (λ (x : ℕ). at (put_mid a k xs ys) (x + j)) (sym front) ∙ get_or-append-add (take a xs) (ys ++ drop k (drop a xs)) j 0
 
-    pub put-inside : (j : ℕ) → a ≤ j → j < a + k → at (put_mid a k xs ys) j ≡ at ys (j - a)
-    put-inside j h l =
+    pub put_inside : (j : ℕ) → a ≤ j → j < a + k → at (put_mid a k xs ys) j ≡ at ys (j - a)
+    put_inside j h l =
         let e : j ≡ a + (j - a) = omega arith in
         ap (λ (x : ℕ). at (put_mid a k xs ys) x) e ∙ inner (j - a) ∙ get_or-append ys (drop k (drop a xs)) 0 (j - a) (omega arith)
 
-    pub put-past : (j : ℕ) → a + k ≤ j → at (put_mid a k xs ys) j ≡ at xs j
-    put-past j h =
+    pub put_past : (j : ℕ) → a + k ≤ j → at (put_mid a k xs ys) j ≡ at xs j
+    put_past j h =
         let e : j ≡ a + (length ys + (j - a - k)) = omega arith in
         let d : a + (k + (j - a - k)) ≡ j = omega arith in
         ap (λ (x : ℕ). at (put_mid a k xs ys) x) e
@@ -67,17 +67,17 @@ part_filled a k {f} {xs} {ys} {lo} {hi} F fits o h =
     let back : (j : ℕ) → a ≤ j → j < a + k → at (mid_of a k xs) (j - a) ≡ at xs j = λ j p q.
     mid_at a k xs (j - a) (omega arith) ∙ ap (λ (x : ℕ). at xs x) (let e : a + (j - a) ≡ j = omega arith in e) in
     record {
-      long = put-long a k xs ys fits m;
+      long = put_long a k xs ys fits m;
       before = λ j l. ⊎_elim
-          (λ (p : j < a). put-before a k xs ys fits m j p)
+          (λ (p : j < a). put_before a k xs ys fits m j p)
           (λ (p : a ≤ j).
-          put-inside a k xs ys fits m j p (omega arith) ∙ F.before (j - a) (omega arith) ∙ back j p (omega arith))
+          put_inside a k xs ys fits m j p (omega arith) ∙ F.before (j - a) (omega arith) ∙ back j p (omega arith))
           (cut j a);
-      inside = λ j l r. put-inside a k xs ys fits m j (omega arith) (omega arith) ∙ F.inside (j - a) (omega arith) (omega arith);
+      inside = λ j l r. put_inside a k xs ys fits m j (omega arith) (omega arith) ∙ F.inside (j - a) (omega arith) (omega arith);
       past = λ j l. ⊎_elim
           (λ (p : j < a + k).
-          put-inside a k xs ys fits m j (omega arith) p ∙ F.past (j - a) (omega arith) ∙ back j (omega arith) p)
-          (λ (p : a + k ≤ j). put-past a k xs ys fits m j p)
+          put_inside a k xs ys fits m j (omega arith) p ∙ F.past (j - a) (omega arith) ∙ back j (omega arith) p)
+          (λ (p : a + k ≤ j). put_past a k xs ys fits m j p)
           (cut j (a + k));
     }
 
@@ -88,13 +88,13 @@ part_zeros a k xs ys e fits =
     let m : length ys ≡ k = ap length e ∙ length-replicate (length (mid_of a k xs)) 0 ∙ mid_long a k xs fits in
     let l = mid_long a k xs fits in
     record {
-      long = put-long a k xs ys fits m;
-      before = put-before a k xs ys fits m;
+      long = put_long a k xs ys fits m;
+      before = put_before a k xs ys fits m;
       inside = λ j p q.
-          put-inside a k xs ys fits m j p q
+          put_inside a k xs ys fits m j p q
           ∙ ap (λ (zs : List ℕ). at zs (j - a)) e
           ∙ get_or-replicate (length (mid_of a k xs)) (j - a) 0 0 (omega arith);
-      past = put-past a k xs ys fits m;
+      past = put_past a k xs ys fits m;
     }
 
 -- The element of two joined lists, in either.

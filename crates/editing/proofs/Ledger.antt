@@ -147,13 +147,13 @@ module _
           ∙ ap₂ (λ (a b : Bool). one_if (a || b)) first-case second-case
 
     -- The table after the edit, pair by pair.
-    pub ledger-after :
+    pub ledger_after :
         (rule q : ℕ)
         → rule < R
         → q ≤ cap
         → table_word R (table_after R cap n s e k t) rule q ≡ cond (stands_after (h rule) (examined rule) n s e k q) (W' rule q) 0
     unfolding words_after
-    ledger-after rule q below inside =
+    ledger_after rule q below inside =
         let f : ℕ → ℕ = λ j. word_after R n s e k t (j % R) (j / R) in
         let slot = slot_in R cap rule q below inside in
         joined_first (tabulate f (table_size R cap)) (drop (table_size R cap) t) (table_size R cap) (slot_of R rule q) (tabulate_long f (table_size R cap)) slot

@@ -73,8 +73,8 @@ module _ {R cap : ℕ} {t : List ℕ} (lent : TableLent R cap t) where
     unfolding words_after
     after-words = tabulate_long (λ j. word_after R n s e k t (j % R) (j / R)) (table_size R cap)
 
-    pub after-long : length (table_after R cap n s e k t) ≡ length t
-    after-long = kept_length (table_size R cap) (words_after R cap n s e k t) t after-words lent.whole
+    pub after_long : length (table_after R cap n s e k t) ≡ length t
+    after_long = kept_length (table_size R cap) (words_after R cap n s e k t) t after-words lent.whole
 
     pub after_tail : drop (table_size R cap) (table_after R cap n s e k t) ≡ drop (table_size R cap) t
     after_tail = drop_at (words_after R cap n s e k t) (drop (table_size R cap) t) (table_size R cap) after-words

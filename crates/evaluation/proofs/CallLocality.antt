@@ -8,30 +8,30 @@ use Rattle.grammar.specs.Evaluates.{Evaluates, Fresh, Subject, CallAnswer}
 use Rattle.grammar.specs.Evaluates.{ev_empty, ev_terminal, ev_then_first_fails, ev_then, ev_else_first, ev_else_second}
 use Rattle.grammar.specs.Evaluates.{ev_star, ev_last_round, ev_round, ev_not, ev_call, ev_body, ev_record}
 use Rattle.evaluation.specs.Calls.{Pair, calls_of}
-use Rattle.evaluation.proofs.Locality.{prefix-decides, moved}
+use Rattle.evaluation.proofs.Locality.{prefix_decides, moved}
 use Rattle.evaluation.proofs.Pairs.{one_by_one}
 use Rattle.evaluation.proofs.Plain.{no_record}
 
 module _ (img text other : List ℕ) (answers : ℕ → ℕ → CallAnswer) (m : ℕ)
     (in_text : m ≤ length text) (in-other : m ≤ length other) (agree : take m text ≡ take m other)
   where
-    pub prefix-calls :
+    pub prefix_calls :
         {s : Subject} {p : ℕ} {z : Evaluation} (u : Evaluates img text answers s p z) (h : p + z.examined ≤ m)
-        → calls_of (prefix-decides img text other answers m in_text in-other agree u h) ≡ calls_of u
-    unfolding calls_of prefix-decides
-    prefix-calls (ev_empty e) h = refl
-    prefix-calls (ev_terminal e) h = refl
-    prefix-calls (ev_then_first_fails u a e) h = prefix-calls u _
-    prefix-calls (ev_then u a v e) h = one_by_one (prefix-calls u _) (prefix-calls v _)
-    prefix-calls (ev_else_first u a e) h = prefix-calls u _
-    prefix-calls (ev_else_second u a v e) h = one_by_one (prefix-calls u _) (prefix-calls v _)
-    prefix-calls (ev_star u e) h = prefix-calls u _
-    prefix-calls (ev_last_round u a e) h = prefix-calls u _
-    prefix-calls (ev_round u a v e) h = one_by_one (prefix-calls u _) (prefix-calls v _)
-    prefix-calls (ev_not u e) h = prefix-calls u _
-    prefix-calls (ev_call u e) h = refl
-    prefix-calls (ev_body q u) h = prefix-calls u _
-    prefix-calls (ev_record q) h = refl
+        → calls_of (prefix_decides img text other answers m in_text in-other agree u h) ≡ calls_of u
+    unfolding calls_of prefix_decides
+    prefix_calls (ev_empty e) h = refl
+    prefix_calls (ev_terminal e) h = refl
+    prefix_calls (ev_then_first_fails u a e) h = prefix_calls u _
+    prefix_calls (ev_then u a v e) h = one_by_one (prefix_calls u _) (prefix_calls v _)
+    prefix_calls (ev_else_first u a e) h = prefix_calls u _
+    prefix_calls (ev_else_second u a v e) h = one_by_one (prefix_calls u _) (prefix_calls v _)
+    prefix_calls (ev_star u e) h = prefix_calls u _
+    prefix_calls (ev_last_round u a e) h = prefix_calls u _
+    prefix_calls (ev_round u a v e) h = one_by_one (prefix_calls u _) (prefix_calls v _)
+    prefix_calls (ev_not u e) h = prefix_calls u _
+    prefix_calls (ev_call u e) h = refl
+    prefix_calls (ev_body q u) h = prefix_calls u _
+    prefix_calls (ev_record q) h = refl
 
 -- The pair at a position that is later by k.
 abbrev pub shifted : ℕ → Pair → Pair

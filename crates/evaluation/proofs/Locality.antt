@@ -27,28 +27,28 @@ nested e = ap (λ (v : Evaluation). v.nesting) e
 module _ (img text other : List ℕ) (answers : ℕ → ℕ → CallAnswer) (m : ℕ)
     (in_text : m ≤ length text) (in-other : m ≤ length other) (agree : take m text ≡ take m other)
   where
-    unfoldable pub prefix-decides :
+    unfoldable pub prefix_decides :
         {s : Subject} {p : ℕ} {z : Evaluation}
         → Evaluates img text answers s p z
         → p + z.examined ≤ m
         → Evaluates img other answers s p z
-    prefix-decides (ev_empty e) h = ev_empty e
-    prefix-decides {p = p} (ev_terminal {t} e) h =
+    prefix_decides (ev_empty e) h = ev_empty e
+    prefix_decides {p = p} (ev_terminal {t} e) h =
         ev_terminal (e ∙ sym (prefix t text other p m in_text in-other agree (let k = seen e in omega arith)))
-    prefix-decides (ev_then_first_fails u a e) h = ev_then_first_fails (prefix-decides u (let k = seen e in omega arith)) a e
-    prefix-decides (ev_then u a v e) h =
-        ev_then (prefix-decides u (let k = seen e in omega arith)) a (prefix-decides v (let k = seen e in omega arith)) e
-    prefix-decides (ev_else_first u a e) h = ev_else_first (prefix-decides u (let k = seen e in omega arith)) a e
-    prefix-decides (ev_else_second u a v e) h =
-        ev_else_second (prefix-decides u (let k = seen e in omega arith)) a (prefix-decides v (let k = seen e in omega arith)) e
-    prefix-decides (ev_star u e) h = ev_star (prefix-decides u (let k = seen e in omega arith)) e
-    prefix-decides (ev_last_round u a e) h = ev_last_round (prefix-decides u (let k = seen e in omega arith)) a e
-    prefix-decides (ev_round u a v e) h =
-        ev_round (prefix-decides u (let k = seen e in omega arith)) a (prefix-decides v (let k = seen e in omega arith)) e
-    prefix-decides (ev_not u e) h = ev_not (prefix-decides u (let k = seen e in omega arith)) e
-    prefix-decides (ev_call u e) h = ev_call (prefix-decides u (let k = seen e in omega arith)) e
-    prefix-decides (ev_body q u) h = ev_body q (prefix-decides u h)
-    prefix-decides (ev_record q) h = ev_record q
+    prefix_decides (ev_then_first_fails u a e) h = ev_then_first_fails (prefix_decides u (let k = seen e in omega arith)) a e
+    prefix_decides (ev_then u a v e) h =
+        ev_then (prefix_decides u (let k = seen e in omega arith)) a (prefix_decides v (let k = seen e in omega arith)) e
+    prefix_decides (ev_else_first u a e) h = ev_else_first (prefix_decides u (let k = seen e in omega arith)) a e
+    prefix_decides (ev_else_second u a v e) h =
+        ev_else_second (prefix_decides u (let k = seen e in omega arith)) a (prefix_decides v (let k = seen e in omega arith)) e
+    prefix_decides (ev_star u e) h = ev_star (prefix_decides u (let k = seen e in omega arith)) e
+    prefix_decides (ev_last_round u a e) h = ev_last_round (prefix_decides u (let k = seen e in omega arith)) a e
+    prefix_decides (ev_round u a v e) h =
+        ev_round (prefix_decides u (let k = seen e in omega arith)) a (prefix_decides v (let k = seen e in omega arith)) e
+    prefix_decides (ev_not u e) h = ev_not (prefix_decides u (let k = seen e in omega arith)) e
+    prefix_decides (ev_call u e) h = ev_call (prefix_decides u (let k = seen e in omega arith)) e
+    prefix_decides (ev_body q u) h = ev_body q (prefix_decides u h)
+    prefix_decides (ev_record q) h = ev_record q
 
 module _ (img before text : List ℕ) where
   unfoldable pub moved :

@@ -41,70 +41,70 @@ module _ {img text : List ℕ} {answers : ℕ → ℕ → CallAnswer} (P : Pair 
     Starts (a_pair r) p calls = P (record { rule = r; position = p })
     Starts (rounds_of a) p calls = (y : Pair) → In y calls → P y
 
-    pub all-inside :
+    pub all_inside :
         {s : Subject} {p : ℕ} {z : Evaluation} (u : Evaluates img text answers s p z) → Starts s p (calls_of u)
         → (y : Pair) → In y (bodies_of u) → P y
     unfolding calls_of bodies_of
-    all-inside (ev_empty e) s y i = absurd (none_in i)
-    all-inside (ev_terminal e) s y i = absurd (none_in i)
-    all-inside (ev_then_first_fails u m e) s y i = all-inside u s y i
-    all-inside (ev_then u m v e) s y i =
-        ⊎_elim (all-inside u (λ x j. s x (in_left (calls_of v) j)) y) (all-inside v (λ x j. s x (in_right (calls_of u) j)) y)
+    all_inside (ev_empty e) s y i = absurd (none_in i)
+    all_inside (ev_terminal e) s y i = absurd (none_in i)
+    all_inside (ev_then_first_fails u m e) s y i = all_inside u s y i
+    all_inside (ev_then u m v e) s y i =
+        ⊎_elim (all_inside u (λ x j. s x (in_left (calls_of v) j)) y) (all_inside v (λ x j. s x (in_right (calls_of u) j)) y)
         (in_either (bodies_of u) (bodies_of v) i)
-    all-inside (ev_else_first u m e) s y i = all-inside u s y i
-    all-inside (ev_else_second u m v e) s y i =
-        ⊎_elim (all-inside u (λ x j. s x (in_left (calls_of v) j)) y) (all-inside v (λ x j. s x (in_right (calls_of u) j)) y)
+    all_inside (ev_else_first u m e) s y i = all_inside u s y i
+    all_inside (ev_else_second u m v e) s y i =
+        ⊎_elim (all_inside u (λ x j. s x (in_left (calls_of v) j)) y) (all_inside v (λ x j. s x (in_right (calls_of u) j)) y)
         (in_either (bodies_of u) (bodies_of v) i)
-    all-inside (ev_star u e) s y i = all-inside u s y i
-    all-inside (ev_last_round u m e) s y i = all-inside u s y i
-    all-inside (ev_round u m v e) s y i =
-        ⊎_elim (all-inside u (λ x j. s x (in_left (calls_of v) j)) y) (all-inside v (λ x j. s x (in_right (calls_of u) j)) y)
+    all_inside (ev_star u e) s y i = all_inside u s y i
+    all_inside (ev_last_round u m e) s y i = all_inside u s y i
+    all_inside (ev_round u m v e) s y i =
+        ⊎_elim (all_inside u (λ x j. s x (in_left (calls_of v) j)) y) (all_inside v (λ x j. s x (in_right (calls_of u) j)) y)
         (in_either (bodies_of u) (bodies_of v) i)
-    all-inside (ev_not u e) s y i = all-inside u s y i
-    all-inside {p = p} (ev_call {r} u e) s y i = all-inside u (s (record { rule = r; position = p }) here) y i
-    all-inside (ev_body q u) s y here = s
-    all-inside {p = p} {z = z} (ev_body {r} q u) s y (later i) = all-inside u (passes (record { rule = r; position = p }) z u s) y i
-    all-inside (ev_record q) s y i = absurd (none_in i)
+    all_inside (ev_not u e) s y i = all_inside u s y i
+    all_inside {p = p} (ev_call {r} u e) s y i = all_inside u (s (record { rule = r; position = p }) here) y i
+    all_inside (ev_body q u) s y here = s
+    all_inside {p = p} {z = z} (ev_body {r} q u) s y (later i) = all_inside u (passes (record { rule = r; position = p }) z u s) y i
+    all_inside (ev_record q) s y i = absurd (none_in i)
 
 module _ (img text : List ℕ) (answers : ℕ → ℕ → CallAnswer) (words : Question4 img)
     (records : (r p : ℕ) (x : Evaluation) → p ≤ length text → answers r p ≡ by_record x → Within (length text) p x)
   where
-    pub calls-in-range :
+    pub calls_in_range :
         {s : Subject} {p : ℕ} {z : Evaluation} {x : Pair} (u : Evaluates img text answers s p z) → InImage img s → p ≤ length text
         → In x (calls_of u) → PairOf img text x
     unfolding calls_of body
-    calls-in-range (ev_empty e) r h i = absurd (none_in i)
-    calls-in-range (ev_terminal e) r h i = absurd (none_in i)
-    calls-in-range (ev_then_first_fails {a} u m e) r h i = calls-in-range u (refers img words a r.0) h i
-    calls-in-range (ev_then {a} {b} u m v e) r h i =
-        ⊎_elim (calls-in-range u (refers img words a r.0) h)
-        (calls-in-range v (refers img words b r.1) (within img text answers records u h).in_text)
+    calls_in_range (ev_empty e) r h i = absurd (none_in i)
+    calls_in_range (ev_terminal e) r h i = absurd (none_in i)
+    calls_in_range (ev_then_first_fails {a} u m e) r h i = calls_in_range u (refers img words a r.0) h i
+    calls_in_range (ev_then {a} {b} u m v e) r h i =
+        ⊎_elim (calls_in_range u (refers img words a r.0) h)
+        (calls_in_range v (refers img words b r.1) (within img text answers records u h).in_text)
         (in_either (calls_of u) (calls_of v) i)
-    calls-in-range (ev_else_first {a} u m e) r h i = calls-in-range u (refers img words a r.0) h i
-    calls-in-range (ev_else_second {a} {b} u m v e) r h i =
-        ⊎_elim (calls-in-range u (refers img words a r.0) h) (calls-in-range v (refers img words b r.1) h)
+    calls_in_range (ev_else_first {a} u m e) r h i = calls_in_range u (refers img words a r.0) h i
+    calls_in_range (ev_else_second {a} {b} u m v e) r h i =
+        ⊎_elim (calls_in_range u (refers img words a r.0) h) (calls_in_range v (refers img words b r.1) h)
         (in_either (calls_of u) (calls_of v) i)
-    calls-in-range (ev_star u e) r h i = calls-in-range u r h i
-    calls-in-range (ev_last_round {a} u m e) r h i = calls-in-range u (refers img words a r) h i
-    calls-in-range (ev_round {a} u m v e) r h i =
-        ⊎_elim (calls-in-range u (refers img words a r) h)
-        (calls-in-range v r (within img text answers records u h).in_text)
+    calls_in_range (ev_star u e) r h i = calls_in_range u r h i
+    calls_in_range (ev_last_round {a} u m e) r h i = calls_in_range u (refers img words a r) h i
+    calls_in_range (ev_round {a} u m v e) r h i =
+        ⊎_elim (calls_in_range u (refers img words a r) h)
+        (calls_in_range v r (within img text answers records u h).in_text)
         (in_either (calls_of u) (calls_of v) i)
-    calls-in-range (ev_not {a} u e) r h i = calls-in-range u (refers img words a r) h i
-    calls-in-range (ev_call u e) r h here = record { rule_in = r; position_in = h }
-    calls-in-range (ev_call u e) r h (later i) = absurd (none_in i)
-    calls-in-range (ev_body {r} q u) l h i = calls-in-range u (refers img words (root img r) (root_in_range img words r l)) h i
-    calls-in-range (ev_record q) r h i = absurd (none_in i)
+    calls_in_range (ev_not {a} u e) r h i = calls_in_range u (refers img words a r) h i
+    calls_in_range (ev_call u e) r h here = record { rule_in = r; position_in = h }
+    calls_in_range (ev_call u e) r h (later i) = absurd (none_in i)
+    calls_in_range (ev_body {r} q u) l h i = calls_in_range u (refers img words (root img r) (root_in_range img words r l)) h i
+    calls_in_range (ev_record q) r h i = absurd (none_in i)
 
     -- The pairs called in the body of a pair.
-    pub called-in-range :
+    pub called_in_range :
         (x : Pair) (z : Evaluation) (u : Evaluates img text answers (a_node (body img x.rule)) x.position z)
         → PairOf img text x → (y : Pair) → In y (calls_of u) → PairOf img text y
     unfolding body
-    called-in-range x z u k y i =
-        calls-in-range u (refers img words (root img x.rule) (root_in_range img words x.rule k.rule_in)) k.position_in i
+    called_in_range x z u k y i =
+        calls_in_range u (refers img words (root img x.rule) (root_in_range img words x.rule k.rule_in)) k.position_in i
 
-    pub bodies-in-range :
+    pub bodies_in_range :
         {r p : ℕ} {z : Evaluation} (u : Evaluates img text answers (a_pair r) p z) → r < rules img → p ≤ length text
         → (y : Pair) → In y (bodies_of u) → PairOf img text y
-    bodies-in-range u l h y i = all-inside (PairOf img text) called-in-range u (record { rule_in = l; position_in = h }) y i
+    bodies_in_range u l h y i = all_inside (PairOf img text) called_in_range u (record { rule_in = l; position_in = h }) y i

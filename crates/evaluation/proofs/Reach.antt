@@ -18,7 +18,7 @@ use Rattle.evaluation.proofs.Pairs.{none_in, in_either, in_left, in_right, in_is
 use Rattle.evaluation.proofs.Plain.{no_record}
 use Rattle.evaluation.proofs.Bodies.{shallower}
 use Rattle.evaluation.proofs.BodiesOnce.{bodies_once}
-use Rattle.evaluation.proofs.Range.{all-inside}
+use Rattle.evaluation.proofs.Range.{all_inside}
 
 module _ {img text : List ℕ} where
   -- Without records a pair's body is evaluated,
@@ -67,7 +67,7 @@ module _ {img text : List ℕ} where
   reached_in_lem d (called k u i) = bodies_closed d (reached_in_lem d k) u i
 
   pub in_reached : {z : Evaluation} {x : Pair} (d : Fresh img text (a_pair (start img)) 0 z) → In x (bodies_of d) → Reached img text x
-  in_reached {x = x} d i = all-inside (Reached img text) (λ x z u k y j. called k u j) d start_reached x i
+  in_reached {x = x} d i = all_inside (Reached img text) (λ x z u k y j. called k u j) d start_reached x i
 
   pub reached_is :
       {z : Evaluation} {x : Pair} (d : Fresh img text (a_pair (start img)) 0 z)

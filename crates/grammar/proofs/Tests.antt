@@ -12,7 +12,7 @@ use Rattle.grammar.proofs.Bools.{both, joined}
 use Rattle.grammar.specs.Image.{edition, rules, nodes, start, rule_zero, root, kind, node_zero, field_a, field_b}
 use Rattle.grammar.specs.Questions.{Question1, Question2, Question3, Question4, Question5, Lawful, LawfulRule, LawfulNode}
 use Rattle.grammar.specs.Questions.{roots, children_below, occurrences}
-use Rattle.grammar.specs.Tests.{where_so, every, editionTest, countsTest, sizeTest, headerTest, ruleTest, nodeTest, wordsTest, onceTest}
+use Rattle.grammar.specs.Tests.{where_so, every, edition_test, counts_test, size_test, header_test, rule_test, node_test, words_test, once_test}
 
 asked : (a b : Bool) → where_so a b ≡ true → a ≡ true → b ≡ true
 asked true b e h = e
@@ -37,18 +37,18 @@ all_below zero f h = refl
 all_below (suc n) f h = joined (h n (omega arith)) (all_below n f (λ k l. h k (omega arith)))
 
 module _ (img : List ℕ) where
-  lawful_rule : (r : ℕ) → ruleTest img r ≡ true → LawfulRule img r
-  unfolding ruleTest
+  lawful_rule : (r : ℕ) → rule_test img r ≡ true → LawfulRule img r
+  unfolding rule_test
   lawful_rule r e =
       let t = both _ _ e in
       record { zero_bits = eqb-true (rule_zero img r) 0 t.0; root_node = ltb-true (root img r) (nodes img) t.1 }
 
-  rule_passes : (r : ℕ) → LawfulRule img r → ruleTest img r ≡ true
-  unfolding ruleTest
+  rule_passes : (r : ℕ) → LawfulRule img r → rule_test img r ≡ true
+  unfolding rule_test
   rule_passes r q = joined (eq-eqb (rule_zero img r) 0 q.zero_bits) (lt-ltb (root img r) (nodes img) q.root_node)
 
-  lawful_node : (n : ℕ) → nodeTest img n ≡ true → LawfulNode img n
-  unfolding nodeTest
+  lawful_node : (n : ℕ) → node_test img n ≡ true → LawfulNode img n
+  unfolding node_test
   lawful_node n e =
       let t1 = both _ _ e in
       let t2 = both _ _ t1.1 in
@@ -75,8 +75,8 @@ module _ (img : List ℕ) where
         called = λ h. ltb-true a (rules img) (asked _ _ t9.1 (eq-eqb k 7 h));
       }
 
-  node_passes : (n : ℕ) → LawfulNode img n → nodeTest img n ≡ true
-  unfolding nodeTest
+  node_passes : (n : ℕ) → LawfulNode img n → node_test img n ≡ true
+  unfolding node_test
   node_passes n q =
       let k = kind img n in
       let a = field_a img n in
@@ -95,16 +95,16 @@ module _ (img : List ℕ) where
       (asks _ _ (λ h. lt-ltb a (rules img) (q.called (eqb-true k 7 h))))))))))))
 
   -- Question 1,
-  pub edition_asked : editionTest img ≡ true → Question1 img
+  pub edition_asked : edition_test img ≡ true → Question1 img
   edition_asked e =
       let t = both (leb 4 (length img)) (eqb (edition img) 1) e in
       record { four_bytes = leb-true 4 (length img) t.0; edition_1 = eqb-true (edition img) 1 t.1 }
 
-  pub edition_passes : Question1 img → editionTest img ≡ true
+  pub edition_passes : Question1 img → edition_test img ≡ true
   edition_passes q = joined (le-leb 4 (length img) q.four_bytes) (eq-eqb (edition img) 1 q.edition_1)
 
   -- question 2,
-  pub counts_asked : countsTest img ≡ true → Question2 img
+  pub counts_asked : counts_test img ≡ true → Question2 img
   counts_asked e =
       let t1 = both _ _ e in
       let t2 = both _ _ t1.1 in
@@ -118,7 +118,7 @@ module _ (img : List ℕ) where
         start_rule = ltb-true (start img) (rules img) t4.1;
       }
 
-  pub counts_passes : Question2 img → countsTest img ≡ true
+  pub counts_passes : Question2 img → counts_test img ≡ true
   counts_passes q =
       joined (le-leb 1 (rules img) q.some_rules)
       (joined (le-leb (rules img) 64 q.few_rules)
@@ -126,54 +126,54 @@ module _ (img : List ℕ) where
       (joined (le-leb (nodes img) 1024 q.few_nodes) (lt-ltb (start img) (rules img) q.start_rule))))
 
   -- question 3,
-  pub size_asked : sizeTest img ≡ true → Question3 img
+  pub size_asked : size_test img ≡ true → Question3 img
   size_asked e = record { exact = eqb-true (length img) (4 + 2 * rules img + 4 * nodes img) e }
 
-  pub size_passes : Question3 img → sizeTest img ≡ true
+  pub size_passes : Question3 img → size_test img ≡ true
   size_passes q = eq-eqb (length img) (4 + 2 * rules img + 4 * nodes img) q.exact
 
-  pub header_asked : headerTest img ≡ true → Question1 img × Question2 img × Question3 img
-  unfolding headerTest
+  pub header_asked : header_test img ≡ true → Question1 img × Question2 img × Question3 img
+  unfolding header_test
   header_asked e =
-      let t = both (editionTest img) (countsTest img && sizeTest img) e in
-      let u = both (countsTest img) (sizeTest img) t.1 in
+      let t = both (edition_test img) (counts_test img && size_test img) e in
+      let u = both (counts_test img) (size_test img) t.1 in
       (edition_asked t.0, counts_asked u.0, size_asked u.1)
 
   -- question 4,
-  pub words_asked : wordsTest img ≡ true → Question4 img
-  unfolding wordsTest
+  pub words_asked : words_test img ≡ true → Question4 img
+  unfolding words_test
   words_asked e =
       let t = both _ _ e in
       record {
-        rule_words = λ r l. lawful_rule r (below (rules img) (ruleTest img) t.0 r l);
-        node_words = λ n l. lawful_node n (below (nodes img) (nodeTest img) t.1 n l);
+        rule_words = λ r l. lawful_rule r (below (rules img) (rule_test img) t.0 r l);
+        node_words = λ n l. lawful_node n (below (nodes img) (node_test img) t.1 n l);
       }
 
-  pub words_passes : Question4 img → wordsTest img ≡ true
-  unfolding wordsTest
+  pub words_passes : Question4 img → words_test img ≡ true
+  unfolding words_test
   words_passes q =
       joined
-      (all_below (rules img) (ruleTest img) (λ r l. rule_passes r (q.rule_words r l)))
-      (all_below (nodes img) (nodeTest img) (λ n l. node_passes n (q.node_words n l)))
+      (all_below (rules img) (rule_test img) (λ r l. rule_passes r (q.rule_words r l)))
+      (all_below (nodes img) (node_test img) (λ n l. node_passes n (q.node_words n l)))
 
   -- and question 5.
-  pub once_asked : every (nodes img) (onceTest img) ≡ true → Question5 img
-  unfolding onceTest
+  pub once_asked : every (nodes img) (once_test img) ≡ true → Question5 img
+  unfolding once_test
   once_asked e =
       record {
         once = λ n l.
             eqb-true (occurrences n (roots img (rules img) ++ children_below img (nodes img))) 1
-            (below (nodes img) (onceTest img) e n l);
+            (below (nodes img) (once_test img) e n l);
       }
 
-  pub once_passes : Question5 img → every (nodes img) (onceTest img) ≡ true
-  unfolding onceTest
+  pub once_passes : Question5 img → every (nodes img) (once_test img) ≡ true
+  unfolding once_test
   once_passes q =
-      all_below (nodes img) (onceTest img)
+      all_below (nodes img) (once_test img)
       (λ n l. eq-eqb (occurrences n (roots img (rules img) ++ children_below img (nodes img))) 1 (q.once n l))
 
   -- An image that passes the three tests is lawful.
-  pub lawful_image : headerTest img ≡ true → wordsTest img ≡ true → every (nodes img) (onceTest img) ≡ true → Lawful img
+  pub lawful_image : header_test img ≡ true → words_test img ≡ true → every (nodes img) (once_test img) ≡ true → Lawful img
   lawful_image h w o =
       let q = header_asked h in
       record { header = q.0; counts = q.1; size = q.2; words = words_asked w; tree = once_asked o }

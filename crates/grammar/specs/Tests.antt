@@ -16,29 +16,29 @@ every (suc n) f = f n && every n f
 
 module _ (img : List ℕ) where
   -- Questions 1,
-  abbrev pub editionTest : Bool
-  editionTest = leb 4 (length img) && eqb (edition img) 1
+  abbrev pub edition_test : Bool
+  edition_test = leb 4 (length img) && eqb (edition img) 1
 
   -- 2,
-  abbrev pub countsTest : Bool
-  countsTest =
+  abbrev pub counts_test : Bool
+  counts_test =
       leb 1 (rules img)
       && (leb (rules img) 64 && (leb 1 (nodes img) && (leb (nodes img) 1024 && ltb (start img) (rules img))))
 
   -- and 3;
-  abbrev pub sizeTest : Bool
-  sizeTest = eqb (length img) (4 + 2 * rules img + 4 * nodes img)
+  abbrev pub size_test : Bool
+  size_test = eqb (length img) (4 + 2 * rules img + 4 * nodes img)
 
   -- all three at once.
-  unfoldable pub headerTest : Bool
-  headerTest = editionTest && (countsTest && sizeTest)
+  unfoldable pub header_test : Bool
+  header_test = edition_test && (counts_test && size_test)
 
   -- Question 4, of a rule, of a node, and of all words.
-  unfoldable pub ruleTest : ℕ → Bool
-  ruleTest r = eqb (rule_zero img r) 0 && ltb (root img r) (nodes img)
+  unfoldable pub rule_test : ℕ → Bool
+  rule_test r = eqb (rule_zero img r) 0 && ltb (root img r) (nodes img)
 
-  unfoldable pub nodeTest : ℕ → Bool
-  nodeTest n =
+  unfoldable pub node_test : ℕ → Bool
+  node_test n =
       where_so (not (eqb (kind img n) 2)) (eqb (node_zero img n) 0)
       && (where_so (eqb (kind img n) 2) (leb (node_zero img n) 1)
       && (leb (kind img n) 7
@@ -50,9 +50,9 @@ module _ (img : List ℕ) where
       && (where_so (leb 3 (kind img n) && leb (kind img n) 4) (ltb n (field_b img n) && ltb (field_b img n) (nodes img))
       && where_so (eqb (kind img n) 7) (ltb (field_a img n) (rules img))))))))))
 
-  unfoldable pub wordsTest : Bool
-  wordsTest = every (rules img) ruleTest && every (nodes img) nodeTest
+  unfoldable pub words_test : Bool
+  words_test = every (rules img) rule_test && every (nodes img) node_test
 
   -- Question 5, of a node.
-  unfoldable pub onceTest : ℕ → Bool
-  onceTest n = eqb (occurrences n (roots img (rules img) ++ children_below img (nodes img))) 1
+  unfoldable pub once_test : ℕ → Bool
+  once_test n = eqb (occurrences n (roots img (rules img) ++ children_below img (nodes img))) 1

@@ -87,8 +87,8 @@ module _ (img L M : List ℕ) (m n : ℕ)
         sum : (z l m x y w : ℕ) → z ≡ 0 → w ≡ x + y → min 2 l ≡ min 2 (z + x) → min 2 m ≡ min 2 (l + y) → min 2 m ≡ min 2 w
         sum z l m x y w e d p q = omega arith
 
-    pub once-of-count : get_or M n 0 ≡ 1 → occurrences n (roots img (rules img) ++ children_below img (nodes img)) ≡ 1
-    once-of-count e = omega (arith, counted)
+    pub once_of_count : get_or M n 0 ≡ 1 → occurrences n (roots img (rules img) ++ children_below img (nodes img)) ≡ 1
+    once_of_count e = omega (arith, counted)
 
-    pub count-of-once : occurrences n (roots img (rules img) ++ children_below img (nodes img)) ≡ 1 → get_or M n 0 ≡ 1
-    count-of-once e = omega (arith, counted)
+    pub count_of_once : occurrences n (roots img (rules img) ++ children_below img (nodes img)) ≡ 1 → get_or M n 0 ≡ 1
+    count_of_once e = omega (arith, counted)

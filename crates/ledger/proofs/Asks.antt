@@ -20,39 +20,39 @@ module _ {ev : Evaluations} {cap : ℕ} {rest : List ℕ} {l : Ledger} {B : List
   good = sheet_first l.image (length B) n (length W) l.accepted (lent v)
 
   module _ (s e : ℕ) where
-    pub passes-9 : passes9 l s e ≡ true → Question9 n s e
-    passes-9 t =
+    pub passes_9 : passes9 l s e ≡ true → Question9 n s e
+    passes_9 t =
         let b = both (leb s e) (leb e (length l.text)) t in
         record { ordered = leb-true s e b.0; in_text = rw v.length_is (leb-true e (length l.text) b.1) }
 
-    pub fails-9 : passes9 l s e ≡ false → Question9 n s e → ⊥
-    fails-9 t x =
+    pub fails_9 : passes9 l s e ≡ false → Question9 n s e → ⊥
+    fails_9 t x =
         true≢false
         (sym
         (joined (le-leb s e x.ordered)
         (le-leb e (length l.text) (rw (sym v.length_is) x.in_text)))
         ∙ t)
 
-    pub passes-10 : (r : List ℕ) → passes10 cap l s e r ≡ true → Question10 (length B) n s e (length r)
-    passes-10 r t =
+    pub passes_10 : (r : List ℕ) → passes10 cap l s e r ≡ true → Question10 (length B) n s e (length r)
+    passes_10 r t =
         record { room = rw (cap_is v, v.length_is) (leb-true (new_length (length l.text) s e (length r)) cap t) }
 
-    pub fails-10 : (r : List ℕ) → passes10 cap l s e r ≡ false → Question10 (length B) n s e (length r) → ⊥
-    fails-10 r t x =
+    pub fails_10 : (r : List ℕ) → passes10 cap l s e r ≡ false → Question10 (length B) n s e (length r) → ⊥
+    fails_10 r t x =
         let h : new_length (length l.text) s e (length r) ≤ cap = rw (cap_is v, v.length_is) at x.room in
         true≢false (sym (le-leb (new_length (length l.text) s e (length r)) cap h) ∙ t)
 
   module _ (rule q : ℕ) where
-    pub passes-11 : passes11 l rule q ≡ true → Question11 l.image n rule q
-    passes-11 t =
+    pub passes_11 : passes11 l rule q ≡ true → Question11 l.image n rule q
+    passes_11 t =
         let b = both (ltb rule (rules l.image)) (leb q (length l.text)) t in
         record {
           rule_in = ltb-true rule (rules l.image) b.0;
           position_in = rw v.length_is (leb-true q (length l.text) b.1);
         }
 
-    pub fails-11 : passes11 l rule q ≡ false → Question11 l.image n rule q → ⊥
-    fails-11 t x =
+    pub fails_11 : passes11 l rule q ≡ false → Question11 l.image n rule q → ⊥
+    fails_11 t x =
         true≢false
         (sym
         (joined (lt-ltb rule (rules l.image) x.rule_in)

@@ -30,7 +30,7 @@ use Rattle.promises.specs.Answers.{sheet_reading, read_number, list_number}
 use Rattle.promises.specs.Reading.{ReadPromise}
 use Rattle.promises.specs.Listing.{ListPromise}
 use Rattle.ledger.specs.Ledger.{Evaluations, Call, edit, reading, look_up, listing, Reply, edits, reads, finds, lists, Ledger, opened_ledger, turn, replies}
-use Rattle.ledger.specs.Ledger.{value_in, rows_in, new_pairs, passes9, passes10, passes11, passes14, passes15, editTurn, readTurn, lookUpTurn, listTurn}
+use Rattle.ledger.specs.Ledger.{value_in, rows_in, new_pairs, passes9, passes10, passes11, passes14, passes15, edit_turn, read_turn, look_up_turn, list_turn}
 use Rattle.ledger.specs.Demand.{loan, rows_given}
 use Rattle.ledger.specs.Corollaries.{LedgersNumber, All, OnlyTheseNumbers, in_session, AsPlain, in_listing, rows_if, ListsAsPlain}
 use Rattle.promises.proofs.Asked.{first_rest, image_numbers}
@@ -42,20 +42,20 @@ use Rattle.ledger.proofs.Demand.{opened_image, opening, Holds, holds, all_calls,
 
 -- The ledger's numbers.
 module _ (ev : Evaluations) (cap : ℕ) where
-  edit_number_lem : (a b : Bool) (l : Ledger) (s e : ℕ) (r : List ℕ) → LedgersNumber (editTurn ev a b l s e r).reply
+  edit_number_lem : (a b : Bool) (l : Ledger) (s e : ℕ) (r : List ℕ) → LedgersNumber (edit_turn ev a b l s e r).reply
   edit_number_lem false b l s e r = inr (inl refl)
   edit_number_lem true false l s e r = inr (inr refl)
   edit_number_lem true true l s e r = inl refl
 
-  read_number_lem : (b : Bool) (l : Ledger) → LedgersNumber (readTurn ev b l).reply
+  read_number_lem : (b : Bool) (l : Ledger) → LedgersNumber (read_turn ev b l).reply
   read_number_lem false l = inr refl
   read_number_lem true l = inl refl
 
-  look_up_number_lem : (b : Bool) (l : Ledger) (rule q : ℕ) → LedgersNumber (lookUpTurn ev b l rule q).reply
+  look_up_number_lem : (b : Bool) (l : Ledger) (rule q : ℕ) → LedgersNumber (look_up_turn ev b l rule q).reply
   look_up_number_lem false l rule q = inr refl
   look_up_number_lem true l rule q = inl refl
 
-  list_number_lem : (a b : Bool) (l : Ledger) → LedgersNumber (listTurn ev a b l).reply
+  list_number_lem : (a b : Bool) (l : Ledger) → LedgersNumber (list_turn ev a b l).reply
   list_number_lem false b l = inr (inl refl)
   list_number_lem true false l = inr (inr refl)
   list_number_lem true true l = inl refl
@@ -107,20 +107,20 @@ Answered n z false x count = ReadAnswer.Refused 14 ≡ in_session x count
 module _ (img text : List ℕ) (accepted : Accepted img) (short : length text ≤ 65535) (z : Evaluation)
     (e : Fresh img text (a_pair (start img)) 0 z)
   where
-    abbrev last-two : List Question
-    last-two = record { number = 8; holds = ShortText text } ∷ record { number = 14; holds = DepthAllowed img text } ∷ []
+    abbrev last_two : List Question
+    last_two = record { number = 8; holds = ShortText text } ∷ record { number = 14; holds = DepthAllowed img text } ∷ []
 
-    own : (k : ℕ) → First (of_plain img text) k → First last-two k
-    own k f = first_rest (of_image img) last-two k (image_numbers img) (checked accepted).first f
+    own : (k : ℕ) → First (of_plain img text) k → First last_two k
+    own k f = first_rest (of_image img) last_two k (image_numbers img) (checked accepted).first f
 
-    allowed : (k : ℕ) → First last-two k → k ≡ 0 → z.nesting ≤ 4096
+    allowed : (k : ℕ) → First last_two k → k ≡ 0 → z.nesting ≤ 4096
     allowed k (inl a) f = absurd (let g = a.1 in omega arith)
     allowed k (inr (q, inl a)) f = absurd (let g = a.1 in omega arith)
     allowed k (inr (q, inr (d, g))) f =
         let same = ap (λ (x : Evaluation). x.nesting) (one img text bodies_only d.evaluated e) in
         omega (arith, d.allowed)
 
-    is-14 : (k : ℕ) → First last-two k → 1 ≤ k → k ≡ 14
+    is-14 : (k : ℕ) → First last_two k → 1 ≤ k → k ≡ 14
     is-14 k (inl a) h = absurd (a.0 (record { short = short }))
     is-14 k (inr (q, inl a)) h = a.1
     is-14 k (inr (q, inr (d, g))) h = absurd (omega arith)
@@ -180,7 +180,7 @@ module _ {ev : Evaluations} {cap : ℕ} {rest : List ℕ} {l : Ledger} {B : List
 
     by-nesting :
         (b : Bool) → Answered (length l.text) (value_in ev l (start l.image) 0) b x (new_pairs ev l)
-        → (readTurn ev b l).reply ≡ reads (in_session x (new_pairs ev l))
+        → (read_turn ev b l).reply ≡ reads (in_session x (new_pairs ev l))
     by-nesting true f = ap reads f
     by-nesting false f = ap reads f
 
@@ -189,7 +189,7 @@ module _ {ev : Evaluations} {cap : ℕ} {rest : List ℕ} {l : Ledger} {B : List
         → (a ≡ in_session x (new_pairs ev l)) × LedgersNumber (reads a) × (take n B ≡ l.text)
     unfolding turn
     plain_step {a} p =
-        let e : reads a ≡ (readTurn ev (passes14 ev l) l).reply = (read_step v p).0 in
+        let e : reads a ≡ (read_turn ev (passes14 ev l) l).reply = (read_step v p).0 in
         let f = by-nesting (passes14 ev l) given in
         (cc, subst LedgersNumber (sym e) (read_number_lem ev cap (passes14 ev l) l), text_is v)
 
@@ -201,7 +201,7 @@ module _ {ev : Evaluations} {cap : ℕ} {rest : List ℕ} {l : Ledger} {B : List
     by-questions :
         (slots : ℕ) (b c : Bool) → passes15 ev l slots ≡ c → (y : PlainAnswer)
         → Answered (length l.text) (value_in ev l (start l.image) 0) b y (new_pairs ev l)
-        → listing_in (listTurn ev b c l).reply ≡ in_listing y (new_pairs ev l) slots (rows_in ev l)
+        → listing_in (list_turn ev b c l).reply ≡ in_listing y (new_pairs ev l) slots (rows_in ev l)
     by-questions slots false c e (PlainAnswer.Read y) f = absurd (let z : ◌≡◌ {A = ℕ} 14 0 = ap read_number f in omega arith)
     by-questions slots false c e (PlainAnswer.Refused k) f = ap ListAnswer.Refused (ap read_number f)
     by-questions slots true c e (PlainAnswer.Refused k) f = absurd (refused_not_read f)
@@ -212,7 +212,7 @@ module _ {ev : Evaluations} {cap : ℕ} {rest : List ℕ} {l : Ledger} {B : List
         ap (λ (b : Bool). rows_if b (reading_or (in_session (PlainAnswer.Read y) (new_pairs ev l))) (rows_in ev l)) (sym e)
 
     -- An answered listing's reply has the ledger's rows.
-    by_number : (b c : Bool) → list_number (listing_in (listTurn ev b c l).reply) ≡ 0 → rows_of_reply (listTurn ev b c l).reply ≡ rows_in ev l
+    by_number : (b c : Bool) → list_number (listing_in (list_turn ev b c l).reply) ≡ 0 → rows_of_reply (list_turn ev b c l).reply ≡ rows_in ev l
     by_number false c e = absurd (omega arith)
     by_number true false e = absurd (omega arith)
     by_number true true e = refl
@@ -222,7 +222,7 @@ module _ {ev : Evaluations} {cap : ℕ} {rest : List ℕ} {l : Ledger} {B : List
         → AsListing (length R) a (rows_given a R')
     unfolding turn
     list-plain {R} {a} {W'} {R'} p =
-        let e : lists a (rows_given a R') ≡ (listTurn ev (passes14 ev l) (passes15 ev l (length R)) l).reply = (list_step v p).0 in (
+        let e : lists a (rows_given a R') ≡ (list_turn ev (passes14 ev l) (passes15 ev l (length R)) l).reply = (list_step v p).0 in (
           ap listing_in e ∙ by-questions (length R) (passes14 ev l) (passes15 ev l (length R)) refl x given,
           λ k.
               ap rows_of_reply e

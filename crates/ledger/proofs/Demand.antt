@@ -13,15 +13,15 @@ use Rattle.editing.specs.Table.{table_size}
 use Rattle.promises.specs.declared.OpenAnswer.{OpenAnswer}
 use Rattle.promises.specs.Questions.{Question8}
 use Rattle.promises.specs.Promises.{OpenPromise}
-use Rattle.ledger.specs.Ledger.{Evaluations, Call, edit, reading, look_up, listing, Reply, Ledger, opened_ledger, turn, replies, leftBy}
-use Rattle.ledger.specs.Ledger.{passes9, passes10, passes11, passes14, passes15, editTurn, readTurn, lookUpTurn, listTurn}
+use Rattle.ledger.specs.Ledger.{Evaluations, Call, edit, reading, look_up, listing, Reply, Ledger, opened_ledger, turn, replies, left_by}
+use Rattle.ledger.specs.Ledger.{passes9, passes10, passes11, passes14, passes15, edit_turn, read_turn, look_up_turn, list_turn}
 use Rattle.ledger.specs.Demand.{Loan, loan, Link, edit_link, read_link, look_up_link, list_link, Trace, done, next, Agrees, Demand3}
 use Rattle.promises.proofs.Asked.{sheet_passed}
 use Rattle.ledger.proofs.Inv.{Inv, agrees}
 use Rattle.ledger.proofs.StepRead.{inv_empty, read_step}
 use Rattle.ledger.proofs.StepList.{list_step}
-use Rattle.ledger.proofs.StepEdit.{edit-step}
-use Rattle.ledger.proofs.StepLookUp.{look-up-step}
+use Rattle.ledger.proofs.StepEdit.{edit_step}
+use Rattle.ledger.proofs.StepLookUp.{look_up_step}
 
 pub opened_image :
     {img text B W B' W' : List ℕ} {n : ℕ} → OpenPromise img text B W (OpenAnswer.Opened n) B' W'
@@ -45,20 +45,20 @@ pub data Holds (ev : Evaluations) (cap : ℕ) (rest : List ℕ) (l : Ledger) : L
 
 -- No call changes the ledger's image.
 module _ (ev : Evaluations) (cap : ℕ) (l : Ledger) where
-  edit_image : (a b : Bool) (s e : ℕ) (r : List ℕ) → (editTurn ev a b l s e r).left.image ≡ l.image
+  edit_image : (a b : Bool) (s e : ℕ) (r : List ℕ) → (edit_turn ev a b l s e r).left.image ≡ l.image
   edit_image true true s e r = refl
   edit_image true false s e r = refl
   edit_image false b s e r = refl
 
-  read_image : (b : Bool) → (readTurn ev b l).left.image ≡ l.image
+  read_image : (b : Bool) → (read_turn ev b l).left.image ≡ l.image
   read_image true = refl
   read_image false = refl
 
-  look_up_image : (b : Bool) (rule q : ℕ) → (lookUpTurn ev b l rule q).left.image ≡ l.image
+  look_up_image : (b : Bool) (rule q : ℕ) → (look_up_turn ev b l rule q).left.image ≡ l.image
   look_up_image true rule q = refl
   look_up_image false rule q = refl
 
-  list_image : (a b : Bool) → (listTurn ev a b l).left.image ≡ l.image
+  list_image : (a b : Bool) → (list_turn ev a b l).left.image ≡ l.image
   list_image true true = refl
   list_image true false = refl
   list_image false b = refl
@@ -81,20 +81,20 @@ module _ (ev : Evaluations) (cap : ℕ) (rest : List ℕ) where
   pub one_call :
       {l : Ledger} {a b : Loan} {call : Call} {reply : Reply} → Holds ev cap rest l a → Link a call reply b
       → (reply ≡ (turn ev cap l call).reply) × Holds ev cap rest (turn ev cap l call).left b
-  one_call {l} (holds v) (edit_link {r = r} {s = s} {e = e} p) = let x = edit-step v s e r p in (x.0, still l (edit s e r) x.1)
+  one_call {l} (holds v) (edit_link {r = r} {s = s} {e = e} p) = let x = edit_step v s e r p in (x.0, still l (edit s e r) x.1)
   one_call {l} (holds v) (read_link p) = let x = read_step v p in (x.0, still l reading x.1)
   one_call {l} (holds v) (look_up_link {rule = rule} {position = q} p) =
-      let x = look-up-step v rule q p in (x.0, still l (look_up rule q) x.1)
+      let x = look_up_step v rule q p in (x.0, still l (look_up rule q) x.1)
   one_call {l} (holds v) (list_link {R = R} p) = let x = list_step v p in (x.0, still l (listing (length R)) x.1)
 
   pub all_calls :
       {l : Ledger} {a b : Loan} {calls : List Call} {answers : List Reply} → Holds ev cap rest l a → Trace a calls answers b
-      → (answers ≡ replies ev cap l calls) × Holds ev cap rest (leftBy ev cap l calls) b
-  unfolding replies leftBy
+      → (answers ≡ replies ev cap l calls) × Holds ev cap rest (left_by ev cap l calls) b
+  unfolding replies left_by
   all_calls h done = (refl, h)
-  all_calls h (next k t) =
+  all_calls {l = l} h (next {call = call} k t) =
       let x = one_call h k in
-      let y = all_calls x.1 t in
+      let y = all_calls {l = (turn ev cap l call).left} x.1 t in
       ((λ i. x.0 i ∷ y.0 i), y.1)
 
   -- What the invariant says of a loan.

@@ -19,8 +19,8 @@ use Rattle.grammar.specs.Questions.{Accepted}
 use Rattle.grammar.specs.Evaluates.{Fresh, Subject, bodies_only, a_pair}
 use Rattle.grammar.proofs.Determinism.{one}
 use Rattle.evaluation.specs.Calls.{Pair, calls_of}
-use Rattle.evaluation.proofs.Locality.{prefix-decides, moved}
-use Rattle.evaluation.proofs.CallLocality.{prefix-calls, moved_calls, shifted}
+use Rattle.evaluation.proofs.Locality.{prefix_decides, moved}
+use Rattle.evaluation.proofs.CallLocality.{prefix_calls, moved_calls, shifted}
 use Rattle.evaluation.proofs.Relocation.{Back, moved_back}
 use Rattle.editing.specs.Text.{EditFits, new_length, edited}
 use Rattle.editing.proofs.Loans.{edited_long}
@@ -98,19 +98,19 @@ module _ (cap : ℕ) (text r : List ℕ) (s e : ℕ) (fits : EditFits cap (lengt
     stay-there :
         {t : Subject} {q : ℕ} {z : Evaluation} → Fresh img text t q z → q + z.examined ≤ s → Fresh img (edited text s e r) t q z
     stay-there u h =
-        prefix-decides img text (edited text s e r) bodies_only s s_in_text s_in_after (sym front_same) u h
+        prefix_decides img text (edited text s e r) bodies_only s s_in_text s_in_after (sym front_same) u h
 
-    pub stay-back :
+    pub stay_back :
         {t : Subject} {q : ℕ} {z : Evaluation} → Fresh img (edited text s e r) t q z → q + z.examined ≤ s → Fresh img text t q z
-    stay-back u h =
-        prefix-decides img (edited text s e r) text bodies_only s s_in_after s_in_text front_same u h
+    stay_back u h =
+        prefix_decides img (edited text s e r) text bodies_only s s_in_after s_in_text front_same u h
 
-    pub stay-calls :
+    pub stay_calls :
         {t : Subject} {q : ℕ} {z : Evaluation} (u : Fresh img (edited text s e r) t q z) (h : q + z.examined ≤ s)
-        → calls_of (stay-back u h) ≡ calls_of u
-    unfolding stay-back
-    stay-calls u h =
-        prefix-calls img (edited text s e r) text bodies_only s s_in_after s_in_text front_same u h
+        → calls_of (stay_back u h) ≡ calls_of u
+    unfolding stay_back
+    stay_calls u h =
+        prefix_calls img (edited text s e r) text bodies_only s s_in_after s_in_text front_same u h
 
     -- Where a position behind the edit was before it.
     pub was : (q : ℕ) → s + length r ≤ q → q - length r + (e - s) ≡ e + (q - (s + length r))
@@ -133,9 +133,9 @@ module _ (cap : ℕ) (text r : List ℕ) (s e : ℕ) (fits : EditFits cap (lengt
         (λ w. moved_back img (take s text ++ r) (drop e text) w (q - (s + length r)) (is-now q h))
         u
 
-    pub carry-there :
+    pub carry_there :
         {t : Subject} {z : Evaluation} (j : ℕ) (w : Fresh img (drop e text) t j z) → Forth img text e t (e + j) z (calls_of w)
-    carry-there {t} {z} j w =
+    carry_there {t} {z} j w =
         subst (λ (l : List ℕ). Forth img l e t (e + j) z (calls_of w)) (take-append-drop e text)
         (record {
           evaluated = moved img (take e text) (drop e text) w (e + j) (is-then j);
@@ -146,19 +146,19 @@ module _ (cap : ℕ) (text r : List ℕ) (s e : ℕ) (fits : EditFits cap (lengt
 
     -- A pair that stands has its old evaluation.
     module _ (ev : Evaluations) (accepted : Accepted img) where
-      pub value-stay :
+      pub value_stay :
           (rule q : ℕ) → rule < rules img → q ≤ length text → q + (ev.value img accepted text rule q).examined ≤ s
           → ev.value img accepted (edited text s e r) rule q ≡ ev.value img accepted text rule q
-      value-stay rule q l h k =
+      value_stay rule q l h k =
           one img (edited text s e r) bodies_only
           (ev.value_is img accepted (edited text s e r) rule q l (let a = s_in_after in omega arith))
           (stay-there (ev.value_is img accepted text rule q l h) k)
 
-      pub value-carry :
+      pub value_carry :
           (rule q : ℕ) → rule < rules img → s + length r ≤ q → q ≤ new_length (length text) s e (length r)
           → ev.value img accepted (edited text s e r) rule q ≡ ev.value img accepted text rule (q - length r + (e - s))
-      value-carry rule q l h k =
+      value_carry rule q l h k =
           let u = ev.value_is img accepted (edited text s e r) rule q l (rw (edited_long cap s e text r fits) k) in
           let v = ev.value_is img accepted text rule (q - length r + (e - s)) l (omega arith) in
-          one img text bodies_only (carry-there (q - (s + length r)) (carry_back u h).evaluated).evaluated
+          one img text bodies_only (carry_there (q - (s + length r)) (carry_back u h).evaluated).evaluated
           (subst (λ (p : ℕ). Fresh img text (a_pair rule) p (ev.value img accepted text rule (q - length r + (e - s)))) (was q h) v)

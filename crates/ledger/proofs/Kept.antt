@@ -15,7 +15,7 @@ use Rattle.promises.specs.declared.EditedSheet.{EditedSheet}
 use Rattle.promises.specs.declared.LookUpAnswer.{LookUpAnswer}
 use Rattle.promises.specs.Questions.{Question9, Question10, Question11, of_sheet, of_edit, of_look_up}
 use Rattle.promises.specs.Promises.{OpenPromise, EditPromise, LookUpPromise}
-use Rattle.promises.proofs.Asked.{edit-0, look-up-0}
+use Rattle.promises.proofs.Asked.{edit_0, look_up_0}
 
 module _ (img text B W : List ℕ) where
   pub open_done :
@@ -33,7 +33,7 @@ module _ (img B : List ℕ) (n : ℕ) (W : List ℕ) where
         → EditPromise img B n W s e r (EditAnswer.Refused k) B W
     edit_refused k h f = record { first = f; values = record { numbered = h; same_bytes = refl; same_words = refl } }
 
-    pub edit-done :
+    pub edit_done :
         {x : EditedSheet} {B' W' : List ℕ}
         → First (of_sheet img (length B) n (length W)) 0
         → Question9 n s e
@@ -43,22 +43,22 @@ module _ (img B : List ℕ) (n : ℕ) (W : List ℕ) where
         → B' ≡ text_after B n s e r
         → W' ≡ table_after (rules img) (length B) n s e (length r) W
         → EditPromise img B n W s e r (EditAnswer.Edited x) B' W'
-    edit-done f p q l c b w =
+    edit_done f p q l c b w =
         record {
-          first = edit-0 img (length B) n (length W) f s e (length r) p q;
+          first = edit_0 img (length B) n (length W) f s e (length r) p q;
           values = record { length_is = l; standing_are = c; bytes_are = b; words_are = w };
         }
 
   module _ (rule position : ℕ) where
-    pub look-up-refused :
+    pub look_up_refused :
         (k : ℕ) → 1 ≤ k → First (of_look_up img (length B) n (length W) rule position) k
         → LookUpPromise img B n W rule position (LookUpAnswer.Refused k)
-    look-up-refused k h f = record { first = f; values = h }
+    look_up_refused k h f = record { first = f; values = h }
 
-    pub look-up-done :
+    pub look_up_done :
         {w : ℕ}
         → First (of_sheet img (length B) n (length W)) 0
         → Question11 img n rule position
         → w ≡ word_at img W rule position
         → LookUpPromise img B n W rule position (LookUpAnswer.Word w)
-    look-up-done f q e = record { first = look-up-0 img (length B) n (length W) f rule position q; values = e }
+    look_up_done f q e = record { first = look_up_0 img (length B) n (length W) f rule position q; values = e }

@@ -28,7 +28,7 @@ use Rattle.ledger.specs.Ledger.{Reply, listing, lists}
 use Rattle.ledger.specs.Demand.{loan, Link, list_link, rows_given}
 use Rattle.promises.proofs.Asked.{sheet_passed}
 use Rattle.loaded.proofs.LoadedImage.{loaded_words, image_loaded}
-use Rattle.promises.proofs.SheetLists.{refused-listed, written_listed, stopped-listed, lists_done}
+use Rattle.promises.proofs.SheetLists.{refused_listed, written_listed, stopped_listed, lists_done}
 
 -- The walk over the words that its reading left, its reply, and the words that are left then.
 abbrev pub walk_over : (slots : ℕ) (img text words : List ℕ) → Trail
@@ -101,7 +101,7 @@ module _ (img B : List ℕ) (n : ℕ) (W : List ℕ) (good : First (of_sheet img
             (image_loaded img passed.0.lawful) e w (let f = b.fit in omega arith))))
         go (stopped k) w h =
             linked
-            (stopped-listed img (take n B) (length B) W R passed.0 passed.1.short text_fits passed.1.whole_table
+            (stopped_listed img (take n B) (length B) W R passed.0 passed.1.short text_fits passed.1.whole_table
             (image_loaded img passed.0.lawful) e w h)
 
     run-linked :
@@ -116,7 +116,7 @@ module _ (img B : List ℕ) (n : ℕ) (W : List ℕ) (good : First (of_sheet img
         (omega arith))
     run-linked (out (refused k) words count) e =
         linked
-        (refused-listed img (take n B) (length B) W R passed.0 passed.1.short text_fits passed.1.whole_table
+        (refused_listed img (take n B) (length B) W R passed.0 passed.1.short text_fits passed.1.whole_table
         (image_loaded img passed.0.lawful) e)
 
   pub list_linked :

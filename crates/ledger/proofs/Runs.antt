@@ -23,11 +23,11 @@ use Rattle.promises.specs.declared.LookUpAnswer.{LookUpAnswer}
 use Rattle.promises.specs.Questions.{Question8, Question9, of_sheet}
 use Rattle.promises.specs.Promises.{OpenPromise, EditPromise, LookUpPromise}
 use Rattle.promises.specs.Run.{answer_of, words_of}
-use Rattle.ledger.specs.Ledger.{Evaluations, Call, edit, reading, look_up, listing, Reply, edits, reads, finds, Ledger, opened_ledger, replies}
+use Rattle.ledger.specs.Ledger.{Evaluations, Call, edit, reading, look_up, listing, Reply, edits, reads, finds, Ledger, opened_ledger, turn, replies}
 use Rattle.ledger.specs.Demand.{Loan, loan, Link, edit_link, read_link, look_up_link, next_length, Trace, done, next, RunsExist}
 use Rattle.grammar.proofs.Bools.{both, joined}
-use Rattle.promises.proofs.Asked.{sheet_first, sheet_passed, edit-9, edit-10, look-up-11}
-use Rattle.ledger.proofs.Kept.{open_done, edit_refused, edit-done, look-up-refused, look-up-done}
+use Rattle.promises.proofs.Asked.{sheet_first, sheet_passed, edit_9, edit_10, look_up_11}
+use Rattle.ledger.proofs.Kept.{open_done, edit_refused, edit_done, look_up_refused, look_up_done}
 use Rattle.promises.proofs.SheetReads.{reads_are}
 use Rattle.ledger.proofs.RunLists.{list_reply, list_words, list_linked}
 use Rattle.ledger.proofs.Fresh.{evaluations}
@@ -107,7 +107,7 @@ module _ (img B : List ℕ) (n : ℕ) (W : List ℕ) (good : First (of_sheet img
       (edit_words b c img (length B) n W s e (length r))
   edit_kept s e r false c t u =
       edit_refused img B n W s e r 9 (omega arith)
-      (edit-9 img (length B) n (length W) good s e (length r)
+      (edit_9 img (length B) n (length W) good s e (length r)
       (λ q. true≢false (sym (joined (le-leb s e q.ordered) (le-leb e n q.in_text)) ∙ t)))
   edit_kept s e r true c t u = go c u
     where
@@ -120,22 +120,22 @@ module _ (img B : List ℕ) (n : ℕ) (W : List ℕ) (good : First (of_sheet img
           (edit_words true c img (length B) n W s e (length r))
       go false u =
           edit_refused img B n W s e r 10 (omega arith)
-          (edit-10 img (length B) n (length W) good s e (length r) asked
+          (edit_10 img (length B) n (length W) good s e (length r) asked
           (λ q. true≢false (sym (le-leb (new_length n s e (length r)) (length B) q.room) ∙ u)))
       go true u =
-          edit-done img B n W s e r good asked (record { room = leb-true (new_length n s e (length r)) (length B) u }) refl refl refl refl
+          edit_done img B n W s e r good asked (record { room = leb-true (new_length n s e (length r)) (length B) u }) refl refl refl refl
 
   look_up_kept :
       (rule q : ℕ) (b : Bool) → asks11 img n rule q ≡ b → LookUpPromise img B n W rule q (look_up_answer b img W rule q)
   look_up_kept rule q false t =
-      look-up-refused img B n W rule q 11 (omega arith)
-      (look-up-11 img (length B) n (length W) good rule q
+      look_up_refused img B n W rule q 11 (omega arith)
+      (look_up_11 img (length B) n (length W) good rule q
       (λ x.
       true≢false
       (sym (joined (lt-ltb rule (rules img) x.rule_in) (le-leb q n x.position_in)) ∙ t)))
   look_up_kept rule q true t =
       let b = both (ltb rule (rules img)) (leb q n) t in
-      look-up-done img B n W rule q good (record { rule_in = ltb-true rule (rules img) b.0; position_in = leb-true q n b.1 }) refl
+      look_up_done img B n W rule q good (record { rule_in = ltb-true rule (rules img) b.0; position_in = leb-true q n b.1 }) refl
 
   a_link : (call : Call) → Link (loan img B n W) call (reply_of (loan img B n W) call) (next_of (loan img B n W) call)
   a_link (edit s e r) = edit_link (edit_kept s e r (asks9 n s e) (asks10 (length B) n s e (length r)) refl refl)
@@ -151,7 +151,7 @@ module _ (ev : Evaluations) (cap : ℕ) (rest : List ℕ) where
 
   run_from : {l : Ledger} {a : Loan} → Holds ev cap rest l a → (calls : List Call) → Trace a calls (replies_of a calls) (end_of a calls)
   run_from h [] = done
-  run_from h (c ∷ cs) = let k = link_from h c in next k (run_from (one_call ev cap rest h k).1 cs)
+  run_from {l = l} h (c ∷ cs) = let k = link_from h c in next k (run_from {l = (turn ev cap l c).left} (one_call ev cap rest h k).1 cs)
 
 -- From every accepted opening there is a run of every list of calls.
 pub a_run :

@@ -20,7 +20,7 @@ use Rattle.promises.specs.declared.ReadAnswer.{ReadAnswer}
 use Rattle.promises.specs.declared.ListAnswer.{ListAnswer}
 use Rattle.promises.specs.Promises.{OpenPromise}
 use Rattle.ledger.specs.Ledger.{Evaluations, Call, reading, listing, Reply, reads, lists, opened_ledger, replies, turn}
-use Rattle.ledger.specs.Ledger.{passes14, passes15, readTurn, listTurn}
+use Rattle.ledger.specs.Ledger.{passes14, passes15, read_turn, list_turn}
 use Rattle.ledger.specs.Demand.{loan}
 use Rattle.ledger.specs.Sessions.{SessionSays}
 use Rattle.ledger.proofs.Demand.{demand_3}
@@ -98,5 +98,5 @@ module _ (img text : List ℕ) (cap : ℕ) (accepted : Accepted img) (small : ca
           ≡ reads (ReadAnswer.Refused 14) ∷ lists (ListAnswer.Refused 14) [] ∷ []
       given ev =
           let l = opened_ledger img accepted text in
-          ap (λ (b : Bool). (readTurn ev b l).reply ∷ (listTurn ev (passes14 ev (readTurn ev b l).left) (passes15 ev (readTurn ev b l).left slots) (readTurn ev b l).left).reply ∷ []) (fails ev)
-          ∙ ap (λ (b : Bool). reads (ReadAnswer.Refused 14) ∷ (listTurn ev b (passes15 ev l slots) l).reply ∷ []) (fails ev)
+          ap (λ (b : Bool). (read_turn ev b l).reply ∷ (list_turn ev (passes14 ev (read_turn ev b l).left) (passes15 ev (read_turn ev b l).left slots) (read_turn ev b l).left).reply ∷ []) (fails ev)
+          ∙ ap (λ (b : Bool). reads (ReadAnswer.Refused 14) ∷ (list_turn ev b (passes15 ev l slots) l).reply ∷ []) (fails ev)

@@ -23,30 +23,30 @@ use Rattle.packrat.specs.Over.{word_at}
 use Rattle.packrat.proofs.OverTables.{word-possible}
 use Rattle.editing.specs.Text.{EditFits, new_length, text_after}
 use Rattle.editing.specs.Table.{table_size, words_after, table_after, held_in}
-use Rattle.editing.proofs.Ledger.{ledger-after}
-use Rattle.editing.proofs.Loans.{edited_long, edit_opened, after-long, after_tail}
+use Rattle.editing.proofs.Ledger.{ledger_after}
+use Rattle.editing.proofs.Loans.{edited_long, edit_opened, after_long, after_tail}
 use Rattle.promises.specs.declared.EditAnswer.{EditAnswer}
 use Rattle.promises.specs.Answers.{edit_number}
 use Rattle.promises.specs.Questions.{of_edit}
 use Rattle.promises.specs.Promises.{EditValues, EditPromise}
 use Rattle.ledger.specs.Demand.{next_length}
 use Rattle.ledger.specs.Ledger.{Evaluations, Ledger, Turn, edit, edits, value_in, edited_text, standing, pairs_of}
-use Rattle.ledger.specs.Ledger.{passes9, passes10, editTurn, turn}
+use Rattle.ledger.specs.Ledger.{passes9, passes10, edit_turn, turn}
 use Rattle.grammar.proofs.Bools.{both}
-use Rattle.promises.proofs.Asked.{edit-9, edit-10, edit-0, edit_one}
+use Rattle.promises.proofs.Asked.{edit_9, edit_10, edit_0, edit_one}
 use Rattle.ledger.proofs.Inv.{Inv, held_word, cap_is, short_text, lent, value_of}
-use Rattle.ledger.proofs.Asks.{good, passes-9, fails-9, passes-10, fails-10}
+use Rattle.ledger.proofs.Asks.{good, passes_9, fails_9, passes_10, fails_10}
 use Rattle.promises.proofs.Tables.{lent_table}
 use Rattle.ledger.proofs.Sums.{count_cut}
 use Rattle.ledger.proofs.Called.{called_within, in_shifted, shifted_in}
 use Rattle.ledger.proofs.Edited.{Stays, Carried, stands_cases, stands_stay, stands_carry, front_length, s_in_after}
-use Rattle.ledger.proofs.Edited.{stay-back, stay-calls, was, carry_back, carry-there, value-stay, value-carry}
+use Rattle.ledger.proofs.Edited.{stay_back, stay_calls, was, carry_back, carry_there, value_stay, value_carry}
 
 module _ {ev : Evaluations} {cap : ℕ} {rest : List ℕ} {l : Ledger} {B : List ℕ} {n : ℕ} {W : List ℕ} (v : Inv ev cap rest l B n W)
     (s e : ℕ) (r : List ℕ) (fits : EditFits cap (length l.text) s e (length r))
   where
     abbrev now : Ledger
-    now = (editTurn ev true true l s e r).left
+    now = (edit_turn ev true true l s e r).left
 
     abbrev examined : (rule q : ℕ) → ℕ
     examined rule q = (value_in ev l rule q).examined
@@ -73,12 +73,12 @@ module _ {ev : Evaluations} {cap : ℕ} {rest : List ℕ} {l : Ledger} {B : List
     stay-value : (rule q : ℕ) → StaysHere rule q → value_in ev now rule q ≡ value_in ev l rule q
     stay-value rule q c =
         let k = v.held_in rule q c.was_held in
-        value-stay cap l.text r s e fits l.image ev l.accepted rule q k.0 k.1 c.unseen
+        value_stay cap l.text r s e fits l.image ev l.accepted rule q k.0 k.1 c.unseen
 
     come-value : (rule q : ℕ) → ComesHere rule q → value_in ev now rule q ≡ value_in ev l rule (q - length r + (e - s))
     come-value rule q c =
         let k = v.held_in rule (q - length r + (e - s)) c.was_held in
-        value-carry cap l.text r s e fits l.image ev l.accepted rule q k.0 c.behind c.in_text
+        value_carry cap l.text r s e fits l.image ev l.accepted rule q k.0 c.behind c.in_text
 
     range-after : (rule q : ℕ) → standing ev l s e r rule q ≡ true → (rule < rules l.image) × (q ≤ length (edited_text l s e r))
     range-after rule q t =
@@ -110,9 +110,9 @@ module _ {ev : Evaluations} {cap : ℕ} {rest : List ℕ} {l : Ledger} {B : List
         ∙ stay-value rule q c in
         let reach = ap (λ (x : Evaluation). x.examined) same in
         let h : q + z.examined ≤ s = omega (arith, c.unseen) in
-        let old = stay-back cap l.text r s e fits l.image u h in
+        let old = stay_back cap l.text r s e fits l.image u h in
         let j : In y (calls_of old) =
-        subst (λ (ps : List Pair). In y ps) (sym (stay-calls cap l.text r s e fits l.image u h)) i in
+        subst (λ (ps : List Pair). In y ps) (sym (stay_calls cap l.text r s e fits l.image u h)) i in
         let held = v.closed rule q c.was_held z old y j in
         let in-it = called_within old j in
         let seen =
@@ -129,7 +129,7 @@ module _ {ev : Evaluations} {cap : ℕ} {rest : List ℕ} {l : Ledger} {B : List
         → standing ev l s e r y.rule y.position ≡ true
     closed-come rule q c z u y i =
         let back = carry_back cap l.text r s e fits l.image u c.behind in
-        let old = carry-there cap l.text r s e fits l.image (q - (s + length r)) back.evaluated in
+        let old = carry_there cap l.text r s e fits l.image (q - (s + length r)) back.evaluated in
         let x =
         in_shifted (length (take s l.text ++ r)) (calls_of back.evaluated) (subst (λ (ps : List Pair). In y ps) back.calls_are i) in
         let j : In (shifted e x.pair) (calls_of old.evaluated) =
@@ -186,7 +186,7 @@ module _ {ev : Evaluations} {cap : ℕ} {rest : List ℕ} {l : Ledger} {B : List
         → word_at l.image (table_after (rules l.image) cap (length l.text) s e (length r) W) rule q
         ≡ cond (standing ev l s e r rule q) (word_of (value_in ev now rule q)) 0
     word_after =
-        ledger-after (rules l.image) cap (length l.text) s e (length r) W l.accepted.lawful.counts.some_rules fits
+        ledger_after (rules l.image) cap (length l.text) s e (length r) W l.accepted.lawful.counts.some_rules fits
         l.held examined (λ rule q. word_of (value_in ev l rule q)) (λ rule q. word_of (value_in ev now rule q)) v.words_are stored
         stay-word come-word
 
@@ -224,11 +224,11 @@ module _ {ev : Evaluations} {cap : ℕ} {rest : List ℕ} {l : Ledger} {B : List
         })
 
     -- The edit that the promise says.
-    edit-done :
+    edit_done :
         {B' W' : List ℕ} (a : EditAnswer) → edit_number a ≡ 0 → EditValues l.image B n W s e r a B' W'
-        → (edits a ≡ (editTurn ev true true l s e r).reply) × Inv ev cap rest now B' (next_length n a) W'
-    edit-done (EditAnswer.Refused k) f p = absurd (omega (arith, p.numbered))
-    edit-done {W' = W'} (EditAnswer.Edited x) f p =
+        → (edits a ≡ (edit_turn ev true true l s e r).reply) × Inv ev cap rest now B' (next_length n a) W'
+    edit_done (EditAnswer.Refused k) f p = absurd (omega (arith, p.numbered))
+    edit_done {W' = W'} (EditAnswer.Edited x) f p =
         let lent = lent_table cap W l.accepted v.small v.whole in
         let count : x.standing ≡ pairs_of l.image (edited_text l s e r) (standing ev l s e r) =
         p.standing_are
@@ -244,7 +244,7 @@ module _ {ev : Evaluations} {cap : ℕ} {rest : List ℕ} {l : Ledger} {B : List
           (λ i. edits (EditAnswer.Edited (record { length = new i; standing = count i }))),
           rw (p.bytes_are, words, p.length_is)
               (inv-edit (table_after (rules l.image) cap (length l.text) s e (length r) W)
-              (rw (after-long lent (length l.text) s e (length r)) v.whole) word_after
+              (rw (after_long lent (length l.text) s e (length r)) v.whole) word_after
               (after_tail lent (length l.text) s e (length r) ∙ v.after_table)),
         )
 
@@ -267,18 +267,18 @@ module _ {ev : Evaluations} {cap : ℕ} {rest : List ℕ} {l : Ledger} {B : List
     abbrev Stepped : Turn → Type 0
     Stepped t = (edits a ≡ t.reply) × Inv ev cap rest t.left B' (next_length n a) W'
 
-    step : (b c : Bool) → passes9 l s e ≡ b → passes10 cap l s e r ≡ c → Stepped (editTurn ev b c l s e r)
+    step : (b c : Bool) → passes9 l s e ≡ b → passes10 cap l s e r ≡ c → Stepped (edit_turn ev b c l s e r)
     step false c t u =
         edit_refused v s e r a 9 (omega arith)
-        (number_is 9 (edit-9 l.image (length B) n (length W) (good v) s e (length r) (fails-9 v s e t)))
+        (number_is 9 (edit_9 l.image (length B) n (length W) (good v) s e (length r) (fails_9 v s e t)))
         p.values
     step true false t u =
         edit_refused v s e r a 10 (omega arith)
-        (number_is 10 (edit-10 l.image (length B) n (length W) (good v) s e (length r) (passes-9 v s e t) (fails-10 v s e r u)))
+        (number_is 10 (edit_10 l.image (length B) n (length W) (good v) s e (length r) (passes_9 v s e t) (fails_10 v s e r u)))
         p.values
     step true true t u =
         let b = both (leb s e) (leb e (length l.text)) t in
-        edit-done v s e r
+        edit_done v s e r
         (record {
           lent = v.text_fits;
           ordered = leb-true s e b.0;
@@ -286,10 +286,10 @@ module _ {ev : Evaluations} {cap : ℕ} {rest : List ℕ} {l : Ledger} {B : List
           room = leb-true (new_length (length l.text) s e (length r)) cap u;
         })
         a
-        (number_is 0 (edit-0 l.image (length B) n (length W) (good v) s e (length r) (passes-9 v s e t) (passes-10 v s e r u)))
+        (number_is 0 (edit_0 l.image (length B) n (length W) (good v) s e (length r) (passes_9 v s e t) (passes_10 v s e r u)))
         p.values
 
-    pub edit-step :
+    pub edit_step :
         (edits a ≡ (turn ev cap l (edit s e r)).reply) × Inv ev cap rest (turn ev cap l (edit s e r)).left B' (next_length n a) W'
     unfolding turn
-    edit-step = step (passes9 l s e) (passes10 cap l s e r) refl refl
+    edit_step = step (passes9 l s e) (passes10 cap l s e r) refl refl

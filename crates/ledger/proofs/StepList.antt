@@ -17,11 +17,11 @@ use Rattle.promises.specs.declared.ListAnswer.{ListAnswer}
 use Rattle.promises.specs.declared.SheetReading.{SheetReading}
 use Rattle.promises.specs.Listing.{GivesRows, ListedAfter, RefusedAlso, ThenListed, SheetListed, ListPromise}
 use Rattle.ledger.specs.Ledger.{Evaluations, Ledger, Turn, Reply, listing, edits, reads, finds, lists, value_in, rows_in}
-use Rattle.ledger.specs.Ledger.{passes14, passes15, readAnswer, readTurn, listTurn, turn}
+use Rattle.ledger.specs.Ledger.{passes14, passes15, read_answer, read_turn, list_turn, turn}
 use Rattle.ledger.specs.Demand.{rows_given}
 use Rattle.promises.proofs.Asked.{sheet_first, sheet_one}
 use Rattle.ledger.proofs.Inv.{Inv, cap_is, text_is, lent, not_foreign}
-use Rattle.ledger.proofs.StepRead.{sheet-step}
+use Rattle.ledger.proofs.StepRead.{sheet_step}
 
 -- The answer of a reading's reply.
 abbrev answer_in : Reply → ReadAnswer
@@ -54,52 +54,52 @@ module _ {ev : Evaluations} {cap : ℕ} {rest : List ℕ} {l : Ledger} {B : List
     Listed t = (lists a (rows_given a R') ≡ t.reply) × Inv ev cap rest t.left B n W'
 
     -- The reading of the listing is the ledger's.
-    first : (reads s.reading ≡ (readTurn ev (passes14 ev l) l).reply) × Inv ev cap rest (readTurn ev (passes14 ev l) l).left B n s.words
-    first = sheet-step v s.reads
+    first : (reads s.reading ≡ (read_turn ev (passes14 ev l) l).reply) × Inv ev cap rest (read_turn ev (passes14 ev l) l).left B n s.words
+    first = sheet_step v s.reads
 
     deep :
-        (reads s.reading ≡ (readTurn ev false l).reply) × Inv ev cap rest (readTurn ev false l).left B n s.words
-        → Listed (listTurn ev false (passes15 ev l (length R)) l)
+        (reads s.reading ≡ (read_turn ev false l).reply) × Inv ev cap rest (read_turn ev false l).left B n s.words
+        → Listed (list_turn ev false (passes15 ev l (length R)) l)
     deep f =
         let e : s.reading ≡ ReadAnswer.Refused 14 = ap answer_in f.0 in
         let t : RefusedAlso 14 s.words R a W' R' =
         subst (λ (x : ReadAnswer). ThenListed l.image l.text cap W x s.words R a W' R') e s.then in (
           ap (λ (x : ListAnswer). lists x (rows_given x R')) t.answer_is,
-          subst (λ (w : List ℕ). Inv ev cap rest (readTurn ev false l).left B n w) (sym t.words_are) f.1,
+          subst (λ (w : List ℕ). Inv ev cap rest (read_turn ev false l).left B n w) (sym t.words_are) f.1,
         )
 
     shallow :
-        (reads s.reading ≡ (readTurn ev true l).reply) × Inv ev cap rest (readTurn ev true l).left B n s.words
-        → Listed (listTurn ev true (passes15 ev l (length R)) l)
+        (reads s.reading ≡ (read_turn ev true l).reply) × Inv ev cap rest (read_turn ev true l).left B n s.words
+        → Listed (list_turn ev true (passes15 ev l (length R)) l)
     shallow f = go (passes15 ev l (length R)) refl
       where
-        t : ListedAfter l.image l.text cap W (readAnswer ev l) s.words R a W' R'
+        t : ListedAfter l.image l.text cap W (read_answer ev l) s.words R a W' R'
         t = subst (λ (x : ReadAnswer). ThenListed l.image l.text cap W x s.words R a W' R') (ap answer_in f.0) s.then
 
-        rows : GivesRows (readAnswer ev l) (rows_in ev l) R a R' × (W' ≡ s.words)
+        rows : GivesRows (read_answer ev l) (rows_in ev l) R a R' × (W' ≡ s.words)
         rows =
-            subst (λ (ws : List ℕ). GivesRows (readAnswer ev l) ws R a R' × (W' ≡ s.words)) (sym rows_in_lem)
+            subst (λ (ws : List ℕ). GivesRows (read_answer ev l) ws R a R' × (W' ≡ s.words)) (sym rows_in_lem)
             (t.rows_are (not_foreign v) (value_in ev l (start l.image) 0) start_is)
 
-        left : Inv ev cap rest (readTurn ev true l).left B n W'
-        left = subst (λ (w : List ℕ). Inv ev cap rest (readTurn ev true l).left B n w) (sym rows.1) f.1
+        left : Inv ev cap rest (read_turn ev true l).left B n W'
+        left = subst (λ (w : List ℕ). Inv ev cap rest (read_turn ev true l).left B n w) (sym rows.1) f.1
 
-        go : (b : Bool) → passes15 ev l (length R) ≡ b → Listed (listTurn ev true b l)
+        go : (b : Bool) → passes15 ev l (length R) ≡ b → Listed (list_turn ev true b l)
         go true e =
             let x = rows.0.written (leb-true (length (rows_in ev l)) (length R) e) in (
-              ap (λ (y : ListAnswer). lists y (rows_given y R')) x.0 ∙ rows_given_lem (readAnswer ev l) (rows_in ev l) R R' x.1,
+              ap (λ (y : ListAnswer). lists y (rows_given y R')) x.0 ∙ rows_given_lem (read_answer ev l) (rows_in ev l) R R' x.1,
               left,
             )
         go false e =
             let x = rows.0.too_many (leb-false (length (rows_in ev l)) (length R) e) in
             (ap (λ (y : ListAnswer). lists y (rows_given y R')) x.0, left)
 
-    listing_step : Listed (listTurn ev (passes14 ev l) (passes15 ev l (length R)) l)
+    listing_step : Listed (list_turn ev (passes14 ev l) (passes15 ev l (length R)) l)
     listing_step = go (passes14 ev l) first
       where
         go :
-            (b : Bool) → (reads s.reading ≡ (readTurn ev b l).reply) × Inv ev cap rest (readTurn ev b l).left B n s.words
-            → Listed (listTurn ev b (passes15 ev l (length R)) l)
+            (b : Bool) → (reads s.reading ≡ (read_turn ev b l).reply) × Inv ev cap rest (read_turn ev b l).left B n s.words
+            → Listed (list_turn ev b (passes15 ev l (length R)) l)
         go true f = shallow f
         go false f = deep f
 

@@ -9,9 +9,9 @@ use Rattle.packrat.specs.Over.{word_at}
 use Rattle.promises.specs.declared.LookUpAnswer.{LookUpAnswer}
 use Rattle.promises.specs.Answers.{look_up_number}
 use Rattle.promises.specs.Promises.{LookUpPromise, LookUpValues}
-use Rattle.ledger.specs.Ledger.{Evaluations, Ledger, look_up, finds, passes11, lookUpTurn, turn}
-use Rattle.promises.proofs.Asked.{look-up-11, look-up-0, look_up_one}
-use Rattle.ledger.proofs.Asks.{good, passes-11, fails-11}
+use Rattle.ledger.specs.Ledger.{Evaluations, Ledger, look_up, finds, passes11, look_up_turn, turn}
+use Rattle.promises.proofs.Asked.{look_up_11, look_up_0, look_up_one}
+use Rattle.ledger.proofs.Asks.{good, passes_11, fails_11}
 use Rattle.ledger.proofs.Inv.{Inv}
 
 -- An answer by its number.
@@ -28,26 +28,26 @@ refused (LookUpAnswer.Refused j) k h e = ap LookUpAnswer.Refused e
 module _ {ev : Evaluations} {cap : ℕ} {rest : List ℕ} {l : Ledger} {B : List ℕ} {n : ℕ} {W : List ℕ} (v : Inv ev cap rest l B n W)
     (rule q : ℕ) {a : LookUpAnswer} (p : LookUpPromise l.image B n W rule q a)
   where
-    step : (b : Bool) → passes11 l rule q ≡ b → finds a ≡ (lookUpTurn ev b l rule q).reply
+    step : (b : Bool) → passes11 l rule q ≡ b → finds a ≡ (look_up_turn ev b l rule q).reply
     step true t =
-        let x = passes-11 v rule q t in
+        let x = passes_11 v rule q t in
         let none =
         look_up_one l.image (length B) n (length W) rule q (look_up_number a) 0 p.first
-        (look-up-0 l.image (length B) n (length W) (good v) rule q x) in
+        (look_up_0 l.image (length B) n (length W) (good v) rule q x) in
         ap finds
         (found l.image W rule q a none p.values
         ∙ ap LookUpAnswer.Word (v.words_are rule q x.rule_in (omega (arith, x.position_in, v.length_is, v.text_fits))))
     step false t =
         let number =
         look_up_one l.image (length B) n (length W) rule q (look_up_number a) 11 p.first
-        (look-up-11 l.image (length B) n (length W) (good v) rule q (fails-11 v rule q t)) in
+        (look_up_11 l.image (length B) n (length W) (good v) rule q (fails_11 v rule q t)) in
         ap finds (refused a 11 (omega arith) number)
 
-    left-same : (b : Bool) → (lookUpTurn ev b l rule q).left ≡ l
+    left-same : (b : Bool) → (look_up_turn ev b l rule q).left ≡ l
     left-same true = refl
     left-same false = refl
 
-    pub look-up-step :
+    pub look_up_step :
         (finds a ≡ (turn ev cap l (look_up rule q)).reply) × Inv ev cap rest (turn ev cap l (look_up rule q)).left B n W
     unfolding turn
-    look-up-step = (step (passes11 l rule q) refl, rw (left-same (passes11 l rule q)) v)
+    look_up_step = (step (passes11 l rule q) refl, rw (left-same (passes11 l rule q)) v)

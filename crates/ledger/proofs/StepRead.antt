@@ -21,7 +21,7 @@ use Rattle.evaluation.proofs.Plain.{no_record}
 use Rattle.evaluation.proofs.Pairs.{is_in_lem}
 use Rattle.evaluation.proofs.Counts.{count_same}
 use Rattle.evaluation.proofs.Bodies.{shallower}
-use Rattle.evaluation.proofs.Range.{bodies-in-range}
+use Rattle.evaluation.proofs.Range.{bodies_in_range}
 use Rattle.evaluation.proofs.Reach.{reached_is, is_reached}
 use Rattle.records.specs.Words.{is_held, word_of}
 use Rattle.packrat.specs.Over.{word_at, Over}
@@ -35,7 +35,7 @@ use Rattle.promises.specs.declared.ReadAnswer.{ReadAnswer}
 use Rattle.promises.specs.Answers.{read_number, sheet_reading}
 use Rattle.promises.specs.Reading.{AnswersWith, SheetRead, ReadPromise}
 use Rattle.ledger.specs.Ledger.{Evaluations, Ledger, Turn, reading, reads, opened_ledger, value_in, reached_in, pairs_of}
-use Rattle.ledger.specs.Ledger.{passes14, readTurn, turn}
+use Rattle.ledger.specs.Ledger.{passes14, read_turn, turn}
 use Rattle.grammar.proofs.Bools.{either, or_left, or_right}
 use Rattle.promises.proofs.Asked.{sheet_first, sheet_one}
 use Rattle.promises.proofs.Tables.{lent_table}
@@ -122,7 +122,7 @@ module _ {ev : Evaluations} {cap : ℕ} {rest : List ℕ} {l : Ledger} {B : List
     reached-range r q k =
         let i = is_in_lem r q (bodies_of e) (reached-are r q ∙ k) in
         let p =
-        bodies-in-range l.image l.text bodies_only l.accepted.lawful.words (λ r p x h e. absurd (no_record e)) e
+        bodies_in_range l.image l.text bodies_only l.accepted.lawful.words (λ r p x h e. absurd (no_record e)) e
         l.accepted.lawful.counts.start_rule (omega arith) (record { rule = r; position = q }) i in
         (p.rule_in, p.position_in)
 
@@ -179,7 +179,7 @@ module _ {ev : Evaluations} {cap : ℕ} {rest : List ℕ} {l : Ledger} {B : List
               ∙ ap (λ (b : Bool). cond b (word_of (value_in ev l r q)) 0)
               (sym (none_new (reached_in ev l r q) (l.held r q) (sym (bodies-are r q m h) ∙ f)))
 
-      inv-read : Inv ev cap rest (readTurn ev true l).left B n W'
+      inv-read : Inv ev cap rest (read_turn ev true l).left B n W'
       inv-read =
           record {
             small = v.small;
@@ -200,7 +200,7 @@ module _ {ev : Evaluations} {cap : ℕ} {rest : List ℕ} {l : Ledger} {B : List
             after_table = sr.after_table ∙ v.after_table;
           }
 
-      answer-read : reads a ≡ (readTurn ev true l).reply
+      answer-read : reads a ≡ (read_turn ev true l).reply
       answer-read =
           ap reads given.answer_is
           ∙ ap (λ (c : ℕ). reads (ReadAnswer.Read (sheet_reading (length l.text) z c))) count-is
@@ -210,7 +210,7 @@ module _ {ev : Evaluations} {cap : ℕ} {rest : List ℕ} {l : Ledger} {B : List
       answer-14 : a ≡ ReadAnswer.Refused 14
       answer-14 = refused_is a 13 (sr.too_deep (not_foreign v) (record { value = z; evaluated = e; above = k }))
 
-      inv-deep : Inv ev cap rest (readTurn ev false l).left B n W'
+      inv-deep : Inv ev cap rest (read_turn ev false l).left B n W'
       inv-deep =
           rw (sr.zeroed 14 answer-14, v.bytes_are, v.length_is)
           (inv_empty ev cap l.image l.accepted l.text W rest v.small v.text_fits v.whole v.after_table)
@@ -218,10 +218,10 @@ module _ {ev : Evaluations} {cap : ℕ} {rest : List ℕ} {l : Ledger} {B : List
     abbrev pub Stepped : Turn → Type 0
     Stepped t = (reads a ≡ t.reply) × Inv ev cap rest t.left B n W'
 
-    pub sheet-step : Stepped (readTurn ev (passes14 ev l) l)
-    sheet-step = go (passes14 ev l) refl
+    pub sheet_step : Stepped (read_turn ev (passes14 ev l) l)
+    sheet_step = go (passes14 ev l) refl
       where
-        go : (b : Bool) → passes14 ev l ≡ b → Stepped (readTurn ev b l)
+        go : (b : Bool) → passes14 ev l ≡ b → Stepped (read_turn ev b l)
         go true f = let k = leb-true z.nesting 4096 f in (answer-read k, inv-read k)
         go false f = let k = leb-false z.nesting 4096 f in (ap reads (answer-14 k), inv-deep k)
 
@@ -234,4 +234,4 @@ read_step {ev} {cap} {rest} {l} {B} {n} {W} v {a} {W'} p =
     let none : p.number ≡ 0 =
     sheet_one l.image (length B) n (length W) p.number 0 p.first
     (sheet_first l.image (length B) n (length W) l.accepted (lent v)) in
-    sheet-step v (rw (text_is v, cap_is v) at (p.read none))
+    sheet_step v (rw (text_is v, cap_is v) at (p.read none))

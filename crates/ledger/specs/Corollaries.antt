@@ -12,7 +12,7 @@ use Rattle.promises.specs.Answers.{edit_number, read_number, look_up_number, lis
 use Rattle.promises.specs.Promises.{OpenPromise}
 use Rattle.promises.specs.Reading.{ReadPromise}
 use Rattle.promises.specs.Listing.{ListPromise}
-use Rattle.ledger.specs.Ledger.{Evaluations, Call, Reply, edits, reads, finds, lists, opened_ledger, rows_in, new_pairs, leftBy}
+use Rattle.ledger.specs.Ledger.{Evaluations, Call, Reply, edits, reads, finds, lists, opened_ledger, rows_in, new_pairs, left_by}
 use Rattle.ledger.specs.Demand.{loan, rows_given, Trace}
 
 -- The number of a reply is 0 or one of the questions that the ledger asks: 1 to 8, 12 and 13 are not among them.
@@ -54,9 +54,9 @@ AsPlain =
     → ReadPromise img' B' n' W' a W''
     → (x : PlainAnswer)
     → PlainRead img' (take n' B') x
-    → (a ≡ in_session x (new_pairs ev (leftBy ev (length B₀) (opened_ledger img accepted text) calls)))
+    → (a ≡ in_session x (new_pairs ev (left_by ev (length B₀) (opened_ledger img accepted text) calls)))
     × ((read_number a ≡ 0) ⊎ (read_number a ≡ 14))
-    × (take n' B' ≡ (leftBy ev (length B₀) (opened_ledger img accepted text) calls).text)
+    × (take n' B' ≡ (left_by ev (length B₀) (opened_ledger img accepted text) calls).text)
 
 -- The answer of a plain reading as that of a listing in a session that evaluated so many pairs, of a text with rows of these words, where
 -- so many row slots are lent.
@@ -85,6 +85,6 @@ ListsAsPlain =
     → (x : PlainAnswer)
     → PlainRead img' (take n' B') x
     → (a
-    ≡ in_listing x (new_pairs ev (leftBy ev (length B₀) (opened_ledger img accepted text) calls)) (length R)
-    (rows_in ev (leftBy ev (length B₀) (opened_ledger img accepted text) calls)))
-    × (list_number a ≡ 0 → rows_given a R'' ≡ rows_in ev (leftBy ev (length B₀) (opened_ledger img accepted text) calls))
+    ≡ in_listing x (new_pairs ev (left_by ev (length B₀) (opened_ledger img accepted text) calls)) (length R)
+    (rows_in ev (left_by ev (length B₀) (opened_ledger img accepted text) calls)))
+    × (list_number a ≡ 0 → rows_given a R'' ≡ rows_in ev (left_by ev (length B₀) (opened_ledger img accepted text) calls))

@@ -17,7 +17,7 @@ use Rattle.promises.specs.Promises.{OpenPromise, EditPromise, LookUpPromise}
 use Rattle.promises.specs.Reading.{ReadPromise}
 use Rattle.promises.specs.Listing.{ListPromise}
 use Rattle.ledger.specs.Ledger.{Evaluations, Call, Reply, edit, reading, look_up, listing, edits, reads, finds, lists}
-use Rattle.ledger.specs.Ledger.{Ledger, opened_ledger, value_in, replies, leftBy}
+use Rattle.ledger.specs.Ledger.{Ledger, opened_ledger, value_in, replies, left_by}
 use Rattle.promises.specs.Questions.{Question8}
 
 -- What a call is lent: the image, the text buffer, the text's length and the words.
@@ -87,9 +87,9 @@ Demand3 =
     → (calls : List Call) (answers : List Reply) (img' B' W' : List ℕ) (n' : ℕ)
     → Trace (loan img B n W) calls answers (loan img' B' n' W')
     → (answers ≡ replies ev (length B₀) (opened_ledger img accepted text) calls)
-    × (img' ≡ (leftBy ev (length B₀) (opened_ledger img accepted text) calls).image)
+    × (img' ≡ (left_by ev (length B₀) (opened_ledger img accepted text) calls).image)
     × Agrees ev (length B₀) (drop (table_size (rules img) (length B₀)) W₀)
-    (leftBy ev (length B₀) (opened_ledger img accepted text) calls) B' n' W'
+    (left_by ev (length B₀) (opened_ledger img accepted text) calls) B' n' W'
 
 -- The claim is about something: there are functions that give the ledger its evaluations; every lent buffer that passes questions 1 to 8
 -- has an opening;

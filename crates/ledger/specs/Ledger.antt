@@ -112,10 +112,10 @@ module _ (ev : Evaluations) where
   new_pairs l = pairs_of l.image l.text (λ rule q. reached_in ev l rule q && not (l.held rule q))
 
   -- "a call that fails one gets that number", and "changes nothing". "The answer gives the new length and the number of pairs standing."
-  abbrev pub editTurn : (passes9 passes10 : Bool) → Ledger → (s e : ℕ) → List ℕ → Turn
-  editTurn false b l s e r = record { reply = edits (EditAnswer.Refused 9); left = l }
-  editTurn true false l s e r = record { reply = edits (EditAnswer.Refused 10); left = l }
-  editTurn true true l s e r =
+  abbrev pub edit_turn : (passes9 passes10 : Bool) → Ledger → (s e : ℕ) → List ℕ → Turn
+  edit_turn false b l s e r = record { reply = edits (EditAnswer.Refused 9); left = l }
+  edit_turn true false l s e r = record { reply = edits (EditAnswer.Refused 10); left = l }
+  edit_turn true true l s e r =
       record {
         reply =
             edits
@@ -129,11 +129,11 @@ module _ (ev : Evaluations) where
 
   -- "Reading: the answer is the start pair's evaluation, as whole, part or none [..]. The set gains every reached pair. [..] A
   -- reading refused with 14 empties the set."
-  abbrev pub readAnswer : Ledger → SheetReading
-  readAnswer l = sheet_reading (length l.text) (value_in ev l (start l.image) 0) (new_pairs l)
+  abbrev pub read_answer : Ledger → SheetReading
+  read_answer l = sheet_reading (length l.text) (value_in ev l (start l.image) 0) (new_pairs l)
 
-  abbrev pub readLeft : Ledger → Ledger
-  readLeft l =
+  abbrev pub read_left : Ledger → Ledger
+  read_left l =
       record {
         image = l.image;
         accepted = l.accepted;
@@ -141,24 +141,24 @@ module _ (ev : Evaluations) where
         held = λ rule q. l.held rule q || reached_in ev l rule q;
       }
 
-  abbrev pub readTurn : (passes14 : Bool) → Ledger → Turn
-  readTurn false l = record { reply = reads (ReadAnswer.Refused 14); left = opened_ledger l.image l.accepted l.text }
-  readTurn true l = record { reply = reads (ReadAnswer.Read (readAnswer l)); left = readLeft l }
+  abbrev pub read_turn : (passes14 : Bool) → Ledger → Turn
+  read_turn false l = record { reply = reads (ReadAnswer.Refused 14); left = opened_ledger l.image l.accepted l.text }
+  read_turn true l = record { reply = reads (ReadAnswer.Read (read_answer l)); left = read_left l }
 
   -- "To it a listing is a reading, also one refused with 15." "a listing's rows are those of the ledger's text".
-  abbrev pub listTurn : (passes14 passes15 : Bool) → Ledger → Turn
-  listTurn false b l = record { reply = lists (ListAnswer.Refused 14) []; left = (readTurn false l).left }
-  listTurn true false l = record { reply = lists (ListAnswer.Refused 15) []; left = (readTurn true l).left }
-  listTurn true true l =
+  abbrev pub list_turn : (passes14 passes15 : Bool) → Ledger → Turn
+  list_turn false b l = record { reply = lists (ListAnswer.Refused 14) []; left = (read_turn false l).left }
+  list_turn true false l = record { reply = lists (ListAnswer.Refused 15) []; left = (read_turn true l).left }
+  list_turn true true l =
       record {
-        reply = lists (ListAnswer.Listed (record { reading = readAnswer l; rows = length (rows_in ev l) })) (rows_in ev l);
-        left = (readTurn true l).left;
+        reply = lists (ListAnswer.Listed (record { reading = read_answer l; rows = length (rows_in ev l) })) (rows_in ev l);
+        left = (read_turn true l).left;
       }
 
   -- "Look-up: gives the true word of a held pair, else 0."
-  abbrev pub lookUpTurn : (passes11 : Bool) → Ledger → (rule position : ℕ) → Turn
-  lookUpTurn false l rule position = record { reply = finds (LookUpAnswer.Refused 11); left = l }
-  lookUpTurn true l rule position =
+  abbrev pub look_up_turn : (passes11 : Bool) → Ledger → (rule position : ℕ) → Turn
+  look_up_turn false l rule position = record { reply = finds (LookUpAnswer.Refused 11); left = l }
+  look_up_turn true l rule position =
       record {
         reply =
             finds
@@ -168,16 +168,16 @@ module _ (ev : Evaluations) where
       }
 
   unfoldable pub turn : (cap : ℕ) → Ledger → Call → Turn
-  turn cap l (edit s e r) = editTurn (passes9 l s e) (passes10 cap l s e r) l s e r
-  turn cap l reading = readTurn (passes14 l) l
-  turn cap l (look_up rule position) = lookUpTurn (passes11 l rule position) l rule position
-  turn cap l (listing slots) = listTurn (passes14 l) (passes15 l slots) l
+  turn cap l (edit s e r) = edit_turn (passes9 l s e) (passes10 cap l s e r) l s e r
+  turn cap l reading = read_turn (passes14 l) l
+  turn cap l (look_up rule position) = look_up_turn (passes11 l rule position) l rule position
+  turn cap l (listing slots) = list_turn (passes14 l) (passes15 l slots) l
 
   -- A list of calls: every reply along it, and what is left.
   unfoldable pub replies : (cap : ℕ) → Ledger → List Call → List Reply
   replies cap l [] = []
   replies cap l (c ∷ cs) = (turn cap l c).reply ∷ replies cap (turn cap l c).left cs
 
-  unfoldable pub leftBy : (cap : ℕ) → Ledger → List Call → Ledger
-  leftBy cap l [] = l
-  leftBy cap l (c ∷ cs) = leftBy cap (turn cap l c).left cs
+  unfoldable pub left_by : (cap : ℕ) → Ledger → List Call → Ledger
+  left_by cap l [] = l
+  left_by cap l (c ∷ cs) = left_by cap (turn cap l c).left cs

@@ -35,12 +35,12 @@ module _ (text : List ℕ) (room : ℕ) (ev : Walker) (short : length text ≤ 6
   module _ (called : Walker) (a b at lo hi k : ℕ) (h : at ≤ length text) {c : ℕ} (few : c ≤ room) {l : List ℕ} {x : ℕ} {l1 : List ℕ} {d : ℕ}
       (g : Gives c l x l1 d (ev a at lo hi k c))
     where
-      pub sequence-first : x < 65536 → Found (length text) room at c l x l1 d (ev a at lo hi k c)
-      sequence-first i = found (stays a at lo hi k c h few) g i
+      pub sequence_first : x < 65536 → Found (length text) room at c l x l1 d (ev a at lo hi k c)
+      sequence_first i = found (stays a at lo hi k c h few) g i
 
-      pub sequence-ends : 65536 ≤ x → Gives c l x l1 d (kind_v text ev called (sequence a b) at lo hi k c)
+      pub sequence_ends : 65536 ≤ x → Gives c l x l1 d (kind_v text ev called (sequence a b) at lo hi k c)
       unfolding kind_v after_first
-      sequence-ends i = go (ltb 65536 x) refl
+      sequence_ends i = go (ltb 65536 x) refl
         where
           f : Bool → ℕ → ℕ → Trail
           f m l c = after_first m l (ev b (at + l) lo hi k) c
@@ -52,17 +52,17 @@ module _ (text : List ℕ) (room : ℕ) (ev : Walker) (short : length text ≤ 6
               let w = failed short (stays a at lo hi k c h few) g same in
               and_then w.words f w.is w.written w.counted (at_once (walked false 0 d) refl same)
 
-      pub sequence-second-ends :
+      pub sequence_second_ends :
           {y : ℕ} {l2 : List ℕ} {e : ℕ} → x < 65536 → Gives d l1 y l2 e (ev b (at + x) lo hi k d) → 65536 ≤ y
           → Gives c l y l2 e (kind_v text ev called (sequence a b) at lo hi k c)
       unfolding kind_v after_first joined
-      sequence-second-ends {y} {l2} {e} i g2 j = go (ltb 65536 y) refl
+      sequence_second_ends {y} {l2} {e} i g2 j = go (ltb 65536 y) refl
         where
           f : Bool → ℕ → ℕ → Trail
           f m l c = after_first m l (ev b (at + l) lo hi k) c
 
           w : Found (length text) room at c l x l1 d (ev a at lo hi k c)
-          w = sequence-first i
+          w = sequence_first i
 
           go : (t : Bool) → ltb 65536 y ≡ t → Gives c l y l2 e (bind (ev a at lo hi k c) f)
           go true t =
@@ -74,46 +74,46 @@ module _ (text : List ℕ) (room : ℕ) (ev : Walker) (short : length text ≤ 6
               and_then w.words f w.is w.written w.counted
               (and_then v.words (λ m l c. joined m x l c) v.is v.written v.counted (at_once (walked false 0 e) refl same))
 
-      pub sequence-second :
+      pub sequence_second :
           {y : ℕ} {l2 : List ℕ} {e : ℕ} → x < 65536 → Gives d l1 y l2 e (ev b (at + x) lo hi k d) → y < 65536
           → Found (length text) room (at + x) d l1 y l2 e (ev b (at + x) lo hi k d)
-      sequence-second i g2 j = let w = sequence-first i in found (stays b (at + x) lo hi k d w.in_text w.few) g2 j
+      sequence_second i g2 j = let w = sequence_first i in found (stays b (at + x) lo hi k d w.in_text w.few) g2 j
 
-      pub sequence-both :
+      pub sequence_both :
           {y : ℕ} {l2 : List ℕ} {e : ℕ} → x < 65536 → Gives d l1 y l2 e (ev b (at + x) lo hi k d) → y < 65536
           → Gives c l (x + y) l2 e (kind_v text ev called (sequence a b) at lo hi k c)
       unfolding kind_v after_first joined
-      sequence-both {y} {l2} {e} i g2 j =
-          let w = sequence-first i in
-          let v = sequence-second i g2 j in
+      sequence_both {y} {l2} {e} i g2 j =
+          let w = sequence_first i in
+          let v = sequence_second i g2 j in
           and_then w.words (λ m l c. after_first m l (ev b (at + l) lo hi k) c) w.is w.written w.counted
           (and_then v.words (λ m l c. joined m x l c) v.is v.written v.counted (at_once (walked true (x + y) e) refl refl))
 
   module _ (called : Walker) (a at lo hi k : ℕ) (h : at ≤ length text) {c : ℕ} (few : c ≤ room) {l : List ℕ} {x : ℕ} {l1 : List ℕ} {d : ℕ}
       (g : Gives c l x l1 d (ev a at (length text + 1) 0 k c))
     where
-      pub not-stops : 65536 < x → Gives c l x l1 d (kind_v text ev called (not_predicate a) at lo hi k c)
+      pub not_stops : 65536 < x → Gives c l x l1 d (kind_v text ev called (not_predicate a) at lo hi k c)
       unfolding kind_v
-      not-stops i = and_stop (λ m l c. trail (walked (not m) 0 c) []) (halted short (stays a at (length text + 1) 0 k c h few) g i)
+      not_stops i = and_stop (λ m l c. trail (walked (not m) 0 c) []) (halted short (stays a at (length text + 1) 0 k c h few) g i)
 
-      pub not-fails : x < 65536 → Gives c l 65536 l1 d (kind_v text ev called (not_predicate a) at lo hi k c)
+      pub not_fails : x < 65536 → Gives c l 65536 l1 d (kind_v text ev called (not_predicate a) at lo hi k c)
       unfolding kind_v
-      not-fails i =
+      not_fails i =
           let w = found (stays a at (length text + 1) 0 k c h few) g i in
           and_then w.words (λ m l c. trail (walked (not m) 0 c) []) w.is w.written w.counted (at_once (walked false 0 d) refl refl)
 
-      pub not-matches : x ≡ 65536 → Gives c l 0 l1 d (kind_v text ev called (not_predicate a) at lo hi k c)
+      pub not_matches : x ≡ 65536 → Gives c l 0 l1 d (kind_v text ev called (not_predicate a) at lo hi k c)
       unfolding kind_v
-      not-matches i =
+      not_matches i =
           let w = failed short (stays a at (length text + 1) 0 k c h few) g i in
           and_then w.words (λ m l c. trail (walked (not m) 0 c) []) w.is w.written w.counted (at_once (walked true 0 d) refl refl)
 
-      pub part-found : x < 65536 → Found (length text) room at c l x l1 d (ev a at (length text + 1) 0 k c)
-      part-found i = found (stays a at (length text + 1) 0 k c h few) g i
+      pub part_found : x < 65536 → Found (length text) room at c l x l1 d (ev a at (length text + 1) 0 k c)
+      part_found i = found (stays a at (length text + 1) 0 k c h few) g i
 
-      pub part-ends : 65536 ≤ x → Gives c l x l1 d (part_v (length text) ev a at lo hi k c)
+      pub part_ends : 65536 ≤ x → Gives c l x l1 d (part_v (length text) ev a at lo hi k c)
       unfolding part_v after_look
-      part-ends i = go (ltb 65536 x) refl
+      part_ends i = go (ltb 65536 x) refl
         where
           f : Bool → ℕ → ℕ → Trail
           f m l c = after_look m (touches lo hi at l) l (ev a at lo hi k) c
@@ -128,16 +128,16 @@ module _ (text : List ℕ) (room : ℕ) (ev : Walker) (short : length text ≤ 6
       pub part_missed : x < 65536 → touches lo hi at x ≡ false → Gives c l x l1 d (part_v (length text) ev a at lo hi k c)
       unfolding part_v after_look
       part_missed i e =
-          let w = part-found i in
+          let w = part_found i in
           and_then w.words (λ m l c. after_look m (touches lo hi at l) l (ev a at lo hi k) c) w.is w.written w.counted
           (at_once (walked true x d) (ap (λ (t : Bool). after_look true t x (ev a at lo hi k) d) e) refl)
 
-      pub part-goes :
+      pub part_goes :
           {y : ℕ} {l2 : List ℕ} {e : ℕ} → x < 65536 → touches lo hi at x ≡ true → Gives d l1 y l2 e (ev a at lo hi k d)
           → Gives c l y l2 e (part_v (length text) ev a at lo hi k c)
       unfolding part_v after_look
-      part-goes i t g2 =
-          let w = part-found i in
+      part_goes i t g2 =
+          let w = part_found i in
           and_then w.words (λ m l c. after_look m (touches lo hi at l) l (ev a at lo hi k) c) w.is w.written w.counted
           (just (ap (λ (b : Bool). after_look true b x (ev a at lo hi k) d) t) g2)
 
@@ -159,14 +159,14 @@ module _ (text : List ℕ) (room : ℕ) (ev : Walker) (short : length text ≤ 6
               let w = found (part_bounded (length text) room ev stays a at lo hi k c h few) g small in
               and_then w.words f w.is w.written w.counted (at_once (walked true x d) refl refl)
 
-      pub choice-failed : x ≡ 65536 → d ≤ room
-      choice-failed i = (failed short (part_bounded (length text) room ev stays a at lo hi k c h few) g i).few
+      pub choice_failed : x ≡ 65536 → d ≤ room
+      choice_failed i = (failed short (part_bounded (length text) room ev stays a at lo hi k c h few) g i).few
 
-      pub choice-second :
+      pub choice_second :
           {y : ℕ} {l2 : List ℕ} {e : ℕ} → x ≡ 65536 → Gives d l1 y l2 e (ev b at lo hi k d)
           → Gives c l y l2 e (kind_v text ev called (choice a b) at lo hi k c)
       unfolding kind_v after_choice
-      choice-second i g2 =
+      choice_second i g2 =
           let w = failed short (part_bounded (length text) room ev stays a at lo hi k c h few) g i in
           and_then w.words (λ m l c. after_choice m l (ev b at lo hi k) c) w.is w.written w.counted g2
 
@@ -190,10 +190,10 @@ module _ (text : List ℕ) (room : ℕ) (ev : Walker) (short : length text ≤ 6
   after_both ws vs (trail e f) = ap (trail e) (sym (append_assoc ws vs f))
 
   module _ (a at lo hi k : ℕ) {c0 : ℕ} {l0 : List ℕ} where
-    pub star-start :
+    pub star_start :
         (called : Walker) → at ≤ length text → c0 ≤ room → Rounds a at lo hi k c0 l0 (kind_v text ev called (star a) at lo hi k c0) 0 l0 c0
     unfolding kind_v
-    star-start called h few =
+    star_start called h few =
         record {
           fuel = suc (length text);
           words = [];
@@ -222,33 +222,33 @@ module _ (text : List ℕ) (room : ℕ) (ev : Walker) (short : length text ≤ 6
             go zero enough is = absurd (omega (arith, s.in_text))
             go (suc n) enough is = prefixed s.words is s.written s.counted (f n)
 
-        pub star-stops : 65536 < x → Gives c0 l0 x l1 d o
-        star-stops i =
+        pub star_stops : 65536 < x → Gives c0 l0 x l1 d o
+        star_stops i =
             opened (λ f. and_stop (step_of f) (halted short (part_bounded (length text) room ev stays a (at + before) lo hi k c s.in_text s.few) g i))
 
-        pub star-last : x ≡ 65536 → Gives c0 l0 before l1 d o
+        pub star_last : x ≡ 65536 → Gives c0 l0 before l1 d o
         unfolding after_round step_of
-        star-last i =
+        star_last i =
             let w = failed short (part_bounded (length text) room ev stays a (at + before) lo hi k c s.in_text s.few) g i in
             opened (λ f. and_then w.words (step_of f) w.is w.written w.counted (at_once (walked true before d) refl refl))
 
-        pub star-found : x < 65536 → Found (length text) room (at + before) c l x l1 d (part_v (length text) ev a (at + before) lo hi k c)
-        star-found i = found (part_bounded (length text) room ev stays a (at + before) lo hi k c s.in_text s.few) g i
+        pub star_found : x < 65536 → Found (length text) room (at + before) c l x l1 d (part_v (length text) ev a (at + before) lo hi k c)
+        star_found i = found (part_bounded (length text) room ev stays a (at + before) lo hi k c s.in_text s.few) g i
 
-        pub star-still : x ≡ 0 → Gives c0 l0 65548 l1 d o
+        pub star_still : x ≡ 0 → Gives c0 l0 65548 l1 d o
         unfolding after_round step_of
-        star-still i =
-            let w = star-found (omega arith) in
+        star_still i =
+            let w = star_found (omega arith) in
             opened (λ f.
             and_then w.words (step_of f) w.is w.written w.counted
             (at_once (stopped 12) (ap (λ (t : Bool). after_round true t before (rounds_v f (length text) ev a at lo hi k (before + x)) d) (eq-eqb x 0 i)) refl))
 
-        pub star-more : x < 65536 → (x ≡ 0 → ⊥) → Rounds a at lo hi k c0 l0 o (before + x) l1 d
+        pub star_more : x < 65536 → (x ≡ 0 → ⊥) → Rounds a at lo hi k c0 l0 o (before + x) l1 d
         unfolding rounds_v after_round step_of bind
-        star-more i ne = go s.fuel s.enough s.is
+        star_more i ne = go s.fuel s.enough s.is
           where
             w : Found (length text) room (at + before) c l x l1 d (part_v (length text) ev a (at + before) lo hi k c)
-            w = star-found i
+            w = star_found i
 
             go :
                 (n : ℕ) → length text < n + (at + before) → o ≡ after s.words (rounds_v n (length text) ev a at lo hi k before c)

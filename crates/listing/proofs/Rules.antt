@@ -41,15 +41,15 @@ module _ (rules root room : ℕ) (text table : List ℕ) (ev : Walker) (r at lo 
     unfolding pair_v
     opens = ap (λ (w : ℕ). met (is_held w && possible w at (length text)) (matched_of w) c (Inner w)) (sym word_is)
 
-    pub rule-empty : is_held word ≡ false → Gives c l 65548 l c (pair_v rules root room text table ev r at lo hi k c)
+    pub rule_empty : is_held word ≡ false → Gives c l 65548 l c (pair_v rules root room text table ev r at lo hi k c)
     unfolding met
-    rule-empty e =
+    rule_empty e =
         at_once (stopped 12)
         (opens ∙ ap (λ (b : Bool). met (b && possible word at (length text)) (matched_of word) c (Inner word)) e) refl
 
-    pub rule-impossible : possible word at (length text) ≡ false → Gives c l 65548 l c (pair_v rules root room text table ev r at lo hi k c)
+    pub rule_impossible : possible word at (length text) ≡ false → Gives c l 65548 l c (pair_v rules root room text table ev r at lo hi k c)
     unfolding met
-    rule-impossible e =
+    rule_impossible e =
         at_once (stopped 12)
         (opens ∙ ap (λ (b : Bool). met b (matched_of word) c (Inner word))
         (ap (λ (b : Bool). is_held word && b) e ∙ and-false (is_held word)))
@@ -62,12 +62,12 @@ module _ (rules root room : ℕ) (text table : List ℕ) (ev : Walker) (r at lo 
           ∙ ap (λ (b : Bool). met (b && possible word at (length text)) (matched_of word) c (Inner word)) held
           ∙ ap (λ (b : Bool). met b (matched_of word) c (Inner word)) fine
 
-      pub rule-failed : matched_of word ≡ false → Gives c l 65536 l c (pair_v rules root room text table ev r at lo hi k c)
+      pub rule_failed : matched_of word ≡ false → Gives c l 65536 l c (pair_v rules root room text table ev r at lo hi k c)
       unfolding met
-      rule-failed m = at_once (walked false 0 c) (knows ∙ ap (λ (b : Bool). met true b c (Inner word)) m) refl
+      rule_failed m = at_once (walked false 0 c) (knows ∙ ap (λ (b : Bool). met true b c (Inner word)) m) refl
 
-      pub rule-in-text : at + length_of word ≤ length text
-      rule-in-text = (says_possible word at (length text) fine).in_text
+      pub rule_in_text : at + length_of word ≤ length text
+      rule_in_text = (says_possible word at (length text) fine).in_text
 
       module _ (m : matched_of word ≡ true) where
         enters : pair_v rules root room text table ev r at lo hi k c ≡ Inner word
@@ -79,11 +79,11 @@ module _ (rules root room : ℕ) (text table : List ℕ) (ev : Walker) (r at lo 
             entered touched full (length_of word) (row_word (record { rule = r % 256; depth = k; start = at; length = length_of word }))
             (ev root at lo hi (k + 1)) c
 
-        pub rule-missed :
+        pub rule_missed :
             {len : ℕ} → len ≡ length_of word → touches lo hi at len ≡ false
             → Gives c l len l c (pair_v rules root room text table ev r at lo hi k c)
         unfolding entered
-        rule-missed {len} q e =
+        rule_missed {len} q e =
             at_once (walked true (length_of word) c)
             (enters ∙ ap (λ (b : Bool). Entered b (leb room c)) (ap (touches lo hi at) (sym q) ∙ e)) q
 
@@ -91,9 +91,9 @@ module _ (rules root room : ℕ) (text table : List ℕ) (ev : Walker) (r at lo 
           touched : pair_v rules root room text table ev r at lo hi k c ≡ Entered true (leb room c)
           touched = enters ∙ ap (λ (b : Bool). Entered b (leb room c)) (ap (touches lo hi at) (sym q) ∙ t)
 
-          pub rule-full : room ≤ c → Gives c l 65551 l c (pair_v rules root room text table ev r at lo hi k c)
+          pub rule_full : room ≤ c → Gives c l 65551 l c (pair_v rules root room text table ev r at lo hi k c)
           unfolding entered
-          rule-full e = at_once (stopped 15) (touched ∙ ap (λ (b : Bool). Entered true b) (le-leb room c e)) refl
+          rule_full e = at_once (stopped 15) (touched ∙ ap (λ (b : Bool). Entered true b) (le-leb room c e)) refl
 
           module _ (free : c < room) {row : ℕ} (row_is : row ≡ row_word (record { rule = r % 256; depth = k; start = at; length = len }))
               (short : length text ≤ 65535) (h : at ≤ length text) (stays : Stays (length text) room ev) (y d : ℕ) (l1 : List ℕ)
@@ -110,16 +110,16 @@ module _ (rules root room : ℕ) (text table : List ℕ) (ev : Walker) (r at lo 
                   ∙ ap (λ (w : ℕ). after (w ∷ []) rest)
                   (ap (λ (n : ℕ). row_word (record { rule = r % 256; depth = k; start = at; length = n })) (sym q) ∙ sym row_is)
 
-              pub rule-stops : 65536 < y → Gives c l y l1 d (pair_v rules root room text table ev r at lo hi k c)
+              pub rule_stops : 65536 < y → Gives c l y l1 d (pair_v rules root room text table ev r at lo hi k c)
               unfolding rest
-              rule-stops i =
+              rule_stops i =
                   prefixed (row ∷ []) writes refl (omega arith)
                   (and_stop (λ m l c. trail (walked true (length_of word) c) [])
                   (halted short (stays root at lo hi (k + 1) (c + 1) h (omega arith)) g i))
 
-              pub rule-goes : y ≤ 65536 → Gives c l len l1 d (pair_v rules root room text table ev r at lo hi k c)
+              pub rule_goes : y ≤ 65536 → Gives c l len l1 d (pair_v rules root room text table ev r at lo hi k c)
               unfolding rest
-              rule-goes i = prefixed (row ∷ []) writes refl (omega arith) (go (ltb y 65536) refl)
+              rule_goes i = prefixed (row ∷ []) writes refl (omega arith) (go (ltb y 65536) refl)
                 where
                   f : Bool → ℕ → ℕ → Trail
                   f m l c = trail (walked true (length_of word) c) []

@@ -23,7 +23,7 @@ use Rattle.promises.specs.Questions.{of_sheet}
 use Rattle.promises.specs.Reading.{SheetRead, ReadPromise}
 use Rattle.promises.specs.Listing.{ListPromise}
 use Rattle.promises.proofs.Asked.{sheet_one, sheet_first}
-use Rattle.promises.proofs.SheetLists.{impossible-listed}
+use Rattle.promises.proofs.SheetLists.{impossible_listed}
 use Rattle.marked.specs.Images.{D2}
 use Rattle.marked.specs.Sessions.{text12a}
 use Rattle.marked.proofs.Images.{d2_accepted}
@@ -63,4 +63,4 @@ pub impossible_word_not_listed :
     → (a ≡ ListAnswer.Refused 12) × (W' ≡ replicate 8 0) × (R' ≡ R)
 unfolding matched_of nesting_of examined_of length_of spare_of possible slot_of rules start D2
 impossible_word_not_listed p =
-    let x = impossible-listed (p.listed (asked p.first)) refl refl in (x.answer_is, x.words_are, x.slots_are)
+    let x = impossible_listed (p.listed (asked p.first)) refl refl in (x.answer_is, x.words_are, x.slots_are)

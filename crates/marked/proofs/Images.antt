@@ -15,17 +15,17 @@ use Rattle.grammar.specs.Outcomes.{Has, matches_empty, call_body, then_00, else_
 use Rattle.grammar.specs.WellFormed.{WellFormed, wf_empty, wf_terminal, wf_call, wf_then, wf_else, wf_star, wf_not}
 use Rattle.grammar.specs.Questions.{Question4, Question6, Question7, Lawful, Checked}
 use Rattle.grammar.specs.Questions.{roots, children_below, occurrences}
-use Rattle.grammar.specs.Tests.{every, headerTest, ruleTest, nodeTest, wordsTest, onceTest}
+use Rattle.grammar.specs.Tests.{every, header_test, rule_test, node_test, words_test, once_test}
 use Rattle.grammar.proofs.Tests.{header_asked, words_asked, lawful_image}
 use Rattle.grammar.proofs.Acceptance.{checked, refused_6, refused_7}
 use Rattle.marked.specs.Images.{D2, M7, M8, M9, parts, second_edition, start_too_high, byte_too_many, own_child, orphan, kilo, folded_any, second_bit, dot, letters}
 
 -- The three tests that say that an image is lawful.
 abbrev Passes : List ℕ → Type 0
-Passes img = (headerTest img ≡ true) × (wordsTest img ≡ true) × (every (nodes img) (onceTest img) ≡ true)
+Passes img = (header_test img ≡ true) × (words_test img ≡ true) × (every (nodes img) (once_test img) ≡ true)
 
 passes : Passes D2 × Passes M7 × Passes M8 × Passes M9 × Passes parts × Passes kilo × Passes dot × Passes letters
-unfolding D2 M7 M8 M9 parts kilo dot letters every headerTest ruleTest nodeTest wordsTest onceTest edition rules nodes start rule_zero root rule_word fields_at node_word node_of roots children_below occurrences
+unfolding D2 M7 M8 M9 parts kilo dot letters every header_test rule_test node_test words_test once_test edition rules nodes start rule_zero root rule_word fields_at node_word node_of roots children_below occurrences
 passes = ((refl, refl, refl), (refl, refl, refl), (refl, refl, refl), (refl, refl, refl), (refl, refl, refl), (refl, refl, refl), (refl, refl, refl), (refl, refl, refl))
 
 lawful : {img : List ℕ} → Passes img → Lawful img
@@ -199,15 +199,15 @@ size_refused =
     }
 
 -- An image that passes 1 to 3 and has a word that is not lawful.
-refused_4 : (img : List ℕ) → headerTest img ≡ true → (Question4 img → ⊥) → Checked img 4
+refused_4 : (img : List ℕ) → header_test img ≡ true → (Question4 img → ⊥) → Checked img 4
 refused_4 img e wrong = let q = header_asked img e in record { first = inr (q.0, inr (q.1, inr (q.2, inl (wrong, refl)))) }
 
 pub child_refused : Checked own_child 4
-unfolding own_child headerTest edition rules nodes start fields_at node_word
+unfolding own_child header_test edition rules nodes start fields_at node_word
 child_refused = refused_4 own_child refl (λ w. let h = (w.node_words 0 (lit< tt)).child_A (lit≤ tt) (lit≤ tt) in omega arith)
 
 pub orphan_refused : Checked orphan 5
-unfolding orphan every headerTest ruleTest nodeTest wordsTest onceTest edition rules nodes start rule_zero root rule_word fields_at node_word node_of roots children_below occurrences
+unfolding orphan every header_test rule_test node_test words_test once_test edition rules nodes start rule_zero root rule_word fields_at node_word node_of roots children_below occurrences
 orphan_refused =
     let q = header_asked orphan refl in
     record {
@@ -259,9 +259,9 @@ pub letters_accepted : Checked letters 0
 letters_accepted = checked (record { lawful = lawful passes.7; well_formed = letters_formed })
 
 pub folded_any_refused : Checked folded_any 4
-unfolding folded_any headerTest edition rules nodes start fields_at node_word
+unfolding folded_any header_test edition rules nodes start fields_at node_word
 folded_any_refused = refused_4 folded_any refl (λ w. let h = (w.node_words 0 (lit< tt)).zero_bits (λ e. omega arith) in omega arith)
 
 pub second_bit_refused : Checked second_bit 4
-unfolding second_bit headerTest edition rules nodes start fields_at node_word
+unfolding second_bit header_test edition rules nodes start fields_at node_word
 second_bit_refused = refused_4 second_bit refl (λ w. let h = (w.node_words 0 (lit< tt)).zero_bits_2 refl in omega arith)

@@ -15,7 +15,7 @@ use Rattle.grammar.specs.Questions.{Question7, Checked, of_image, roots, childre
 use Rattle.grammar.specs.Terminal.{terminal_at, accepts, has_at, taken, not_taken}
 use Rattle.grammar.specs.Evaluates.{Fresh, bodies_only, a_pair}
 use Rattle.grammar.specs.Evaluates.{ev_empty, ev_terminal, ev_then_first_fails, ev_then, ev_else_first, ev_else_second, ev_call, ev_body}
-use Rattle.grammar.specs.Tests.{every, headerTest, ruleTest, nodeTest, wordsTest, onceTest}
+use Rattle.grammar.specs.Tests.{every, header_test, rule_test, node_test, words_test, once_test}
 use Rattle.grammar.proofs.Tests.{lawful_image}
 use Rattle.grammar.proofs.Terminals.{has_there, has_not, by_byte, range_alone}
 use Rattle.grammar.proofs.First.{then_asked}
@@ -31,8 +31,8 @@ use Rattle.marked.specs.Images.{M10, brackets}
 use Rattle.marked.specs.Sessions.{calls_deep, replies_deep}
 
 -- The image is accepted.
-passes : (headerTest M10 ≡ true) × (wordsTest M10 ≡ true) × (every (nodes M10) (onceTest M10) ≡ true)
-unfolding M10 every headerTest ruleTest nodeTest wordsTest onceTest edition rules nodes start rule_zero root rule_word fields_at
+passes : (header_test M10 ≡ true) × (words_test M10 ≡ true) × (every (nodes M10) (once_test M10) ≡ true)
+unfolding M10 every header_test rule_test node_test words_test once_test edition rules nodes start rule_zero root rule_word fields_at
     node_word node_of roots children_below occurrences
 passes = (refl, refl, refl)
 

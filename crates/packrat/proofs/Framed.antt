@@ -187,10 +187,10 @@ module _ (img text : List ℕ) where
     node-framed (suc left) i p l h t c =
         kind-framed (node-framed left) (rule-framed left (node-framed left)) (node img i) (refers img words i l) (lawful_node img words i l) p h t c
 
-    pub pair-framed :
+    pub pair_framed :
         (left r p : ℕ) → r < rules img → p ≤ length text → (t : List ℕ) (c : ℕ)
         → Framed img text t p (rule_m img text (node_m img text left) left r p t c)
-    pair-framed left r p l h t c = rule-framed left (node-framed left) r p l h t c
+    pair_framed left r p l h t c = rule-framed left (node-framed left) r p l h t c
 
   -- "and gives 12 when the word of (start, 0) is held and impossible"
   pub pair_impossible :

@@ -152,8 +152,8 @@ module _ (img text : List ℕ) where
           go true ea false eb = other (λ z. eqb-false p q eb (sym (one_slot (rules img) q p s r k l z).0))
           go false ea b eb = other (λ z. eqb-false r s ea (sym (one_slot (rules img) q p s r k l z).1))
 
-      pub gain-store : Gain t after c ((c + 1) % 2 ^ 64) (record { rule = r; position = p } ∷ [])
-      gain-store =
+      pub gain_store : Gain t after c ((c + 1) % 2 ^ 64) (record { rule = r; position = p } ∷ [])
+      gain_store =
           record {
             only = λ j. at j (eqb j slot) refl;
             stays = λ j k. get_or-set_other t slot j w 0 (λ z. true≢false (sym k ∙ ap (λ (i : ℕ). is_held (get_or t i 0)) z ∙ e));

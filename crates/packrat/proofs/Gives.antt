@@ -50,17 +50,17 @@ module _ {n at left : ℕ} {o : Out} {word : ℕ} {table : List ℕ} {count : �
     pub says : value_of word ≡ f.value
     says = ap value_of f.word_is ∙ value_back f.value (in_range short most f.bounds)
 
-    pub says-matched : matched_of word ≡ f.value.matched
-    says-matched = ap matched_of f.word_is ∙ matched_back f.value (in_range short most f.bounds)
+    pub says_matched : matched_of word ≡ f.value.matched
+    says_matched = ap matched_of f.word_is ∙ matched_back f.value (in_range short most f.bounds)
 
-    pub says-length : length_of word ≡ f.value.length
-    says-length = ap length_of f.word_is ∙ length_back f.value (in_range short most f.bounds)
+    pub says_length : length_of word ≡ f.value.length
+    says_length = ap length_of f.word_is ∙ length_back f.value (in_range short most f.bounds)
 
-    pub says-examined : examined_of word ≡ f.value.examined
-    says-examined = ap examined_of f.word_is ∙ examined_back f.value (in_range short most f.bounds)
+    pub says_examined : examined_of word ≡ f.value.examined
+    says_examined = ap examined_of f.word_is ∙ examined_back f.value (in_range short most f.bounds)
 
-    pub says-nesting : nesting_of word ≡ f.value.nesting
-    says-nesting = ap nesting_of f.word_is ∙ nesting_back f.value (in_range short most f.bounds)
+    pub says_nesting : nesting_of word ≡ f.value.nesting
+    says_nesting = ap nesting_of f.word_is ∙ nesting_back f.value (in_range short most f.bounds)
 
 -- Making the promise of an evaluation, and of a refusal.
 pub gives_value :

@@ -71,48 +71,48 @@ module _ {img text before after : List ℕ} (g : Grown img text before after) {r
     abbrev slot : ℕ
     slot = slot_of (rules img) r p
 
-    abbrev later-table : List ℕ
-    later-table = set after slot (word_of x)
+    abbrev later_table : List ℕ
+    later_table = set after slot (word_of x)
 
     slots-after :
         (s q : ℕ) → s < rules img → q ≤ length text
         → (b : Bool) → eqb (slot_of (rules img) s q) slot ≡ b
         → (c : Bool) → ltb slot (length after) ≡ c
-        → Slot img text before later-table s q
+        → Slot img text before later_table s q
     slots-after s q m j b eb false ec =
         subst (λ (t : List ℕ). Slot img text before t s q) (sym (set_out after slot (word_of x) (ltb-false slot (length after) ec))) (g.slots s q m j)
     slots-after s q m j true eb true ec =
         let same = eqb-true (slot_of (rules img) s q) slot eb in
         let d = one_slot (rules img) q p s r m l same in
-        subst (λ (i : ℕ). Slot img text before later-table i q) (sym d.1)
-        (subst (λ (i : ℕ). Slot img text before later-table r i) (sym d.0)
+        subst (λ (i : ℕ). Slot img text before later_table i q) (sym d.1)
+        (subst (λ (i : ℕ). Slot img text before later_table r i) (sym d.0)
         (stored x e u k (get_or-set_same after slot (word_of x) 0 (ltb-true slot (length after) ec))))
     slots-after s q m j false eb true ec = again (g.slots s q m j)
       where
-        other : word_at img later-table s q ≡ word_at img after s q
+        other : word_at img later_table s q ≡ word_at img after s q
         other = get_or-set_other after slot (slot_of (rules img) s q) (word_of x) 0 (eqb-false (slot_of (rules img) s q) slot eb)
 
-        again : Slot img text before after s q → Slot img text before later-table s q
+        again : Slot img text before after s q → Slot img text before later_table s q
         again (kept w) = kept (other ∙ w)
         again (stored y f v n w) = stored y f v n (other ∙ w)
 
     inside-after :
         Room img text before → (s q : ℕ) → s < rules img → q ≤ length text
         → (b : Bool) → eqb (slot_of (rules img) s q) slot ≡ b
-        → Inside img text before later-table s q
+        → Inside img text before later_table s q
     inside-after n s q m j true eb =
         let d = one_slot (rules img) q p s r m l (eqb-true (slot_of (rules img) s q) slot eb) in
-        subst (λ (i : ℕ). Inside img text before later-table i q) (sym d.1)
-        (subst (λ (i : ℕ). Inside img text before later-table r i) (sym d.0)
+        subst (λ (i : ℕ). Inside img text before later_table i q) (sym d.1)
+        (subst (λ (i : ℕ). Inside img text before later_table r i) (sym d.0)
         (λ was is y v.
-        subst (AllHeld img later-table) (bodies_once img text (over img text before) u v) (a n)))
+        subst (AllHeld img later_table) (bodies_once img text (over img text before) u v) (a n)))
     inside-after n s q m j false eb = λ was is y v z i.
         let other = get_or-set_other after slot (slot_of (rules img) s q) (word_of x) 0 (eqb-false (slot_of (rules img) s q) slot eb) in
         held_set after slot (slot_of (rules img) z.rule z.position) (word_of x) f
         (g.inside n s q m j was (sym (ap is_held other) ∙ is) y v z i)
 
-    pub grown-store : Grown img text before later-table
-    grown-store =
+    pub grown_store : Grown img text before later_table
+    grown_store =
         record {
           as_long = length-set after slot (word_of x) ∙ g.as_long;
           slots = λ s q m j. slots-after s q m j (eqb (slot_of (rules img) s q) slot) refl (ltb slot (length after)) refl;

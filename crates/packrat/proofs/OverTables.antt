@@ -35,8 +35,8 @@ use Rattle.evaluation.specs.Calls.{Pair, In, here, later, bodies_of}
 use Rattle.evaluation.proofs.Pairs.{in_either, in_left, in_right, none_in}
 use Rattle.evaluation.proofs.Bodies.{shallower}
 use Rattle.packrat.specs.Stores.{Room}
-use Rattle.packrat.proofs.Gain.{Gain, AllHeld, gain_none, gain_then, gain_among, gain-store, only_pair}
-use Rattle.packrat.proofs.Grown.{Slot, kept, stored, Grown, grown-store}
+use Rattle.packrat.proofs.Gain.{Gain, AllHeld, gain_none, gain_then, gain_among, gain_store, only_pair}
+use Rattle.packrat.proofs.Grown.{Slot, kept, stored, Grown, grown_store}
 use Rattle.packrat.proofs.Rules.{possible_within}
 
 -- How a pair that is answered by its body, or by a record, stands in the table.
@@ -252,9 +252,9 @@ module _ (img text table : List ℕ) (words : Question4 img) (short : length tex
           gain_among img text (pair ∷ ps)
           (λ x a. ⊎_elim (λ y. later y) (λ y. first_of y) (in_either ps (pair ∷ []) a))
           (λ x a. last-of-all a)
-          (gain_then img text i (gain-store img text u d r p (word_of z) l h free held)) in
+          (gain_then img text i (gain_store img text u d r p (word_of z) l h free held)) in
           fine (set u (slot_of (rules img) r p) (word_of z)) ((d + 1) % 2 ^ 64) j
-          (grown-store b l h e v (omega arith) held (λ m. all_of (set u (slot_of (rules img) r p) (word_of z)) (gained.all (rw g.as_long m))))
+          (grown_store b l h e v (omega arith) held (λ m. all_of (set u (slot_of (rules img) r p) (word_of z)) (gained.all (rw g.as_long m))))
           gained
           (ap (λ (o : Out). bind o (λ x u d. out (answered x) (set u (slot_of (rules img) r p) (word_of x)) ((d + 1) % 2 ^ 64))) q)
 

@@ -62,22 +62,22 @@ module _ (rules root : ℕ) (text : List ℕ) (nodes : Evaluator) (left rule at 
         ∙ ap (λ (b : Bool). met b (leb (nesting_of word) left) word t c) d
         ∙ ap (λ (b : Bool). met p b word t c) k
 
-    pub rule-impossible :
+    pub rule_impossible :
         is_held word ≡ true
         → possible word at (length text) ≡ false
         → Gives (length text) at left (pair_m rules root text nodes left rule at t c) 12 t c
     unfolding met
-    rule-impossible e d = gives_refusal (meets e d refl) (omega arith)
+    rule_impossible e d = gives_refusal (meets e d refl) (omega arith)
 
-    pub rule-too-deep :
+    pub rule_too_deep :
         is_held word ≡ true
         → possible word at (length text) ≡ true
         → left < nesting_of word
         → Gives (length text) at left (pair_m rules root text nodes left rule at t c) 14 t c
     unfolding met
-    rule-too-deep e d l = gives_refusal (meets e d (lt-leb (nesting_of word) left l)) (omega arith)
+    rule_too_deep e d l = gives_refusal (meets e d (lt-leb (nesting_of word) left l)) (omega arith)
 
-    pub rule-met :
+    pub rule_met :
         {w : ℕ}
         → is_held word ≡ true
         → possible word at (length text) ≡ true
@@ -85,7 +85,7 @@ module _ (rules root : ℕ) (text : List ℕ) (nodes : Evaluator) (left rule at 
         → w ≡ record_word (record_of word)
         → Gives (length text) at left (pair_m rules root text nodes left rule at t c) w t c
     unfolding met
-    rule-met e d l k =
+    rule_met e d l k =
         let q = says_possible word at (length text) d in
         gives_value (value_of word)
         (meets e d (le-leb (nesting_of word) left l))
@@ -100,19 +100,19 @@ module _ (rules root : ℕ) (text : List ℕ) (nodes : Evaluator) (left rule at 
     module _ (short : length text ≤ 65535) (most : left ≤ 4096) (e : is_held word ≡ false) {r d : ℕ} {u : List ℕ}
         (g : Gives (length text) at left (nodes root at t c) r u d)
       where
-        pub rule-refused : r < 16 → Gives (length text) at left (pair_m rules root text nodes left rule at t c) r u d
+        pub rule_refused : r < 16 → Gives (length text) at left (pair_m rules root text nodes left rule at t c) r u d
         unfolding looked
-        rule-refused h =
+        rule_refused h =
             let v = was_refused short most g h in
             gives_refusal
             (looks e ∙ ap (λ (o : Out). bind o (λ x u d. out (answered x) (set u (slot_of rules rule at) (word_of x)) ((d + 1) % 2 ^ 64))) v.is)
             v.small
 
-        pub rule-stored :
+        pub rule_stored :
             16 ≤ r
             → Gives (length text) at left (pair_m rules root text nodes left rule at t c) r (set u (slot_of rules rule at) r) ((d + 1) % 2 ^ 64)
         unfolding looked
-        rule-stored h =
+        rule_stored h =
             let v = found short most g h in
             gives_value v.value
             (looks e

@@ -14,7 +14,7 @@ use Rattle.records.specs.Words.{word_of, value_of, matched_of, length_of, nestin
 use Rattle.packrat.specs.Model.{answered, Out, out, Evaluator, bind, made, after_first, after_choice, kind_m}
 use Rattle.packrat.specs.Gives.{Gives}
 use Rattle.records.specs.Joinable.{Joinable}
-use Rattle.packrat.proofs.Gives.{found, was_refused, says, says-matched, says-length, says-examined, says-nesting, gives_value, gives_refusal}
+use Rattle.packrat.proofs.Gives.{found, was_refused, says, says_matched, says_length, says_examined, says_nesting, gives_value, gives_refusal}
 
 module _ {n at left : ℕ} (text : List ℕ) (nodes called : Evaluator) (t : List ℕ) (c : ℕ) (short : n ≤ 65535) (most : left + 1 ≤ 4096) where
   -- A then B.
@@ -38,7 +38,7 @@ module _ {n at left : ℕ} (text : List ℕ) (nodes called : Evaluator) (t : Lis
   unfolding kind_m after_first
   sequence_failed a b {d = d} {u = u} g h m e =
       let f = found short (omega arith) g h in
-      let k = sym (says-matched short (omega arith) f) ∙ m in
+      let k = sym (says_matched short (omega arith) f) ∙ m in
       gives_value (first_failed f.value)
       (ap (λ (o : Out). bind o (λ x u d. after_first x.matched nodes b at x u d)) f.is
       ∙ ap (λ (z : Bool). after_first z nodes b at f.value u d) k)
@@ -52,20 +52,20 @@ module _ {n at left : ℕ} (text : List ℕ) (nodes called : Evaluator) (t : Lis
     unfolding kind_m after_first
     then_runs o e =
         let f = found short (omega arith) g h in
-        let k = sym (says-matched short (omega arith) f) ∙ m in
-        let l = sym (says-length short (omega arith) f) in
+        let k = sym (says_matched short (omega arith) f) ∙ m in
+        let l = sym (says_length short (omega arith) f) in
         ap (λ (o : Out). bind o (λ x u d. after_first x.matched nodes b at x u d)) f.is
         ∙ ap (λ (z : Bool). after_first z nodes b at f.value u d) k
         ∙ ap (λ (j : ℕ). made (in_sequence f.value) (nodes b (at + j) u d)) l
         ∙ ap (λ (x : Evaluation). made (in_sequence x) (nodes b (at + length_of r) u d)) (sym (says short (omega arith) f))
         ∙ ap (made (in_sequence (value_of r))) e
 
-    pub sequence-second-refused :
+    pub sequence_second_refused :
         {s e : ℕ} {v : List ℕ}
         → Gives n (at + length_of r) left (nodes b (at + length_of r) u d) s v e
         → s < 16
         → Gives n at (left + 1) (kind_m text nodes called (sequence a b) at t c) s v e
-    sequence-second-refused g2 h2 =
+    sequence_second_refused g2 h2 =
         let f = was_refused short (omega arith) g2 h2 in
         gives_refusal (then_runs _ f.is) f.small
 
@@ -78,24 +78,24 @@ module _ {n at left : ℕ} (text : List ℕ) (nodes called : Evaluator) (t : Lis
         let x = found short (omega arith) g h in
         let y = found short (omega arith) g2 h2 in
         record {
-          first_nesting = omega (arith, says-nesting short (omega arith) x, x.bounds.allowed);
-          second_nesting = omega (arith, says-nesting short (omega arith) y, y.bounds.allowed);
-          lengths = omega (arith, says-length short (omega arith) y, y.bounds.shape.in_text);
-          reach = omega (arith, says-examined short (omega arith) y, y.bounds.shape.up_to_end);
+          first_nesting = omega (arith, says_nesting short (omega arith) x, x.bounds.allowed);
+          second_nesting = omega (arith, says_nesting short (omega arith) y, y.bounds.allowed);
+          lengths = omega (arith, says_length short (omega arith) y, y.bounds.shape.in_text);
+          reach = omega (arith, says_examined short (omega arith) y, y.bounds.shape.up_to_end);
         }
 
-    pub sequence-both :
+    pub sequence_both :
         {s e w : ℕ} {v : List ℕ}
         → Gives n (at + length_of r) left (nodes b (at + length_of r) u d) s v e
         → 16 ≤ s
         → w ≡ word_of (in_sequence (value_of r) (value_of s))
         → Gives n at (left + 1) (kind_m text nodes called (sequence a b) at t c) w v e
-    sequence-both {s} {e} {v = v} g2 h2 k =
+    sequence_both {s} {e} {v = v} g2 h2 k =
         let x = found short (omega arith) g h in
         let y = found short (omega arith) g2 h2 in
         let sx = says short (omega arith) x in
         let sy = says short (omega arith) y in
-        let lx = says-length short (omega arith) x in
+        let lx = says_length short (omega arith) x in
         gives_value (in_sequence x.value y.value)
         (then_runs _ y.is ∙ ap (λ (z : Evaluation). out (answered (in_sequence z y.value)) v e) sx)
         (k ∙ ap (λ (z : Evaluation). word_of (in_sequence z (value_of s))) sx ∙ ap (λ (z : Evaluation). word_of (in_sequence x.value z)) sy)
@@ -123,7 +123,7 @@ module _ {n at left : ℕ} (text : List ℕ) (nodes called : Evaluator) (t : Lis
   unfolding kind_m after_choice
   choice_first a b {d = d} {u = u} g h m e =
       let f = found short (omega arith) g h in
-      let k = sym (says-matched short (omega arith) f) ∙ m in
+      let k = sym (says_matched short (omega arith) f) ∙ m in
       gives_value (taken_over f.value)
       (ap (λ (o : Out). bind o (λ x u d. after_choice x.matched nodes b at x u d)) f.is
       ∙ ap (λ (z : Bool). after_choice z nodes b at f.value u d) k)
@@ -136,28 +136,28 @@ module _ {n at left : ℕ} (text : List ℕ) (nodes called : Evaluator) (t : Lis
     unfolding kind_m after_choice
     else-runs o e =
         let f = found short (omega arith) g h in
-        let k = sym (says-matched short (omega arith) f) ∙ m in
+        let k = sym (says_matched short (omega arith) f) ∙ m in
         ap (λ (o : Out). bind o (λ x u d. after_choice x.matched nodes b at x u d)) f.is
         ∙ ap (λ (z : Bool). after_choice z nodes b at f.value u d) k
         ∙ ap (λ (x : Evaluation). made (second_choice x) (nodes b at u d)) (sym (says short (omega arith) f))
         ∙ ap (made (second_choice (value_of r))) e
 
-    pub choice-second-refused :
+    pub choice_second_refused :
         {s e : ℕ} {v : List ℕ}
         → Gives n at left (nodes b at u d) s v e
         → s < 16
         → Gives n at (left + 1) (kind_m text nodes called (choice a b) at t c) s v e
-    choice-second-refused g2 h2 =
+    choice_second_refused g2 h2 =
         let f = was_refused short (omega arith) g2 h2 in
         gives_refusal (else-runs _ f.is) f.small
 
-    pub choice-second :
+    pub choice_second :
         {s e w : ℕ} {v : List ℕ}
         → Gives n at left (nodes b at u d) s v e
         → 16 ≤ s
         → w ≡ word_of (second_choice (value_of r) (value_of s))
         → Gives n at (left + 1) (kind_m text nodes called (choice a b) at t c) w v e
-    choice-second {s} {e} {v = v} g2 h2 k =
+    choice_second {s} {e} {v = v} g2 h2 k =
         let x = found short (omega arith) g h in
         let y = found short (omega arith) g2 h2 in
         let sx = says short (omega arith) x in
@@ -230,7 +230,7 @@ pub nesting_allowed :
     → nesting_of r ≤ left
 nesting_allowed short most g h =
     let f = found short most g h in
-    omega (arith, says-nesting short most f, f.bounds.allowed)
+    omega (arith, says_nesting short most f, f.bounds.allowed)
 
 -- An answered word says its evaluation and nothing else.
 pub says_itself :
@@ -254,4 +254,4 @@ pub length_within :
     → at + length_of r ≤ n
 length_within short most g h =
     let f = found short most g h in
-    omega (arith, says-length short most f, f.bounds.shape.in_text)
+    omega (arith, says_length short most f, f.bounds.shape.in_text)

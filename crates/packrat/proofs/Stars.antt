@@ -14,7 +14,7 @@ use Rattle.grammar.specs.Evaluates.{taken_over, last_round, round_then}
 use Rattle.records.specs.Words.{word_of, matched_of, length_of, examined_of, nesting_of}
 use Rattle.packrat.specs.Model.{answered, refused, Out, out, Evaluator, bind, made, after_round, rounds_m, kind_m}
 use Rattle.packrat.specs.Gives.{Gives}
-use Rattle.packrat.proofs.Gives.{found, was_refused, says-matched, says-length, says-examined, says-nesting, gives_value}
+use Rattle.packrat.proofs.Gives.{found, was_refused, says_matched, says_length, says_examined, says_nesting, gives_value}
 
 -- Rounds that consumed, examined and nested so far, with the rounds y after them.
 abbrev pub joined : (consumed examined deepest : ℕ) → Evaluation → Evaluation
@@ -118,13 +118,13 @@ module _ {n at left : ℕ} (nodes : Evaluator) (a : ℕ) {goal : Out} {t : List 
         go zero e i = absurd (let h = rounds.in_text in omega arith)
         go (suc f) e i = (f, k f e i)
 
-    pub round-refused :
+    pub round_refused :
         {r d : ℕ} {u : List ℕ}
         → Gives n (at + consumed) left (nodes a (at + consumed) t c) r u d
         → r < 16
         → made taken_over goal ≡ out (refused r) u d
     unfolding rounds_m
-    round-refused g h =
+    round_refused g h =
         let v = was_refused short (omega arith) g h in
         (one-round (λ (f : ℕ). made taken_over goal ≡ out (refused _) _ _)
         (λ f e i.
@@ -143,22 +143,22 @@ module _ {n at left : ℕ} (nodes : Evaluator) (a : ℕ) {goal : Out} {t : List 
       unfolding rounds_m
       after-round f m s em es =
           let v = found short (omega arith) g h in
-          let k = sym (says-matched short (omega arith) v) ∙ em in
-          let l = ap (λ (j : ℕ). eqb j 0) (sym (says-length short (omega arith) v)) ∙ es in
+          let k = sym (says_matched short (omega arith) v) ∙ em in
+          let l = ap (λ (j : ℕ). eqb j 0) (sym (says_length short (omega arith) v)) ∙ es in
           ap (λ (o : Out). bind o (λ x u d. after_round x.matched (eqb x.length 0) (rounds_m f nodes a) (at + consumed) x u d)) v.is
           ∙ ap (λ (b : Bool). after_round b (eqb v.value.length 0) (rounds_m f nodes a) (at + consumed) v.value u d) k
           ∙ ap (λ (b : Bool). after_round m b (rounds_m f nodes a) (at + consumed) v.value u d) l
 
-      pub round-still : matched_of r ≡ true → length_of r ≡ 0 → made taken_over goal ≡ out (refused 12) u d
+      pub round_still : matched_of r ≡ true → length_of r ≡ 0 → made taken_over goal ≡ out (refused 12) u d
       unfolding after_round
-      round-still m l =
+      round_still m l =
           (one-round (λ (f : ℕ). made taken_over goal ≡ out (refused 12) u d)
           (λ f e i.
           ap (made taken_over) (sym i)
           ∙ ap (λ (o : Out). made taken_over (made (joined consumed examined deepest) o)) (after-round f true true m (eq-eqb (length_of r) 0 l)))
           ).1
 
-      pub round-fails :
+      pub round_fails :
           (text : List ℕ) (called : Evaluator) (t₀ : List ℕ) (c₀ : ℕ) {w x y : ℕ}
           → goal ≡ rounds_m (suc (length text)) nodes a at t₀ c₀
           → matched_of r ≡ false
@@ -167,10 +167,10 @@ module _ {n at left : ℕ} (nodes : Evaluator) (a : ℕ) {goal : Out} {t : List 
           → w ≡ word_of (record { matched = true; length = consumed; examined = x; nesting = 1 + y })
           → Gives n at (left + 1) (kind_m text nodes called (star a) at t₀ c₀) w u d
       unfolding kind_m after_round
-      round-fails text called t₀ c₀ {x = x} {y = y} eg m ex ey ew =
+      round_fails text called t₀ c₀ {x = x} {y = y} eg m ex ey ew =
           let v = found short (omega arith) g h in
-          let sx = says-examined short (omega arith) v in
-          let sn = says-nesting short (omega arith) v in
+          let sx = says_examined short (omega arith) v in
+          let sn = says_nesting short (omega arith) v in
           let whole : made taken_over goal ≡ out (answered (taken_over (joined consumed examined deepest (last_round v.value)))) u d =
           (one-round (λ (f : ℕ). made taken_over goal ≡ out (answered (taken_over (joined consumed examined deepest (last_round v.value)))) u d)
           (λ f e i.
@@ -194,7 +194,7 @@ module _ {n at left : ℕ} (nodes : Evaluator) (a : ℕ) {goal : Out} {t : List 
           })
           (omega (arith, rounds.allowed, v.bounds.allowed))
 
-      pub round-goes :
+      pub round_goes :
           {x y l : ℕ}
           → matched_of r ≡ true
           → x ≡ max examined (consumed + examined_of r)
@@ -203,11 +203,11 @@ module _ {n at left : ℕ} (nodes : Evaluator) (a : ℕ) {goal : Out} {t : List 
           → (l ≡ 0 → ⊥)
           → Rounds n at left nodes a goal u d (consumed + l) x y
       unfolding after_round
-      round-goes {x} {y} {l} m ex ey el ne =
+      round_goes {x} {y} {l} m ex ey el ne =
           let v = found short (omega arith) g h in
-          let sx = says-examined short (omega arith) v in
-          let sn = says-nesting short (omega arith) v in
-          let sl = says-length short (omega arith) v in
+          let sx = says_examined short (omega arith) v in
+          let sn = says_nesting short (omega arith) v in
+          let sl = says_length short (omega arith) v in
           let s = ne_eqb (length_of r) 0 (λ z. ne (el ∙ z)) in
           let step =
           one-round
@@ -237,9 +237,9 @@ module _ {n at left : ℕ} (nodes : Evaluator) (a : ℕ) {goal : Out} {t : List 
           }
 
       -- What the word of the loop's answer asks.
-      pub round-bounds : (max examined (consumed + examined_of r) ≤ n + 1) × (max deepest (nesting_of r) ≤ left)
-      round-bounds =
+      pub round_bounds : (max examined (consumed + examined_of r) ≤ n + 1) × (max deepest (nesting_of r) ≤ left)
+      round_bounds =
           let v = found short (omega arith) g h in
-          let sx = says-examined short (omega arith) v in
-          let sn = says-nesting short (omega arith) v in
+          let sx = says_examined short (omega arith) v in
+          let sn = says_nesting short (omega arith) v in
           (omega (arith, rounds.in_reach, v.bounds.shape.up_to_end), omega (arith, rounds.allowed, v.bounds.allowed))

@@ -18,7 +18,7 @@ use Rattle.evaluation.specs.Calls.{Pair, In, is_in, bodies_of}
 use Rattle.evaluation.proofs.Pairs.{is_in_lem, not_in, one_pair}
 use Rattle.evaluation.proofs.Counts.{count_plus}
 use Rattle.evaluation.proofs.Bodies.{shallower}
-use Rattle.evaluation.proofs.Range.{PairOf, bodies-in-range}
+use Rattle.evaluation.proofs.Range.{PairOf, bodies_in_range}
 use Rattle.records.specs.Words.{is_held, possible}
 use Rattle.records.specs.Slots.{slot_of}
 use Rattle.records.proofs.Slots.{one_slot}
@@ -56,7 +56,7 @@ module _ (img text table : List ℕ) (words : Question4 img) (short : length tex
   pub over_in_range :
       {r p : ℕ} {z : Evaluation} (d : Over img text table (a_pair r) p z) → r < rules img → p ≤ length text
       → (x : Pair) → In x (bodies_of d) → PairOf img text x
-  over_in_range d l h x i = bodies-in-range img text (over img text table) words (records_within img text table words short) d l h x i
+  over_in_range d l h x i = bodies_in_range img text (over img text table) words (records_within img text table words short) d l h x i
 
   module _ (room : Room img text table) {r p : ℕ} {z : Evaluation} (d : Over img text table (a_pair r) p z)
       (l : r < rules img) (h : p ≤ length text)

@@ -19,7 +19,7 @@ use Rattle.evaluation.specs.Calls.{Pair, In, is_in, calls_of, bodies_of}
 use Rattle.evaluation.proofs.Pairs.{in_is, is_in_lem}
 use Rattle.evaluation.proofs.Counts.{count_same, count_most}
 use Rattle.evaluation.proofs.Plain.{no_record}
-use Rattle.evaluation.proofs.Range.{called-in-range}
+use Rattle.evaluation.proofs.Range.{called_in_range}
 use Rattle.evaluation.proofs.Reach.{bodies_closed}
 use Rattle.evaluation.proofs.Totality.{total_pair}
 use Rattle.records.specs.Words.{is_held, word_of}
@@ -141,7 +141,7 @@ module _ (img text table : List ℕ) (accepted : Accepted img) (short : length t
                 → is_held (word_at img after y.rule y.position) ≡ true
             go s q m j f x u y i b k =
                 let place =
-                called-in-range img text bodies_only accepted.lawful.words (λ r p x h e. absurd (no_record e))
+                called_in_range img text bodies_only accepted.lawful.words (λ r p x h e. absurd (no_record e))
                 (record { rule = s; position = q }) x u (record { rule_in = m; position_in = j }) y i in
                 holds y.rule y.position place.rule_in place.position_in ∙ by b k
               where
@@ -217,10 +217,10 @@ module _ (img text table : List ℕ) (accepted : Accepted img) (short : length t
       go (fine u d n g a q) = absurd (let z : ◌≡◌ {A = ℕ} 0 1 = cc (f.is, q) in omega arith)
 
   module _ {z : Evaluation} (e : Fresh img text (a_pair (start img)) 0 z) where
-    pub start-reads :
+    pub start_reads :
         Room img text table → ClosedTable img text table → z.nesting ≤ 4096 → (c : ℕ)
         → Reads img text table c z (bodies_of e) (rule_m img text (node_m img text 4096) 4096 (start img) 0 table c)
-    start-reads room closed k c = pair_reads room closed e accepted.lawful.counts.start_rule (omega arith) 4096 (omega arith) k c
+    start_reads room closed k c = pair_reads room closed e accepted.lawful.counts.start_rule (omega arith) 4096 (omega arith) k c
 
-    pub start-deep : 4096 < z.nesting → (c : ℕ) → RefusedWith 14 (rule_m img text (node_m img text 4096) 4096 (start img) 0 table c)
-    start-deep k c = pair_deep e accepted.lawful.counts.start_rule (omega arith) 4096 (omega arith) k c
+    pub start_deep : 4096 < z.nesting → (c : ℕ) → RefusedWith 14 (rule_m img text (node_m img text 4096) 4096 (start img) 0 table c)
+    start_deep k c = pair_deep e accepted.lawful.counts.start_rule (omega arith) 4096 (omega arith) k c

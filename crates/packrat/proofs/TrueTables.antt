@@ -23,7 +23,7 @@ use Rattle.evaluation.specs.Calls.{Pair, is_in, bodies_of}
 use Rattle.evaluation.proofs.Plain.{fresh_within, no_record}
 use Rattle.evaluation.proofs.Pairs.{is_in_lem, is_in_both}
 use Rattle.evaluation.proofs.BodiesOnce.{bodies_once}
-use Rattle.evaluation.proofs.Range.{InImage, PairOf, all-inside, called-in-range}
+use Rattle.evaluation.proofs.Range.{InImage, PairOf, all_inside, called_in_range}
 use Rattle.records.specs.Words.{is_held, possible, value_of, word_of}
 use Rattle.records.proofs.Codec.{value_back}
 use Rattle.records.proofs.Test.{passes_test}
@@ -84,9 +84,9 @@ module _ (img text table : List ℕ) (words : Question4 img) where
   held_inside closed r p u l h e s q =
       none_left (is_in s q (bodies_of u)) (is_held (word_at img table s q))
       (λ k.
-      (all-inside (λ (x : Pair). PairOf img text x × (is_held (word_at img table x.rule x.position) ≡ true))
+      (all_inside (λ (x : Pair). PairOf img text x × (is_held (word_at img table x.rule x.position) ≡ true))
       (λ x z v a y i. (
-        called-in-range img text bodies_only words (λ r p x h e. absurd (no_record e)) x z v a.0 y i,
+        called_in_range img text bodies_only words (λ r p x h e. absurd (no_record e)) x z v a.0 y i,
         closed.called_held x.rule x.position a.0.rule_in a.0.position_in a.1 z v y i,
       ))
       u

@@ -74,29 +74,29 @@ module _ (img : List ℕ) (cap n words : ℕ) where
       own-edit : List Question
       own-edit = record { number = 9; holds = Question9 n s e } ∷ record { number = 10; holds = Question10 cap n s e k } ∷ []
 
-      pub edit-9 : (Question9 n s e → ⊥) → First (of_edit img cap n words s e k) 9
+      pub edit_9 : (Question9 n s e → ⊥) → First (of_edit img cap n words s e k) 9
       unfolding own-edit
-      edit-9 fails = then_asked (of_sheet img cap n words) own-edit 9 (sheet_numbers img cap n words) good (inl (fails, refl))
+      edit_9 fails = then_asked (of_sheet img cap n words) own-edit 9 (sheet_numbers img cap n words) good (inl (fails, refl))
 
-      pub edit-10 : Question9 n s e → (Question10 cap n s e k → ⊥) → First (of_edit img cap n words s e k) 10
+      pub edit_10 : Question9 n s e → (Question10 cap n s e k → ⊥) → First (of_edit img cap n words s e k) 10
       unfolding own-edit
-      edit-10 q fails = then_asked (of_sheet img cap n words) own-edit 10 (sheet_numbers img cap n words) good (inr (q, inl (fails, refl)))
+      edit_10 q fails = then_asked (of_sheet img cap n words) own-edit 10 (sheet_numbers img cap n words) good (inr (q, inl (fails, refl)))
 
-      pub edit-0 : Question9 n s e → Question10 cap n s e k → First (of_edit img cap n words s e k) 0
+      pub edit_0 : Question9 n s e → Question10 cap n s e k → First (of_edit img cap n words s e k) 0
       unfolding own-edit
-      edit-0 q p = then_asked (of_sheet img cap n words) own-edit 0 (sheet_numbers img cap n words) good (inr (q, inr (p, refl)))
+      edit_0 q p = then_asked (of_sheet img cap n words) own-edit 0 (sheet_numbers img cap n words) good (inr (q, inr (p, refl)))
 
     -- and a look-up that fails 11, and that passes it.
     module _ (rule position : ℕ) where
-      pub look-up-11 : (Question11 img n rule position → ⊥) → First (of_look_up img cap n words rule position) 11
-      look-up-11 fails =
+      pub look_up_11 : (Question11 img n rule position → ⊥) → First (of_look_up img cap n words rule position) 11
+      look_up_11 fails =
           then_asked (of_sheet img cap n words) (record { number = 11; holds = Question11 img n rule position } ∷ []) 11
           (sheet_numbers img cap n words)
           good
           (inl (fails, refl))
 
-      pub look-up-0 : Question11 img n rule position → First (of_look_up img cap n words rule position) 0
-      look-up-0 q =
+      pub look_up_0 : Question11 img n rule position → First (of_look_up img cap n words rule position) 0
+      look_up_0 q =
           then_asked (of_sheet img cap n words) (record { number = 11; holds = Question11 img n rule position } ∷ []) 0
           (sheet_numbers img cap n words)
           good

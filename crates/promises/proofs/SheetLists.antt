@@ -23,7 +23,7 @@ use Rattle.records.proofs.Slots.{size_up}
 use Rattle.packrat.specs.Loaded.{Loaded}
 use Rattle.packrat.specs.Over.{word_at}
 use Rattle.packrat.specs.Session.{start_run}
-use Rattle.packrat.proofs.TrueReads.{start-reads, start-deep}
+use Rattle.packrat.proofs.TrueReads.{start_reads, start_deep}
 use Rattle.rows.specs.Rows.{rows_of, row_words}
 use Rattle.rows.specs.Walk.{walked, stopped, Trail, trail, start_v}
 use Rattle.rows.specs.Bounds.{Number, impossible, too_deep, no_slot}
@@ -38,7 +38,7 @@ use Rattle.promises.specs.Questions.{of_sheet}
 use Rattle.promises.specs.Reading.{NotForeign, SheetRead}
 use Rattle.promises.specs.Listing.{GivesRows, listed, no_slots, zeroed, RefusedAlso, ThenListed, SheetListed, ListPromise}
 use Rattle.promises.specs.Run.{answer_of, words_of, stopped_words}
-use Rattle.promises.proofs.SheetReads.{sheet-read}
+use Rattle.promises.proofs.SheetReads.{sheet_read}
 
 -- The words of a walk, and the number of one that stopped.
 abbrev given : Trail → List ℕ
@@ -87,12 +87,12 @@ module _ (img text : List ℕ) (cap : ℕ) (W R : List ℕ) (accepted : Accepted
     the-reading : {o : Out} → start_run img text W 0 ≡ o → SheetRead img text cap W (answer_of (length text) o) (words_of img cap o)
     the-reading e =
         subst (λ (o : Out). SheetRead img text cap W (answer_of (length text) o) (words_of img cap o)) e
-        (sheet-read img text cap W accepted small fits whole)
+        (sheet_read img text cap W accepted small fits whole)
 
-    pub refused-listed :
+    pub refused_listed :
         {k count : ℕ} {table : List ℕ} → start_run img text W 0 ≡ out (refused k) table count
         → SheetListed img text cap W R (ListAnswer.Refused k) (cleared_table (rules img) cap table) R
-    refused-listed {k} {count} {table} e =
+    refused_listed {k} {count} {table} e =
         record {
           reading = ReadAnswer.Refused k;
           words = cleared_table (rules img) cap table;
@@ -113,7 +113,7 @@ module _ (img text : List ℕ) (cap : ℕ) (W R : List ℕ) (accepted : Accepted
           go true k =
               let deep = leb-true y.nesting 4096 k in
               let reads =
-              start-reads img text W accepted short f.true_words d
+              start_reads img text W accepted short f.true_words d
               (let a = size_up (rules img) (length text) cap fits in omega arith) f.closed deep 0 in
               let same : reads.after ≡ words = ap left_in (sym reads.is ∙ e) in
               subst
@@ -122,7 +122,7 @@ module _ (img text : List ℕ) (cap : ℕ) (W R : List ℕ) (accepted : Accepted
               same
               (reading_lists img text W accepted short loaded (length R) d deep reads)
           go false k =
-              let deep = start-deep img text W accepted short f.true_words d (leb-false y.nesting 4096 k) 0 in
+              let deep = start_deep img text W accepted short f.true_words d (leb-false y.nesting 4096 k) 0 in
               absurd (let x : 0 ≡ 14 = ap refusal_of (sym e ∙ deep.is) in omega arith)
 
       pub written_listed :
@@ -143,11 +143,11 @@ module _ (img text : List ℕ) (cap : ℕ) (W R : List ℕ) (accepted : Accepted
                 };
           }
 
-      pub stopped-listed :
+      pub stopped_listed :
           {k : ℕ} {rows : List ℕ} → start_v (length R) img ws text words 0 (length text) ≡ trail (stopped k) rows
           → Number k
           → SheetListed img text cap W R (ListAnswer.Refused k) (stopped_words (eqb k 15) img cap words) R
-      stopped-listed w no_slot =
+      stopped_listed w no_slot =
           record {
             reading = ReadAnswer.Read (sheet_reading (length text) z count);
             words = words;
@@ -158,7 +158,7 @@ module _ (img text : List ℕ) (cap : ℕ) (W R : List ℕ) (accepted : Accepted
                   rows_are = λ f y d. (none_written (sheet_reading (length text) z count) (walk-fits f y d) w, refl);
                 };
           }
-      stopped-listed w impossible =
+      stopped_listed w impossible =
           record {
             reading = ReadAnswer.Read (sheet_reading (length text) z count);
             words = words;
@@ -169,7 +169,7 @@ module _ (img text : List ℕ) (cap : ℕ) (W R : List ℕ) (accepted : Accepted
                   rows_are = λ f y d. absurd (no_other (λ z. omega arith) (λ z. omega arith) (walk-fits f y d) w);
                 };
           }
-      stopped-listed w too_deep =
+      stopped_listed w too_deep =
           record {
             reading = ReadAnswer.Read (sheet_reading (length text) z count);
             words = words;
@@ -196,8 +196,8 @@ module _ {img text : List ℕ} {cap : ℕ} {W R : List ℕ} {a : ListAnswer} {W'
           slots_are = t.slots_are;
         }
 
-    pub impossible-listed : RefusedAlso 12 (cleared_table (rules img) cap W) R a W' R'
-    impossible-listed = by_answer s.reading refl (s.reads.impossible h p) s.then
+    pub impossible_listed : RefusedAlso 12 (cleared_table (rules img) cap W) R a W' R'
+    impossible_listed = by_answer s.reading refl (s.reads.impossible h p) s.then
 
 -- A listing that fails one of questions 1 to 8.
 pub lists_unasked :

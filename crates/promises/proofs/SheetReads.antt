@@ -28,9 +28,9 @@ use Rattle.packrat.specs.Stores.{Room, evaluations}
 use Rattle.packrat.specs.Gives.{Gives}
 use Rattle.packrat.specs.Framed.{Fits, Framed}
 use Rattle.packrat.proofs.Gives.{found, was_refused, says}
-use Rattle.packrat.proofs.Framed.{pair-framed, pair_impossible}
+use Rattle.packrat.proofs.Framed.{pair_framed, pair_impossible}
 use Rattle.packrat.proofs.Stores.{determined}
-use Rattle.packrat.proofs.TrueReads.{start-deep, only_14}
+use Rattle.packrat.proofs.TrueReads.{start_deep, only_14}
 use Rattle.packrat.specs.Session.{start_run}
 use Rattle.editing.specs.Table.{table_size, TableLent, cleared_table}
 use Rattle.editing.proofs.Loans.{cleared_long, cleared_tail}
@@ -53,7 +53,7 @@ module _ (img text : List ℕ) (cap : ℕ) (W : List ℕ) (accepted : Accepted i
 
     -- What holds of the run over every table.
     framed : Framed img text W 0 (start_run img text W 0)
-    framed = pair-framed img text accepted.lawful.words 4096 (start img) 0 accepted.lawful.counts.start_rule (omega arith) W 0
+    framed = pair_framed img text accepted.lawful.words 4096 (start img) 0 accepted.lawful.counts.start_rule (omega arith) W 0
 
     -- No slot of the text is after the table.
     rest-same : drop (table_size (rules img) cap) framed.after ≡ drop (table_size (rules img) cap) W
@@ -97,7 +97,7 @@ module _ (img text : List ℕ) (cap : ℕ) (W : List ℕ) (accepted : Accepted i
         NotForeign img text W → TooDeep img text
         → read_number (answer_of (length text) (start_run img text W 0)) ≡ 14
     deep f t =
-        let x = start-deep img text W accepted short f.true_words t.evaluated t.above 0 in
+        let x = start_deep img text W accepted short f.true_words t.evaluated t.above 0 in
         ap (λ (o : Out). read_number (answer_of (length text) o)) x.is
 
     not-12 : NotForeign img text W → (k : ℕ) → Made (refused k) → k ≡ 14
@@ -106,8 +106,8 @@ module _ (img text : List ℕ) (cap : ℕ) (W : List ℕ) (accepted : Accepted i
         (omega arith) 0 k
         (record { after = framed.after; counted = framed.counted; is = e })
 
-    pub sheet-read : SheetRead img text cap W (answer_of (length text) (start_run img text W 0)) (words_of img cap (start_run img text W 0))
-    sheet-read = go framed.answer framed.is framed.fits
+    pub sheet_read : SheetRead img text cap W (answer_of (length text) (start_run img text W 0)) (words_of img cap (start_run img text W 0))
+    sheet_read = go framed.answer framed.is framed.fits
       where
         go :
             (x : Answer) → Made x → Fits (length text) 0 x
@@ -144,7 +144,7 @@ pub reads_are :
 reads_are img B n W accepted q =
     let long : length (take n B) ≡ n = length-take-le n B q.text_fits in
     let read =
-    sheet-read img (take n B) (length B) W accepted q.short (rw long q.text_fits) q.whole_table in
+    sheet_read img (take n B) (length B) W accepted q.short (rw long q.text_fits) q.whole_table in
     record {
       number = 0;
       first = sheet_first img (length B) n (length W) accepted q;
@@ -189,8 +189,8 @@ module _ (img B : List ℕ) (n : ℕ) (W : List ℕ) (accepted : Accepted img) (
         (sym (says short-part (omega arith) f))
         (reads_answered img B n W accepted q f.value table count f.is)
 
-    pub reads-number : word < 16 → ReadPromise img B n W (ReadAnswer.Refused word) (cleared_table (rules img) (length B) table)
-    reads-number h = let f = was_refused short-part (omega arith) g h in reads_refused img B n W accepted q word table count f.is
+    pub reads_number : word < 16 → ReadPromise img B n W (ReadAnswer.Refused word) (cleared_table (rules img) (length B) table)
+    reads_number h = let f = was_refused short-part (omega arith) g h in reads_refused img B n W accepted q word table count f.is
 
 -- A reading that fails one of questions 1 to 8.
 pub reads_unasked :

@@ -32,15 +32,15 @@ numbers : (img : List ℕ) → Rattle.grammar.proofs.First.Numbered (of_image im
 numbers img = (omega arith, (omega arith, (omega arith, (omega arith, (omega arith, (omega arith, (omega arith, tt)))))))
 
 module _ (img text : List ℕ) where
-  abbrev last-two : List Question
-  last-two = record { number = 8; holds = ShortText text } ∷ record { number = 14; holds = DepthAllowed img text } ∷ []
+  abbrev last_two : List Question
+  last_two = record { number = 8; holds = ShortText text } ∷ record { number = 14; holds = DepthAllowed img text } ∷ []
 
   -- An image that is refused.
   pub image_refused : (k : ℕ) → Checked img k → (k ≡ 0 → ⊥) → PlainRead img text (Refused k)
   image_refused k c ne =
       let h : 1 ≤ k = omega (arith, ne) in
       record {
-        first = refused_before (of_image img) last-two k h c.first;
+        first = refused_before (of_image img) last_two k h c.first;
         values = (h, λ e. absurd (not-14 c.first e));
       }
     where
@@ -55,10 +55,10 @@ module _ (img text : List ℕ) where
       not-14 (inr (q1, inr (q2, inr (q3, inr (q4, inr (q5, inr (q6, inr (q7, d)))))))) e = omega arith
 
   module _ (c : Checked img 0) where
-    pub text-refused : 65535 < length text → PlainRead img text (Refused 8)
-    text-refused h =
+    pub text_refused : 65535 < length text → PlainRead img text (Refused 8)
+    text_refused h =
         record {
-          first = then_asked (of_image img) last-two 8 (numbers img) c.first (inl ((λ q. let s = q.short in omega arith), refl));
+          first = then_asked (of_image img) last_two 8 (numbers img) c.first (inl ((λ q. let s = q.short in omega arith), refl));
           values = (omega arith, λ e. absurd (omega arith));
         }
 
@@ -80,8 +80,8 @@ module _ (img text : List ℕ) where
           let l = (accepted c).lawful in
           pair_over img text [] l.words short (start img) 0 start-over l.counts.start_rule (omega arith) 4096 (omega arith) [] (grown_none img text []) 0
 
-      pub depth-refused : word < 16 → PlainRead img text (Refused 14)
-      depth-refused h = go given
+      pub depth_refused : word < 16 → PlainRead img text (Refused 14)
+      depth_refused h = go given
         where
           go : Given → PlainRead img text (Refused 14)
           go (fine t d k g i e) =
@@ -90,7 +90,7 @@ module _ (img text : List ℕ) where
           go (deep t d k e) =
               record {
                 first =
-                    then_asked (of_image img) last-two 14 (numbers img) c.first
+                    then_asked (of_image img) last_two 14 (numbers img) c.first
                     (inr (
                       record { short = short },
                       inl (
@@ -104,8 +104,8 @@ module _ (img text : List ℕ) where
                 values = (omega arith, λ e. record { value = start_exists.value; evaluated = start_exists.evaluated; above = k });
               }
 
-      pub answered-reading : 16 ≤ word → (x : Reading) → x ≡ reading_of (length text) (value_of word) → PlainRead img text (Read x)
-      answered-reading h x ex = go given
+      pub answered_reading : 16 ≤ word → (x : Reading) → x ≡ reading_of (length text) (value_of word) → PlainRead img text (Read x)
+      answered_reading h x ex = go given
         where
           go : Given → PlainRead img text (Read x)
           go (deep t d k e) =
@@ -118,7 +118,7 @@ module _ (img text : List ℕ) where
               let w = fresh_within start_exists.evaluated (omega arith) in
               record {
                 first =
-                    then_asked (of_image img) last-two 0 (numbers img) c.first
+                    then_asked (of_image img) last_two 0 (numbers img) c.first
                     (inr (record { short = short }, inr (record { value = start_exists.value; evaluated = start_exists.evaluated; allowed = k }, refl)));
                 values =
                     record {

@@ -20,14 +20,14 @@ use Rattle.grammar.proofs.References.{refers}
 use Rattle.rounds.specs.Order.{VisitsAll}
 use Rattle.rounds.specs.Visits.{formed_from, join_at}
 use Rattle.rounds.specs.Rounds.{round, rounds, StopAfter, no_marks, formed_nodes, SoundMarks, RoundMade, Outcomes, Formed}
-use Rattle.rounds.proofs.Forming.{CannotJoin, formed_only, formed-all}
-use Rattle.rounds.proofs.Weights.{weightBy, weight_set, weight_most}
-use Rattle.rounds.proofs.Stops.{Growing, round-grows, round-still, rounds-good, still-at-most, same_left, stop}
+use Rattle.rounds.proofs.Forming.{CannotJoin, formed_only, formed_all}
+use Rattle.rounds.proofs.Weights.{weight_by, weight_set, weight_most}
+use Rattle.rounds.proofs.Stops.{Growing, round_grows, round_still, rounds_good, still_at_most, same_left, stop}
 use Rattle.rounds.proofs.Turns.{Reached}
 
 -- The number of marks.
 abbrev pub marks : List Bool → ℕ
-marks = weightBy one_if
+marks = weight_by one_if
 
 pub marks_start : (img : List ℕ) (m : ℕ) → m ≡ 1024 → SoundMarks img (replicate m false)
 marks_start img m e =
@@ -85,8 +85,8 @@ module _
         }
 
     -- one more than before.
-    pub marked-heavier : get_or formed n false ≡ false → marks formed < marks (set formed n true)
-    marked-heavier e =
+    pub marked_heavier : get_or formed n false ≡ false → marks formed < marks (set formed n true)
+    marked_heavier e =
         let sum = weight_set one_if formed n true false in_List in
         let was : one_if (get_or formed n false) ≡ 0 = ap one_if e in
         omega arith
@@ -137,7 +137,7 @@ module _
         go false e true f =
             inr
             (subst (λ (xs : List Bool). marks formed < marks xs) (marked_visit img known formed n f)
-            (marked-heavier img known formed words sets s n l (inside formed n l s) e))
+            (marked_heavier img known formed words sets s n l (inside formed n l s) e))
         go false e false f = inl (unqualified_visit img known formed n f)
 
     law : Growing (join_at img known) marks (SoundMarks img) (nodes img) (nodes img)
@@ -151,39 +151,39 @@ module _
     Adds-nothing k = round (join_at img known) order (rounds (join_at img known) k order no_marks) ≡ rounds (join_at img known) k order no_marks
 
     stopped : Adds-nothing (nodes img)
-    stopped = still-at-most law order no_marks all.only_nodes start
+    stopped = still_at_most law order no_marks all.only_nodes start
 
     same : (j k : ℕ) → Adds-nothing j → Adds-nothing k → rounds (join_at img known) j order no_marks ≡ rounds (join_at img known) k order no_marks
     same = same_left law order no_marks all.only_nodes start
 
-    pub formed-rounds-stop :
+    pub formed_rounds_stop :
         (k : ℕ) × StopAfter (join_at img known) k order no_marks × (formed_nodes img known order ≡ rounds (join_at img known) k order no_marks)
     unfolding formed_nodes
-    formed-rounds-stop =
+    formed_rounds_stop =
         let s = stop law order no_marks all.only_nodes start in
-        (s.0, s.1, same (nodes img) s.0 stopped s.1.adds-nothing)
+        (s.0, s.1, same (nodes img) s.0 stopped s.1.adds_nothing)
 
-    pub formed-nodes-left :
+    pub formed_nodes_left :
         (formed : List Bool)
         → Reached (join_at img known) order no_marks formed
         → round (join_at img known) order formed ≡ formed
         → formed ≡ formed_nodes img known order
     unfolding formed_nodes
-    formed-nodes-left formed r e =
+    formed_nodes_left formed r e =
         r.after ∙ same r.count (nodes img) (ap (round (join_at img known) order) (sym r.after) ∙ e ∙ r.after) stopped
 
     sound-nodes : SoundMarks img (formed_nodes img known order)
     unfolding formed_nodes
-    sound-nodes = rounds-good law order no_marks all.only_nodes start (nodes img)
+    sound-nodes = rounds_good law order no_marks all.only_nodes start (nodes img)
 
     -- A round that adds something makes one mark more at least.
-    pub round-marks :
+    pub round_marks :
         {formed next : List Bool} {added : Bool}
         → SoundMarks img formed
         → RoundMade (round (join_at img known) order formed) formed next added
         → added ≡ true
         → marks formed < marks next
-    round-marks {formed} {next} s m e = go (round-grows law order formed all.only_nodes s)
+    round_marks {formed} {next} s m e = go (round_grows law order formed all.only_nodes s)
       where
         go :
             (round (join_at img known) order formed ≡ formed) ⊎ (marks formed < marks (round (join_at img known) order formed))
@@ -200,16 +200,16 @@ module _
         ∙ ap (λ (b : Bool). get_or formed n false || b) h
         ∙ or-true (get_or formed n false)
 
-    pub formed-nodes-least : Formed img (formed_nodes img known order)
+    pub formed_nodes_least : Formed img (formed_nodes img known order)
     unfolding formed_nodes
-    formed-nodes-least =
+    formed_nodes_least =
         record {
           only = sound-nodes.only;
-          all = λ n l w. cannot-join n l (formed-all img known (formed_nodes img known order) words sets cannot-join w (refers img words n l));
+          all = λ n l w. cannot-join n l (formed_all img known (formed_nodes img known order) words sets cannot-join w (refers img words n l));
         }
       where
         cannot-join : (n : ℕ) → n < nodes img → CannotJoin img known (formed_nodes img known order) n
         cannot-join n l =
             cannot-by (formed_nodes img known order) n l sound-nodes
             (subst (λ (m : ℕ). join_at img known (formed_nodes img known order) m ≡ formed_nodes img known order) (all.visits n l)
-            (round-still law order (formed_nodes img known order) all.only_nodes sound-nodes stopped (all.place n l) (all.in_round n l)))
+            (round_still law order (formed_nodes img known order) all.only_nodes sound-nodes stopped (all.place n l) (all.in_round n l)))

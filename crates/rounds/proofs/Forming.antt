@@ -79,20 +79,20 @@ module _
         go true e = absurd (n (sets.only a matches_empty e))
         go false e = refl
 
-    pub formed-all : {n : Node} → WellFormed img n → Refers img n → formed_from img known formed n ≡ true
+    pub formed_all : {n : Node} → WellFormed img n → Refers img n → formed_from img known formed n ≡ true
     unfolding formed_from body
-    formed-all wf_empty r = refl
-    formed-all wf_terminal r = refl
-    formed-all (wf_call {r = rule} w) l =
+    formed_all wf_empty r = refl
+    formed_all wf_terminal r = refl
+    formed_all (wf_call {r = rule} w) l =
         let k = root_in_range img words rule l in
-        closed (root img rule) k (formed-all w (refers img words (root img rule) k))
-    formed-all (wf_then {a} {b} w v) r =
+        closed (root img rule) k (formed_all w (refers img words (root img rule) k))
+    formed_all (wf_then {a} {b} w v) r =
         then-all a b
-        (closed a r.0 (formed-all w (refers img words a r.0)))
-        (λ has. closed b r.1 (formed-all (v has) (refers img words b r.1)))
-    formed-all (wf_else {a} {b} w v) r =
-        let p = closed a r.0 (formed-all w (refers img words a r.0)) in
-        let q = closed b r.1 (formed-all v (refers img words b r.1)) in
+        (closed a r.0 (formed_all w (refers img words a r.0)))
+        (λ has. closed b r.1 (formed_all (v has) (refers img words b r.1)))
+    formed_all (wf_else {a} {b} w v) r =
+        let p = closed a r.0 (formed_all w (refers img words a r.0)) in
+        let q = closed b r.1 (formed_all v (refers img words b r.1)) in
         simp (p, q)
-    formed-all (wf_star {a} w n) r = star-all a (closed a r (formed-all w (refers img words a r))) n
-    formed-all (wf_not {a} w) r = closed a r (formed-all w (refers img words a r))
+    formed_all (wf_star {a} w n) r = star-all a (closed a r (formed_all w (refers img words a r))) n
+    formed_all (wf_not {a} w) r = closed a r (formed_all w (refers img words a r))

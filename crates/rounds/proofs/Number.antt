@@ -10,7 +10,7 @@ use borrow.Author.Tests.{not-true}
 use Rattle.grammar.specs.Image.{Node, empty, terminal, sequence, choice, star, not_predicate, call, unlawful, node, nodes}
 use Rattle.grammar.specs.Outcomes.{Has, matches_empty}
 use Rattle.grammar.specs.Questions.{Question, First, of_image, Checked, Question1, Question2, Question3, Question4, Question5, Question6, Question7}
-use Rattle.grammar.specs.Tests.{every, editionTest, countsTest, sizeTest, wordsTest, onceTest}
+use Rattle.grammar.specs.Tests.{every, edition_test, counts_test, size_test, words_test, once_test}
 use Rattle.grammar.proofs.References.{Refers, refers}
 use Rattle.grammar.proofs.Acceptance.{one_number}
 use Rattle.grammar.proofs.Tests.{below, all_below, edition_asked, edition_passes, counts_asked, counts_passes, size_asked, size_passes}
@@ -20,7 +20,7 @@ use Rattle.rounds.specs.Order.{descending}
 use Rattle.rounds.specs.Rounds.{Outcomes, Formed}
 use Rattle.rounds.specs.Number.{sets_of, formed_of, star_test, stars_test, formed_test, unless, image_number}
 use Rattle.rounds.proofs.OutcomeRounds.{outcome_sets_least}
-use Rattle.rounds.proofs.FormedRounds.{formed-nodes-least}
+use Rattle.rounds.proofs.FormedRounds.{formed_nodes_least}
 use Rattle.rounds.proofs.Orders.{descending_visits}
 
 module _ (img : List ℕ) (counts : Question2 img) (words : Question4 img) where
@@ -30,7 +30,7 @@ module _ (img : List ℕ) (counts : Question2 img) (words : Question4 img) where
 
   pub least_nodes : Formed img (formed_of img)
   unfolding formed_of
-  least_nodes = formed-nodes-least img (sets_of img) (descending (nodes img)) counts words least_sets (descending_visits (nodes img))
+  least_nodes = formed_nodes_least img (sets_of img) (descending (nodes img)) counts words least_sets (descending_visits (nodes img))
 
   stars_asked : stars_test img ≡ true → Question6 img
   unfolding stars_test star_test
@@ -111,16 +111,16 @@ module _ (img : List ℕ) where
   number6 = unless (stars_test img) 6 number7
 
   abbrev number5 : ℕ
-  number5 = unless (every (nodes img) (onceTest img)) 5 number6
+  number5 = unless (every (nodes img) (once_test img)) 5 number6
 
   abbrev number4 : ℕ
-  number4 = unless (wordsTest img) 4 number5
+  number4 = unless (words_test img) 4 number5
 
   abbrev number3 : ℕ
-  number3 = unless (sizeTest img) 3 number4
+  number3 = unless (size_test img) 3 number4
 
   abbrev number2 : ℕ
-  number2 = unless (countsTest img) 2 number3
+  number2 = unless (counts_test img) 2 number3
 
   asked_7 : Question2 img → Question4 img → First from7 number7
   asked_7 counts words =
@@ -133,24 +133,24 @@ module _ (img : List ℕ) where
 
   asked_5 : Question2 img → Question4 img → First from5 number5
   asked_5 counts words =
-      asked (one 5 (Question5 img)) from6 (every (nodes img) (onceTest img)) number6 (once_asked img) (once_passes img)
+      asked (one 5 (Question5 img)) from6 (every (nodes img) (once_test img)) number6 (once_asked img) (once_passes img)
       (λ h. asked_6 counts words)
 
   asked_4 : Question2 img → First from4 number4
   asked_4 counts =
-      asked (one 4 (Question4 img)) from5 (wordsTest img) number5 (words_asked img) (words_passes img) (λ words. asked_5 counts words)
+      asked (one 4 (Question4 img)) from5 (words_test img) number5 (words_asked img) (words_passes img) (λ words. asked_5 counts words)
 
   asked_3 : Question2 img → First from3 number3
   asked_3 counts =
-      asked (one 3 (Question3 img)) from4 (sizeTest img) number4 (size_asked img) (size_passes img) (λ h. asked_4 counts)
+      asked (one 3 (Question3 img)) from4 (size_test img) number4 (size_asked img) (size_passes img) (λ h. asked_4 counts)
 
   asked_2 : First from2 number2
-  asked_2 = asked (one 2 (Question2 img)) from3 (countsTest img) number3 (counts_asked img) (counts_passes img) (λ counts. asked_3 counts)
+  asked_2 = asked (one 2 (Question2 img)) from3 (counts_test img) number3 (counts_asked img) (counts_passes img) (λ counts. asked_3 counts)
 
   -- The number of the paper's questions, for every byte string.
   pub image_number_lem : First (of_image img) (image_number img)
   unfolding image_number
-  image_number_lem = asked (one 1 (Question1 img)) from2 (editionTest img) number2 (edition_asked img) (edition_passes img) (λ h. asked_2)
+  image_number_lem = asked (one 1 (Question1 img)) from2 (edition_test img) number2 (edition_asked img) (edition_passes img) (λ h. asked_2)
 
 pub has_number : (img : List ℕ) → Checked img (image_number img)
 has_number img = record { first = image_number_lem img }

@@ -26,13 +26,13 @@ use Rattle.rounds.specs.Visits.{gathered, gather_at}
 use Rattle.rounds.specs.Rounds.{round, rounds, StopAfter, no_outcomes, outcome_sets, Sound, RoundMade, Outcomes}
 use Rattle.rounds.proofs.Bits.{bit-union, union_small, size, size_most, union_larger}
 use Rattle.rounds.proofs.Gathering.{Closed, gathered_only, gathered_all}
-use Rattle.rounds.proofs.Weights.{weightBy, weight_set, weight_most}
-use Rattle.rounds.proofs.Stops.{Growing, round-good, round-grows, round-still, rounds-good, still-at-most, same_left, stop}
+use Rattle.rounds.proofs.Weights.{weight_by, weight_set, weight_most}
+use Rattle.rounds.proofs.Stops.{Growing, round_good, round_grows, round_still, rounds_good, still_at_most, same_left, stop}
 use Rattle.rounds.proofs.Turns.{Reached}
 
 -- The number of outcomes in all sets.
 abbrev pub weight : List ℕ → ℕ
-weight = weightBy size
+weight = weight_by size
 
 none_in_0 : (o : Outcome) → bit o 0 ≡ true → ⊥
 unfolding bit
@@ -81,21 +81,21 @@ module _ (img known : List ℕ) (sound : Sound img known) (n v : ℕ) (in-nodes 
         }
 
     -- which are heavier;
-    pub stored-heavier : (v ≡ get_or known n 0 → ⊥) → weight known < weight (set known n v)
-    stored-heavier different =
+    pub stored_heavier : (v ≡ get_or known n 0 → ⊥) → weight known < weight (set known n v)
+    stored_heavier different =
         let sum = weight_set size known n v 0 in_list in
         let more : size (get_or known n 0) < size v =
         rw gained (union_larger (get_or known n 0) (gathered img known (node img n)) (sound.small n) (λ e. different (gained ∙ e))) in
         omega arith
 
     -- it is the visit of the definition.
-    pub stored-visit : set known n v ≡ gather_at img known n
+    pub stored_visit : set known n v ≡ gather_at img known n
     unfolding gather_at
-    stored-visit = ap (set known n) gained
+    stored_visit = ap (set known n) gained
 
-    pub kept-visit : v ≡ get_or known n 0 → gather_at img known n ≡ known
+    pub kept_visit : v ≡ get_or known n 0 → gather_at img known n ≡ known
     unfolding gather_at
-    kept-visit same = ap (set known n) (sym gained ∙ same) ∙ set-get_or known n 0
+    kept_visit same = ap (set known n) (sym gained ∙ same) ∙ set-get_or known n 0
 
 -- A full set gains nothing.
 union_full : (b : ℕ) → union 7 b ≡ 7
@@ -141,7 +141,7 @@ module _ (img order : List ℕ) (counts : Question2 img) (words : Question4 img)
           → eqb gained (get_or known n 0) ≡ b
           → (set known n gained ≡ known) ⊎ (weight known < weight (set known n gained))
       go true e = inl (ap (set known n) (eqb-true gained (get_or known n 0) e) ∙ set-get_or known n 0)
-      go false e = inr (stored-heavier img known s n gained l (below l) refl (eqb-false gained (get_or known n 0) e))
+      go false e = inr (stored_heavier img known s n gained l (below l) refl (eqb-false gained (get_or known n 0) e))
 
   law : Growing (gather_at img) weight (Sound img) (nodes img) (3 * nodes img)
   law = record { keeps = keeps; grows = grows; bounded = weight_bound img }
@@ -154,7 +154,7 @@ module _ (img order : List ℕ) (counts : Question2 img) (words : Question4 img)
   Adds-nothing k = round (gather_at img) order (rounds (gather_at img) k order no_outcomes) ≡ rounds (gather_at img) k order no_outcomes
 
   stopped : Adds-nothing (3 * nodes img)
-  stopped = still-at-most law order no_outcomes all.only_nodes start
+  stopped = still_at_most law order no_outcomes all.only_nodes start
 
   same : (j k : ℕ) → Adds-nothing j → Adds-nothing k → rounds (gather_at img) j order no_outcomes ≡ rounds (gather_at img) k order no_outcomes
   same = same_left law order no_outcomes all.only_nodes start
@@ -163,7 +163,7 @@ module _ (img order : List ℕ) (counts : Question2 img) (words : Question4 img)
   unfolding outcome_sets
   outcome_rounds_stop =
       let s = stop law order no_outcomes all.only_nodes start in
-      (s.0, s.1, same (3 * nodes img) s.0 stopped s.1.adds-nothing)
+      (s.0, s.1, same (3 * nodes img) s.0 stopped s.1.adds_nothing)
 
   pub outcome_sets_left :
       (known : List ℕ) → Reached (gather_at img) order no_outcomes known → round (gather_at img) order known ≡ known → known ≡ outcome_sets img order
@@ -173,7 +173,7 @@ module _ (img order : List ℕ) (counts : Question2 img) (words : Question4 img)
 
   pub sound_sets : Sound img (outcome_sets img order)
   unfolding outcome_sets
-  sound_sets = rounds-good law order no_outcomes all.only_nodes start (3 * nodes img)
+  sound_sets = rounds_good law order no_outcomes all.only_nodes start (3 * nodes img)
 
   -- A round that adds something makes the sets heavier, and leaves right ones.
   pub round_adds :
@@ -182,7 +182,7 @@ module _ (img order : List ℕ) (counts : Question2 img) (words : Question4 img)
       → RoundMade (round (gather_at img) order known) known next added
       → added ≡ true
       → weight known < weight next
-  round_adds {known} {next} s m e = go (round-grows law order known all.only_nodes s)
+  round_adds {known} {next} s m e = go (round_grows law order known all.only_nodes s)
     where
       go :
           (round (gather_at img) order known ≡ known) ⊎ (weight known < weight (round (gather_at img) order known))
@@ -195,7 +195,7 @@ module _ (img order : List ℕ) (counts : Question2 img) (words : Question4 img)
       → Sound img known
       → RoundMade (round (gather_at img) order known) known next added
       → Sound img next
-  round_sound {known} s m = subst (Sound img) (sym m.is_round) (round-good law order known all.only_nodes s)
+  round_sound {known} s m = subst (Sound img) (sym m.is_round) (round_good law order known all.only_nodes s)
 
   -- A visit that adds nothing found the node closed.
   closed_by : (known : List ℕ) (n : ℕ) → n < nodes img → Sound img known → gather_at img known n ≡ known → Closed img known n
@@ -221,4 +221,4 @@ module _ (img order : List ℕ) (counts : Question2 img) (words : Question4 img)
       closed n l =
           closed_by (outcome_sets img order) n l sound_sets
           (subst (λ (m : ℕ). gather_at img (outcome_sets img order) m ≡ outcome_sets img order) (all.visits n l)
-          (round-still law order (outcome_sets img order) all.only_nodes sound_sets stopped (all.place n l) (all.in_round n l)))
+          (round_still law order (outcome_sets img order) all.only_nodes sound_sets stopped (all.place n l) (all.in_round n l)))

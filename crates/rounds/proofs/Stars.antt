@@ -13,7 +13,7 @@ use Rattle.rounds.specs.Rounds.{outcome_sets, formed_nodes, Outcomes, Formed}
 use Rattle.rounds.specs.Number.{of_stars, sets_of}
 use Rattle.rounds.proofs.Orders.{descending_visits}
 use Rattle.rounds.proofs.OutcomeRounds.{outcome_sets_least}
-use Rattle.rounds.proofs.FormedRounds.{formed-nodes-least}
+use Rattle.rounds.proofs.FormedRounds.{formed_nodes_least}
 use Rattle.rounds.proofs.Number.{least_sets}
 
 -- An image that fails one of questions 1 to 5,
@@ -59,7 +59,7 @@ module _ (img order : List ℕ) (e : order ≡ descending (nodes img)) where
   pub nodes_are_formed :
       {known : List ℕ} {formed : List Bool} → Lawful img → Outcomes img known → formed ≡ formed_nodes img known order → Formed img formed
   nodes_are_formed {known} l sets f =
-      subst (Formed img) (sym f) (formed-nodes-least img known order l.counts l.words sets order_visits)
+      subst (Formed img) (sym f) (formed_nodes_least img known order l.counts l.words sets order_visits)
 
 -- The sets that the rounds in that order leave.
 pub found_least : {img known : List ℕ} → Lawful img → known ≡ sets_of img → Outcomes img known

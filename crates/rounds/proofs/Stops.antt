@@ -47,33 +47,33 @@ module _
     then-adds {a = a} (inr h) (inl f) = inr (subst (λ (x : List A). weight a < weight x) (sym f) h)
     then-adds (inr h) (inr k) = inr (lt_trans h k)
 
-    pub round-good : (order : List ℕ) (xs : List A) → OnlyBelow count order → Good xs → Good (round visit order xs)
+    pub round_good : (order : List ℕ) (xs : List A) → OnlyBelow count order → Good xs → Good (round visit order xs)
     unfolding round
-    round-good [] xs b g = g
-    round-good (n ∷ order) xs b g = round-good order (visit xs n) (below_rest count n order b) (law.keeps xs n (b 0 (omega arith)) g)
+    round_good [] xs b g = g
+    round_good (n ∷ order) xs b g = round_good order (visit xs n) (below_rest count n order b) (law.keeps xs n (b 0 (omega arith)) g)
 
-    pub round-grows : (order : List ℕ) (xs : List A) → OnlyBelow count order → Good xs → Adds xs (round visit order xs)
+    pub round_grows : (order : List ℕ) (xs : List A) → OnlyBelow count order → Good xs → Adds xs (round visit order xs)
     unfolding round
-    round-grows [] xs b g = inl refl
-    round-grows (n ∷ order) xs b g =
+    round_grows [] xs b g = inl refl
+    round_grows (n ∷ order) xs b g =
         then-adds (law.grows xs n (b 0 (omega arith)) g)
-        (round-grows order (visit xs n) (below_rest count n order b) (law.keeps xs n (b 0 (omega arith)) g))
+        (round_grows order (visit xs n) (below_rest count n order b) (law.keeps xs n (b 0 (omega arith)) g))
 
-    pub round-still :
+    pub round_still :
         (order : List ℕ) (xs : List A)
         → OnlyBelow count order
         → Good xs
         → round visit order xs ≡ xs
         → (i : ℕ) → i < length order → visit xs (get_or order i 0) ≡ xs
     unfolding round
-    round-still [] xs b g e i l = absurd (omega arith)
-    round-still (n ∷ order) xs b g e i l = go (law.grows xs n (b 0 (omega arith)) g) (λ f. round-still order xs rest g f)
+    round_still [] xs b g e i l = absurd (omega arith)
+    round_still (n ∷ order) xs b g e i l = go (law.grows xs n (b 0 (omega arith)) g) (λ f. round_still order xs rest g f)
       where
         rest : OnlyBelow count order
         rest = below_rest count n order b
 
         later : Adds (visit xs n) (round visit order (visit xs n))
-        later = round-grows order (visit xs n) rest (law.keeps xs n (b 0 (omega arith)) g)
+        later = round_grows order (visit xs n) rest (law.keeps xs n (b 0 (omega arith)) g)
 
         at : (k : ℕ) → k < suc (length order) → visit xs n ≡ xs → ((j : ℕ) → j < length order → visit xs (get_or order j 0) ≡ xs) → visit xs (get_or (n ∷ order) k 0) ≡ xs
         at zero m first others = first
@@ -91,17 +91,17 @@ module _
         go (inr h) ih = absurd (no-later h later)
 
     module _ (order : List ℕ) (start : List A) (below : OnlyBelow count order) (good : Good start) where
-      pub rounds-good : (k : ℕ) → Good (rounds visit k order start)
+      pub rounds_good : (k : ℕ) → Good (rounds visit k order start)
       unfolding rounds
-      rounds-good zero = good
-      rounds-good (suc k) = round-good order (rounds visit k order start) below (rounds-good k)
+      rounds_good zero = good
+      rounds_good (suc k) = round_good order (rounds visit k order start) below (rounds_good k)
 
       -- The round after the first k adds nothing.
       abbrev pub Still : ℕ → Type 0
       Still k = round visit order (rounds visit k order start) ≡ rounds visit k order start
 
       next_grows : (k : ℕ) → Adds (rounds visit k order start) (round visit order (rounds visit k order start))
-      next_grows k = round-grows order (rounds visit k order start) below (rounds-good k)
+      next_grows k = round_grows order (rounds visit k order start) below (rounds_good k)
 
       still-next : (k : ℕ) → Still k → Still (suc k)
       unfolding rounds
@@ -120,8 +120,8 @@ module _
           go (inr h) (inl s) = inl (still-next k s)
           go (inr h) (inr m) = inr (omega arith)
 
-      pub still-at-most : Still most
-      still-at-most = go (still-or-heavy most) (next_grows most)
+      pub still_at_most : Still most
+      still_at_most = go (still-or-heavy most) (next_grows most)
         where
           go :
               Still most ⊎ (most ≤ weight (rounds visit most order start))
@@ -134,7 +134,7 @@ module _
               (omega (
                 arith,
                 law.bounded (round visit order (rounds visit most order start))
-                    (round-good order (rounds visit most order start) below (rounds-good most)),
+                    (round_good order (rounds visit most order start) below (rounds_good most)),
               ))
 
       still_after : (k j : ℕ) → Still k → rounds visit (j + k) order start ≡ rounds visit k order start
@@ -166,7 +166,7 @@ module _
               → left + j ≡ most
               → ((i : ℕ) → i < j → Still i → ⊥)
               → (k : ℕ) × StopAfter visit k order start
-          search-up zero j e none = (j, record { adds-nothing = subst Still (let same : most ≡ j = omega arith in same) still-at-most; first = none })
+          search-up zero j e none = (j, record { adds_nothing = subst Still (let same : most ≡ j = omega arith in same) still_at_most; first = none })
           search-up (suc left) j e none = go (next_grows j) (λ h. search-up left (suc j) (omega arith) (further h))
             where
               further :
@@ -182,5 +182,5 @@ module _
                   Adds (rounds visit j order start) (round visit order (rounds visit j order start))
                   → (weight (rounds visit j order start) < weight (round visit order (rounds visit j order start)) → (k : ℕ) × StopAfter visit k order start)
                   → (k : ℕ) × StopAfter visit k order start
-              go (inl s) rest = (j, record { adds-nothing = s; first = none })
+              go (inl s) rest = (j, record { adds_nothing = s; first = none })
               go (inr h) rest = rest h

@@ -8,13 +8,13 @@ use mathlib.Core.List.{List, [], ◌∷◌}
 use lib.ListN.{length, get_or, set}
 
 module _ {A : Type 0} (f : A → ℕ) where
-  unfoldable pub weightBy : List A → ℕ
-  weightBy [] = 0
-  weightBy (x ∷ xs) = f x + weightBy xs
+  unfoldable pub weight_by : List A → ℕ
+  weight_by [] = 0
+  weight_by (x ∷ xs) = f x + weight_by xs
 
   pub weight_set :
-      (xs : List A) (i : ℕ) (v d : A) → i < length xs → weightBy (set xs i v) + f (get_or xs i d) ≡ weightBy xs + f v
-  unfolding weightBy
+      (xs : List A) (i : ℕ) (v d : A) → i < length xs → weight_by (set xs i v) + f (get_or xs i d) ≡ weight_by xs + f v
+  unfolding weight_by
   weight_set [] i v d h = absurd (omega arith)
   weight_set (x ∷ xs) zero v d h = omega arith
   weight_set (x ∷ xs) (suc i) v d h = let ih = weight_set xs i v d (omega arith) in omega arith
@@ -24,8 +24,8 @@ module _ {A : Type 0} (f : A → ℕ) where
       (m c : ℕ) (xs : List A) (d : A)
       → ((k : ℕ) → f (get_or xs k d) ≤ m)
       → ((k : ℕ) → c ≤ k → f (get_or xs k d) ≡ 0)
-      → weightBy xs ≤ m * c
-  unfolding weightBy
+      → weight_by xs ≤ m * c
+  unfolding weight_by
   weight_most m c [] d h z = omega arith
   weight_most m zero (x ∷ xs) d h z =
       let ih = weight_most m zero xs d (λ k. h (suc k)) (λ k l. z (suc k) (omega arith)) in

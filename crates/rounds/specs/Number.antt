@@ -4,7 +4,7 @@ use Rattle.std.specs.Prelude.{ℕ, Bool, true, false, not, List, [], ◌∷◌, 
 use Rattle.grammar.specs.Image.{Node, empty, terminal, sequence, choice, star, not_predicate, call, unlawful, node, nodes}
 use Rattle.grammar.specs.Outcomes.{matches_empty}
 use Rattle.grammar.specs.Questions.{Question, Question6, of_lawful}
-use Rattle.grammar.specs.Tests.{every, editionTest, countsTest, sizeTest, wordsTest, onceTest}
+use Rattle.grammar.specs.Tests.{every, edition_test, counts_test, size_test, words_test, once_test}
 use Rattle.rounds.specs.Sets.{bit}
 use Rattle.rounds.specs.Order.{descending}
 use Rattle.rounds.specs.Rounds.{outcome_sets, formed_nodes}
@@ -46,11 +46,11 @@ unless false number rest = number
 -- "The image check asks 1 to 7 only and gives 0 when all pass."
 unfoldable pub image_number : List ℕ → ℕ
 image_number img =
-    unless (editionTest img) 1
-    (unless (countsTest img) 2
-    (unless (sizeTest img) 3
-    (unless (wordsTest img) 4
-    (unless (every (nodes img) (onceTest img)) 5
+    unless (edition_test img) 1
+    (unless (counts_test img) 2
+    (unless (size_test img) 3
+    (unless (words_test img) 4
+    (unless (every (nodes img) (once_test img)) 5
     (unless (stars_test img) 6
     (unless (formed_test img) 7
     0))))))

@@ -19,7 +19,7 @@ module _ {A : Type 0} (visit : List A → ℕ → List A) where
 
   -- "The rounds stop at the first that adds nothing." It comes after k rounds.
   pub record StopAfter (k : ℕ) (order : List ℕ) (known : List A) : Type 0 where
-    pub adds-nothing : round order (rounds k order known) ≡ rounds k order known
+    pub adds_nothing : round order (rounds k order known) ≡ rounds k order known
     pub first : (j : ℕ) → j < k → round order (rounds j order known) ≡ rounds j order known → ⊥
 
 -- The rounds begin with no outcome and no mark, and with a place for each of the 1,024 nodes that an image can have.

@@ -193,31 +193,31 @@ module _ (room : ℕ) (text : List ℕ) (ev called : Walker) (stays : Stays (len
     choice-bounded true b at len lo hi k c h j few = answers j few
     choice-bounded false b at len lo hi k c h j few = stays b at lo hi k c h few
 
-    pub kind-bounded :
+    pub kind_bounded :
         (m : Node) (at lo hi k c : ℕ) → at ≤ length text → c ≤ room → Bounded (length text) room at c (kind_v text ev called m at lo hi k c)
     unfolding kind_v
-    kind-bounded empty at lo hi k c h few = answers (omega arith) few
-    kind-bounded (terminal m) at lo hi k c h few = answers (shape m text at h).in_text few
-    kind-bounded (sequence a b) at lo hi k c h few =
+    kind_bounded empty at lo hi k c h few = answers (omega arith) few
+    kind_bounded (terminal m) at lo hi k c h few = answers (shape m text at h).in_text few
+    kind_bounded (sequence a b) at lo hi k c h few =
         next (stays a at lo hi k c h few) (λ m l c. after_first m l (ev b (at + l) lo hi k) c)
         (λ m l d j few'. first-bounded m b at l lo hi k d j few')
-    kind-bounded (choice a b) at lo hi k c h few =
+    kind_bounded (choice a b) at lo hi k c h few =
         next (part_bounded (length text) room ev stays a at lo hi k c h few) (λ m l c. after_choice m l (ev b at lo hi k) c)
         (λ m l d j few'. choice-bounded m b at l lo hi k d h j few')
-    kind-bounded (star a) at lo hi k c h few =
+    kind_bounded (star a) at lo hi k c h few =
         rounds_bounded (length text) room ev stays (suc (length text)) a at lo hi k 0 c (omega arith) few
-    kind-bounded (not_predicate a) at lo hi k c h few =
+    kind_bounded (not_predicate a) at lo hi k c h few =
         next (stays a at (length text + 1) 0 k c h few) (λ m l c. trail (walked (not m) 0 c) [])
         (λ m l d j few'. answers (omega arith) few')
-    kind-bounded (call r) at lo hi k c h few = calls r at lo hi k c h few
-    kind-bounded unlawful at lo hi k c h few = refuses impossible few
+    kind_bounded (call r) at lo hi k c h few = calls r at lo hi k c h few
+    kind_bounded unlawful at lo hi k c h few = refuses impossible few
 
 pub node_bounded : (room : ℕ) (ws text table : List ℕ) (left : ℕ) → Stays (length text) room (node_v room ws text table left)
 unfolding node_v
 node_bounded room ws text table zero i at lo hi k c h few = refuses too_deep few
 node_bounded room ws text table (suc left) i at lo hi k c h few =
     let inner = node_bounded room ws text table left in
-    kind-bounded room text (node_v room ws text table left)
+    kind_bounded room text (node_v room ws text table left)
     (pair_v (rules_in ws) (word_b (get_or ws i 0)) room text table (node_v room ws text table left)) inner
     (pair_bounded (rules_in ws) (word_b (get_or ws i 0)) room text table (node_v room ws text table left) inner)
     (word_node (get_or ws i 0)) at lo hi k c h few

@@ -46,9 +46,9 @@ module _ (img text table : List ℕ) (accepted : Accepted img) (short : length t
     {z : Evaluation} (u : Fresh img text (a_pair (start img)) 0 z)
     (held : is_held (word_at img table (start img) 0) ≡ true) (deep : z.nesting ≤ 4096)
   where
-    pub start-lists : Fits room 0 z.matched z.length (row_words (rows_of u 0)) (start_v room img ws text table 0 (length text))
+    pub start_lists : Fits room 0 z.matched z.length (row_words (rows_of u 0)) (start_v room img ws text table 0 (length text))
     unfolding start_v met row_words
-    start-lists = go z.matched refl
+    start_lists = go z.matched refl
       where
         inner : Trail
         inner =
@@ -78,7 +78,7 @@ pub reading_lists :
     → {count : ℕ} {o : Out} (reads : Reads img text before count z (bodies_of u) o)
     → Fits room 0 z.matched z.length (row_words (rows_of u 0)) (start_v room img ws text reads.after 0 (length text))
 reading_lists img text before accepted short loaded room u deep reads =
-    start-lists img text reads.after accepted short reads.gains.true_words reads.gains.closed loaded room u held deep
+    start_lists img text reads.after accepted short reads.gains.true_words reads.gains.closed loaded room u held deep
   where
     held : is_held (word_at img reads.after (start img) 0) ≡ true
     held =

@@ -97,12 +97,12 @@ module _ (img text table : List ℕ) (words : Question4 img) (narrow : rules img
         numbered img text table loaded room left i p (length text + 1) 0 k c ∙ f (word_b (get_or ws i 0)) left most k c
 
     -- The same in a position where the node may fail.
-    pub part-look :
+    pub part_look :
         (i p : ℕ) {x : Evaluation} (u : Fresh img text (a_node (node img i)) p x) → p ≤ length text → Looks (a_node (node img i)) p x
         → (left : ℕ) → x.nesting ≤ left → (k c : ℕ)
         → part_v (length text) (node_v room ws text table left) i p (length text + 1) 0 k c ≡ told x c
     unfolding part_v
-    part-look i p {x} u h f left most k c =
+    part_look i p {x} u h f left most k c =
         let w = fresh_within u h in
         step
         (λ m l c. after_look m (touches (length text + 1) 0 p l) l (node_v room ws text table left i p (length text + 1) 0 k) c)
@@ -122,7 +122,7 @@ module _ (img text table : List ℕ) (words : Question4 img) (narrow : rules img
         let ev = node_v room ws text table left in
         let more : ℕ → ℕ → Trail = λ l. rounds_v g (length text) ev a at (length text + 1) 0 k (before + l) in
         step (λ m l c. after_round m (eqb l 0) before (more l) c)
-        (ap (λ (q : ℕ). part_v (length text) ev a q (length text + 1) 0 k c) j ∙ part-look a p u h f left most k c)
+        (ap (λ (q : ℕ). part_v (length text) ev a q (length text + 1) 0 k c) j ∙ part_look a p u h f left most k c)
         ∙ ap (λ (q : Bool). after_round q (eqb x.length 0) before (more x.length) c) m
 
     more-look :
@@ -141,7 +141,7 @@ module _ (img text table : List ℕ) (words : Question4 img) (narrow : rules img
         let ev = node_v room ws text table left in
         let more : ℕ → ℕ → Trail = λ l. rounds_v g (length text) ev a at (length text + 1) 0 k (before + l) in
         step (λ m l c. after_round m (eqb l 0) before (more l) c)
-        (ap (λ (q : ℕ). part_v (length text) ev a q (length text + 1) 0 k c) j ∙ part-look a p u h f left most k c)
+        (ap (λ (q : ℕ). part_v (length text) ev a q (length text + 1) 0 k c) j ∙ part_look a p u h f left most k c)
         ∙ ap (λ (q : Bool). after_round q (eqb x.length 0) before (more x.length) c) m
         ∙ ap (λ (q : Bool). after_round true q before (more x.length) c) (ne_eqb x.length 0 ne)
         ∙ rest g at (before + x.length) (omega arith) (omega (arith, ne)) left most' k c
@@ -172,14 +172,14 @@ module _ (img text table : List ℕ) (words : Question4 img) (narrow : rules img
     looks {p = p} (ev_else_first {a} {b} {x = x} u m e) r h held = λ ρ left most k c.
         let n = ap (λ (w : Evaluation). w.nesting) e in
         step (λ m l c. after_choice m l (node_v room ws text table left b p (length text + 1) 0 k) c)
-        (part-look a p u h (looks u (refers img words a r.0) h held) left (omega arith) k c)
+        (part_look a p u h (looks u (refers img words a r.0) h held) left (omega arith) k c)
         ∙ ap (λ (q : Bool). after_choice q x.length (node_v room ws text table left b p (length text + 1) 0 k) c) m
         ∙ ap (λ (q : Bool). trail (walked q x.length c) []) (sym m)
         ∙ tells c e
     looks {p = p} (ev_else_second {a} {b} {x = x} {y = y} u m v e) r h held = λ ρ left most k c.
         let n = ap (λ (w : Evaluation). w.nesting) e in
         step (λ m l c. after_choice m l (node_v room ws text table left b p (length text + 1) 0 k) c)
-        (part-look a p u h (looks u (refers img words a r.0) h (λ y j. held y (in_left (calls_of v) j))) left (omega arith) k c)
+        (part_look a p u h (looks u (refers img words a r.0) h (λ y j. held y (in_left (calls_of v) j))) left (omega arith) k c)
         ∙ ap (λ (q : Bool). after_choice q x.length (node_v room ws text table left b p (length text + 1) 0 k) c) m
         ∙ by_number b p v h (looks v (refers img words b r.1) h (λ y j. held y (in_right (calls_of u) j)))
         left (omega arith) k c

@@ -16,7 +16,7 @@ use Rattle.promises.specs.Questions.{Question8, of_sheet}
 use Rattle.promises.specs.Reading.{ReadPromise}
 use Rattle.promises.proofs.Asked.{sheet_passed}
 use Rattle.records.proofs.Slots.{size_up}
-use Rattle.promises.proofs.SheetReads.{reads_word, reads-number}
+use Rattle.promises.proofs.SheetReads.{reads_word, reads_number}
 
 -- The number of words of a table is far below a machine word.
 pub size_fits : (rules cap : ℕ) → rules ≤ 64 → cap ≤ 65535 → rules * (cap + 1) ≤ 4194304
@@ -53,10 +53,10 @@ module _ (img B : List ℕ) (n : ℕ) (W : List ℕ) (good : First (of_sheet img
     whole-text : StartOver img (take n B) W 0 word after count
     whole-text = subst (λ (k : ℕ). StartOver img (take k B) W 0 word after count) e run
 
-    pub read-refused : word < 16 → ReadPromise img B n W (ReadAnswer.Refused word) (cleared_table (rules img) (length B) after)
-    read-refused =
-        reads-number img B n W (accepted_image img (length B) n (length W) good) (loan img (length B) n (length W) good) whole-text
+    pub read_refused : word < 16 → ReadPromise img B n W (ReadAnswer.Refused word) (cleared_table (rules img) (length B) after)
+    read_refused =
+        reads_number img B n W (accepted_image img (length B) n (length W) good) (loan img (length B) n (length W) good) whole-text
 
-    pub read-answered : 16 ≤ word → ReadPromise img B n W (ReadAnswer.Read (sheet_reading n (value_of word) count)) after
-    read-answered =
+    pub read_answered : 16 ≤ word → ReadPromise img B n W (ReadAnswer.Read (sheet_reading n (value_of word) count)) after
+    read_answered =
         reads_word img B n W (accepted_image img (length B) n (length W) good) (loan img (length B) n (length W) good) whole-text

@@ -26,7 +26,7 @@ use Rattle.promises.specs.Questions.{Question8, of_sheet}
 use Rattle.promises.specs.Listing.{ListPromise}
 use Rattle.promises.specs.Run.{stopped_words}
 use Rattle.loaded.proofs.LoadedImage.{image_loaded}
-use Rattle.promises.proofs.SheetLists.{refused-listed, written_listed, stopped-listed, lists_done}
+use Rattle.promises.proofs.SheetLists.{refused_listed, written_listed, stopped_listed, lists_done}
 use Rattle.sheet.proofs.Laws.{accepted_image, loan}
 
 pub below_16 : {k : ℕ} → Number k → k < 16
@@ -69,10 +69,10 @@ module _ (img B : List ℕ) (n : ℕ) (W R : List ℕ) (good : First (of_sheet i
     whole-text : StartOver img (take n B) W 0 word after count
     whole-text = subst (λ (k : ℕ). StartOver img (take k B) W 0 word after count) e run
 
-    pub list-refused : word < 16 → ListPromise img B n W R (ListAnswer.Refused word) (cleared_table (rules img) (length B) after) R
-    list-refused h =
+    pub list_refused : word < 16 → ListPromise img B n W R (ListAnswer.Refused word) (cleared_table (rules img) (length B) after) R
+    list_refused h =
         lists_done img B n W R good
-        (refused-listed img (take n B) (length B) W R accepted lent.short fits lent.whole_table
+        (refused_listed img (take n B) (length B) W R accepted lent.short fits lent.whole_table
         (image_loaded img accepted.lawful) (was_refused short (omega arith) whole-text h).is)
 
     module _ (h : 16 ≤ word) {r : Listed} {R' : List ℕ} (w : ListedOver img (take m B) after R r R') where
@@ -83,11 +83,11 @@ module _ (img B : List ℕ) (n : ℕ) (W R : List ℕ) (good : First (of_sheet i
       walk = subst (λ (k : ℕ). ListedOver img (take k B) after R r R') e w
 
       -- The walk wrote so many rows.
-      pub list-rows :
+      pub list_rows :
           {k : ℕ} → r ≡ Rows k
           → ListPromise img B n W R (ListAnswer.Listed (record { reading = sheet_reading n (value_of word) count; rows = k })) after R'
       unfolding start_v
-      list-rows {k} f =
+      list_rows {k} f =
           let x : Written (start_v (length R) img walk.grammar (take n B) after 0 (length (take n B))) R k R' =
           subst (λ (r : Listed). ListedIn walk.grammar (take n B) after (start img) (root img (start img)) R r R') f walk.listed in
           let p =
@@ -103,14 +103,14 @@ module _ (img B : List ℕ) (n : ℕ) (W R : List ℕ) (good : First (of_sheet i
           }))
           (sym x.slots_are) p
 
-      pub list-stopped :
+      pub list_stopped :
           {k : ℕ} → r ≡ Refused k
           → ListPromise img B n W R (ListAnswer.Refused k) (stopped_words (eqb k 15) img (length B) after) R'
       unfolding start_v
-      list-stopped {k} f =
+      list_stopped {k} f =
           let x : NotWritten (start_v (length R) img walk.grammar (take n B) after 0 (length (take n B))) R k R' =
           subst (λ (r : Listed). ListedIn walk.grammar (take n B) after (start img) (root img (start img)) R r R') f walk.listed in
           rw x.same
           (lists_done img B n W R good
-          (stopped-listed img (take n B) (length B) W R accepted lent.short fits lent.whole_table walk.loaded the_value.is
+          (stopped_listed img (take n B) (length B) W R accepted lent.short fits lent.whole_table walk.loaded the_value.is
           x.is x.number_is))

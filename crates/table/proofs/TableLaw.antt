@@ -14,7 +14,7 @@ use borrow.Author.Tests.{leb-true}
 use borrow.Rule.Slice.PartMut.{mid_of, put_mid}
 use Rattle.buffers.specs.Filled.{at}
 use Rattle.buffers.proofs.Fill.{cut}
-use Rattle.buffers.proofs.Parts.{mid_at, mid_long, put-long, put-before, put-inside, put-past, joined_first, joined_second}
+use Rattle.buffers.proofs.Parts.{mid_at, mid_long, put_long, put_before, put_inside, put_past, joined_first, joined_second}
 use Rattle.records.specs.Words.{is_held}
 use Rattle.records.specs.Slots.{slot_of, table_size}
 use Rattle.records.proofs.Slots as slots
@@ -73,7 +73,7 @@ module _
 
     half-long : length half ≡ length t
     unfolding half
-    half-long = let i = in-front in let w = lent.whole in put-long 0 (s * R - 0) t kept (omega arith) kept-long
+    half-long = let i = in-front in let w = lent.whole in put_long 0 (s * R - 0) t kept (omega arith) kept-long
 
     back_fits : s * R + (table_size R cap - s * R) ≤ length half
     back_fits = let i = in-front in let w = lent.whole in let h = half-long in omega arith
@@ -84,7 +84,7 @@ module _
 
     whole_long : length whole ≡ length t
     unfolding whole
-    whole_long = put-long (s * R) (table_size R cap - s * R) half carried back_fits carried-long ∙ half-long
+    whole_long = put_long (s * R) (table_size R cap - s * R) half carried back_fits carried-long ∙ half-long
 
     -- The words of the front, of the back, and after the table.
     front_at : (j : ℕ) → j < s * R → at whole j ≡ kept_at R s 0 (mid_of 0 (s * R - 0) t) j
@@ -92,15 +92,15 @@ module _
     front_at j h =
         let w = lent.whole in
         let i = in-front in
-        put-before (s * R) (table_size R cap - s * R) half carried back_fits carried-long j h
-        ∙ put-inside 0 (s * R - 0) t kept (omega arith) kept-long j (omega arith) (omega arith)
+        put_before (s * R) (table_size R cap - s * R) half carried back_fits carried-long j h
+        ∙ put_inside 0 (s * R - 0) t kept (omega arith) kept-long j (omega arith) (omega arith)
         ∙ ap (at kept) (let z : j - 0 ≡ j = omega arith in z)
         ∙ K.filled.inside j (omega arith) h
 
     back_at : (i : ℕ) → i < table_size R cap - s * R → at whole (s * R + i) ≡ at carried i
     unfolding half whole
     back_at i h =
-        put-inside (s * R) (table_size R cap - s * R) half carried back_fits carried-long (s * R + i) (omega arith) (omega arith)
+        put_inside (s * R) (table_size R cap - s * R) half carried back_fits carried-long (s * R + i) (omega arith) (omega arith)
         ∙ ap (at carried) (let z : s * R + i - s * R ≡ i = omega arith in z)
 
     old-at : (i : ℕ) → i < table_size R cap - s * R → at (mid_of (s * R) (table_size R cap - s * R) half) i ≡ at t (s * R + i)
@@ -108,15 +108,15 @@ module _
     old-at i h =
         let w = lent.whole in
         let o = in-front in
-        mid_at (s * R) (table_size R cap - s * R) half i h ∙ put-past 0 (s * R - 0) t kept (omega arith) kept-long (s * R + i) (omega arith)
+        mid_at (s * R) (table_size R cap - s * R) half i h ∙ put_past 0 (s * R - 0) t kept (omega arith) kept-long (s * R + i) (omega arith)
 
     after-at : (j : ℕ) → table_size R cap ≤ j → at whole j ≡ at t j
     unfolding half whole
     after-at j h =
         let w = lent.whole in
         let o = in-front in
-        put-past (s * R) (table_size R cap - s * R) half carried back_fits carried-long j (omega arith)
-        ∙ put-past 0 (s * R - 0) t kept (omega arith) kept-long j (omega arith)
+        put_past (s * R) (table_size R cap - s * R) half carried back_fits carried-long j (omega arith)
+        ∙ put_past 0 (s * R - 0) t kept (omega arith) kept-long j (omega arith)
 
     module _ (rule : ℕ) (below : rule < R) where
       front-pair : (q : ℕ) → q < s → at whole (slot_of R rule q) ≡ word_after R n s e k t rule q
@@ -246,9 +246,9 @@ module _
         after-at j p ∙ sym (joined_second (tabulate f size) (drop size t) size j long p ∙ get_or-drop size t (j - size) 0 ∙ ap (at t) o))
         (cut j size))
 
-    pub standing-is : c + d ≡ held_in (words_after R cap n s e k t)
+    pub standing_is : c + d ≡ held_in (words_after R cap n s e k t)
     unfolding half words_after
-    standing-is =
+    standing_is =
         let f : ℕ → ℕ = λ j. word_after R n s e k t (j % R) (j / R) in
         let size : ℕ = table_size R cap in
         let i = in-front in
@@ -283,7 +283,7 @@ slots_fit {cap} {n} {s} {e} {k} R fits =
 pub front_long :
     (from : ℕ) (t kept : List ℕ) → from ≤ length t → length kept ≡ length (mid_of 0 (from - 0) t) → length (put_mid 0 (from - 0) t kept) ≡ length t
 front_long from t kept h l =
-    let a = l ∙ mid_long 0 (from - 0) t (omega arith) in put-long 0 (from - 0) t kept (omega arith) a
+    let a = l ∙ mid_long 0 (from - 0) t (omega arith) in put_long 0 (from - 0) t kept (omega arith) a
 
 -- The back as it is lent has room for slots that are not more than its words.
 pub back_room :

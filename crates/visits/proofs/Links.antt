@@ -24,8 +24,8 @@ module _
     child : 3 ≤ kind img n → kind img n ≤ 6 → f.a < 1024
     child h m = omega (arith, w.same_a, a_below img counts words n l h m)
 
-    pub linked-a-below : f.a < 1024
-    linked-a-below = go (kind img n) refl
+    pub linked_a_below : f.a < 1024
+    linked_a_below = go (kind img n) refl
       where
         go : (i : ℕ) → kind img n ≡ i → f.a < 1024
         go zero e = omega (arith, w.same_a, lawful.unused_A (omega arith))
@@ -41,8 +41,8 @@ module _
     own : (kind img n ≡ 7 → ⊥) → field_b img n < 1024 → f.b < 1024
     own other small = omega (arith, w.same_b other)
 
-    pub linked-b-below : f.b < 1024
-    linked-b-below = go (kind img n) refl
+    pub linked_b_below : f.b < 1024
+    linked_b_below = go (kind img n) refl
       where
         go : (i : ℕ) → kind img n ≡ i → f.b < 1024
         go zero e = own (λ h. omega arith) (omega (arith, lawful.unused_B (omega arith)))

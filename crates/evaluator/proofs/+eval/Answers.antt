@@ -1,10 +1,10 @@
-use Rattle.packrat.proofs.Rules.{was_possible, was_impossible, rule-impossible, rule-too-deep, rule-met, rule-refused, rule-stored, node_too_deep, node_goes, word_goes, call_goes, past_7}
+use Rattle.packrat.proofs.Rules.{was_possible, was_impossible, rule_impossible, rule_too_deep, rule_met, rule_refused, rule_stored, node_too_deep, node_goes, word_goes, call_goes, past_7}
 use Rattle.evaluator.proofs.Terminals.{terminal_goes, first_any, first_range}
 use Rattle.packrat.proofs.LoadedRuns.{word_is}
-use Rattle.packrat.proofs.Stars.{Rounds, rounds_start, round-refused, round-still, round-fails, round-goes, round-bounds}
+use Rattle.packrat.proofs.Stars.{Rounds, rounds_start, round_refused, round_still, round_fails, round_goes, round_bounds}
 use Rattle.packrat.proofs.Runs.{not_refused, not_answered, call_refused, call_answered, nesting_allowed, says_itself, length_within}
-use Rattle.packrat.proofs.Runs.{choice_refused, choice_first, choice-second-refused, choice-second}
-use Rattle.packrat.proofs.Runs.{sequence_refused, sequence_failed, sequence-second-refused, joinable, sequence-both}
+use Rattle.packrat.proofs.Runs.{choice_refused, choice_first, choice_second_refused, choice_second}
+use Rattle.packrat.proofs.Runs.{sequence_refused, sequence_failed, sequence_second_refused, joinable, sequence_both}
 use Rattle.packrat.proofs.Gives.{was_refused, gives_value, gives_refusal}
 use Rattle.packrat.specs.Model.{pair_m, kind_m, rounds_m}
 use Rattle.packrat.specs.Loaded.{rules_in, node_w}
@@ -72,7 +72,7 @@ pub eval_choice-returns-then-y-lt-BOUND : goal.eval_choice-returns-then-y-lt-BOU
 eval_choice-returns-then-y-lt-BOUND t c =
     let a = c.args in
     let pre = c.requires in
-    choice-second-refused a.text.now.now (node_w a.words.now a.text.now.now a.left) (pair_m (rules_in a.words.now) a.b a.text.now.now (node_w a.words.now a.text.now.now a.left) a.left) a.table.now a.count.now pre.0.short pre.0.most a.a a.b c.eval_node-x.ensures c.if-x-lt-BOUND.false (sym c.matched_of.ensures ∙ c.if-matched_of.false) c.eval_node-y.ensures c.if-y-lt-BOUND.true
+    choice_second_refused a.text.now.now (node_w a.words.now a.text.now.now a.left) (pair_m (rules_in a.words.now) a.b a.text.now.now (node_w a.words.now a.text.now.now a.left) a.left) a.table.now a.count.now pre.0.short pre.0.most a.a a.b c.eval_node-x.ensures c.if-x-lt-BOUND.false (sym c.matched_of.ensures ∙ c.if-matched_of.false) c.eval_node-y.ensures c.if-y-lt-BOUND.true
 
 pub eval_choice-second_choice-requires : goal.eval_choice-second_choice-requires
 eval_choice-second_choice-requires t c =
@@ -83,7 +83,7 @@ pub eval_choice-returns : goal.eval_choice-returns
 eval_choice-returns t c =
     let a = c.args in
     let pre = c.requires in
-    choice-second a.text.now.now (node_w a.words.now a.text.now.now a.left) (pair_m (rules_in a.words.now) a.b a.text.now.now (node_w a.words.now a.text.now.now a.left) a.left) a.table.now a.count.now pre.0.short pre.0.most a.a a.b c.eval_node-x.ensures c.if-x-lt-BOUND.false (sym c.matched_of.ensures ∙ c.if-matched_of.false) c.eval_node-y.ensures c.if-y-lt-BOUND.false c.second_choice.ensures
+    choice_second a.text.now.now (node_w a.words.now a.text.now.now a.left) (pair_m (rules_in a.words.now) a.b a.text.now.now (node_w a.words.now a.text.now.now a.left) a.left) a.table.now a.count.now pre.0.short pre.0.most a.a a.b c.eval_node-x.ensures c.if-x-lt-BOUND.false (sym c.matched_of.ensures ∙ c.if-matched_of.false) c.eval_node-y.ensures c.if-y-lt-BOUND.false c.second_choice.ensures
 
 pub eval_word-overflow_sub-left : goal.eval_word-overflow_sub-left
 eval_word-overflow_sub-left t c =
@@ -258,21 +258,21 @@ eval_not-returns t c =
 pub eval_rule-returns-in_default : goal.eval_rule-returns-in_default
 eval_rule-returns-in_default t c =
     let a = c.args in
-    rule-impossible (rules_in a.words.now) a.root a.text.now.now (node_w a.words.now a.text.now.now a.left) a.left a.rule a.at a.table.now a.count.now (rw c.rules_in-rules.ensures.0 at c.look-word.ensures) (sym c.is_held.ensures ∙ c.if-is_held.true) (was_impossible (record_of c.look-word.result) (possible c.look-word.result a.at (length a.text.now.now)) (sym c.in_default.is ∙ (rw c.end_of.ensures at c.from_word.ensures)))
+    rule_impossible (rules_in a.words.now) a.root a.text.now.now (node_w a.words.now a.text.now.now a.left) a.left a.rule a.at a.table.now a.count.now (rw c.rules_in-rules.ensures.0 at c.look-word.ensures) (sym c.is_held.ensures ∙ c.if-is_held.true) (was_impossible (record_of c.look-word.result) (possible c.look-word.result a.at (length a.text.now.now)) (sym c.in_default.is ∙ (rw c.end_of.ensures at c.from_word.ensures)))
 
 pub eval_rule-returns-then-left-held : goal.eval_rule-returns-then-left-held
 eval_rule-returns-then-left-held t c =
     let a = c.args in
     let w = was_possible c.in-Possible.held (record_of c.look-word.result) (possible c.look-word.result a.at (length a.text.now.now)) (sym c.in-Possible.is ∙ (rw c.end_of.ensures at c.from_word.ensures)) in
     let e = ap (λ (r : Record). r.nesting) w.1 in
-    rule-too-deep (rules_in a.words.now) a.root a.text.now.now (node_w a.words.now a.text.now.now a.left) a.left a.rule a.at a.table.now a.count.now (rw c.rules_in-rules.ensures.0 at c.look-word.ensures) (sym c.is_held.ensures ∙ c.if-is_held.true) w.0 (omega (arith, e, c.if-left-held.true))
+    rule_too_deep (rules_in a.words.now) a.root a.text.now.now (node_w a.words.now a.text.now.now a.left) a.left a.rule a.at a.table.now a.count.now (rw c.rules_in-rules.ensures.0 at c.look-word.ensures) (sym c.is_held.ensures ∙ c.if-is_held.true) w.0 (omega (arith, e, c.if-left-held.true))
 
 pub eval_rule-returns-then-is_held : goal.eval_rule-returns-then-is_held
 eval_rule-returns-then-is_held t c =
     let a = c.args in
     let w = was_possible c.in-Possible.held (record_of c.look-word.result) (possible c.look-word.result a.at (length a.text.now.now)) (sym c.in-Possible.is ∙ (rw c.end_of.ensures at c.from_word.ensures)) in
     let e = ap (λ (r : Record). r.nesting) w.1 in
-    rule-met (rules_in a.words.now) a.root a.text.now.now (node_w a.words.now a.text.now.now a.left) a.left a.rule a.at a.table.now a.count.now (rw c.rules_in-rules.ensures.0 at c.look-word.ensures) (sym c.is_held.ensures ∙ c.if-is_held.true) w.0 (omega (arith, e, c.if-left-held.false)) (c.word.ensures ∙ ap record_word w.1)
+    rule_met (rules_in a.words.now) a.root a.text.now.now (node_w a.words.now a.text.now.now a.left) a.left a.rule a.at a.table.now a.count.now (rw c.rules_in-rules.ensures.0 at c.look-word.ensures) (sym c.is_held.ensures ∙ c.if-is_held.true) w.0 (omega (arith, e, c.if-left-held.false)) (c.word.ensures ∙ ap record_word w.1)
 
 pub eval_rule-eval_node-value-requires : goal.eval_rule-eval_node-value-requires
 eval_rule-eval_node-value-requires t c =
@@ -283,14 +283,14 @@ pub eval_rule-returns-then-value-lt-BOUND : goal.eval_rule-returns-then-value-lt
 eval_rule-returns-then-value-lt-BOUND t c =
     let a = c.args in
     let pre = c.requires in
-    rule-refused (rules_in a.words.now) a.root a.text.now.now (node_w a.words.now a.text.now.now a.left) a.left a.rule a.at a.table.now a.count.now (rw c.rules_in-rules.ensures.0 at c.look-word.ensures) pre.0.short pre.0.most (sym c.is_held.ensures ∙ c.if-is_held.false) c.eval_node-value.ensures c.if-value-lt-BOUND.true
+    rule_refused (rules_in a.words.now) a.root a.text.now.now (node_w a.words.now a.text.now.now a.left) a.left a.rule a.at a.table.now a.count.now (rw c.rules_in-rules.ensures.0 at c.look-word.ensures) pre.0.short pre.0.most (sym c.is_held.ensures ∙ c.if-is_held.false) c.eval_node-value.ensures c.if-value-lt-BOUND.true
 
 pub eval_rule-returns : goal.eval_rule-returns
 eval_rule-returns t c =
     let a = c.args in
     let pre = c.requires in
     rw (c.put.ensures, c.rules_in-rules.ensures.0, c.wrapping_add_u64.ensures.value)
-    (rule-stored (rules_in a.words.now) a.root a.text.now.now (node_w a.words.now a.text.now.now a.left) a.left a.rule a.at a.table.now a.count.now (rw c.rules_in-rules.ensures.0 at c.look-word.ensures) pre.0.short pre.0.most (sym c.is_held.ensures ∙ c.if-is_held.false) c.eval_node-value.ensures c.if-value-lt-BOUND.false)
+    (rule_stored (rules_in a.words.now) a.root a.text.now.now (node_w a.words.now a.text.now.now a.left) a.left a.rule a.at a.table.now a.count.now (rw c.rules_in-rules.ensures.0 at c.look-word.ensures) pre.0.short pre.0.most (sym c.is_held.ensures ∙ c.if-is_held.false) c.eval_node-value.ensures c.if-value-lt-BOUND.false)
 
 pub eval_sequence-eval_node-x-requires : goal.eval_sequence-eval_node-x-requires
 eval_sequence-eval_node-x-requires t c =
@@ -328,7 +328,7 @@ pub eval_sequence-returns-then-y-lt-BOUND : goal.eval_sequence-returns-then-y-lt
 eval_sequence-returns-then-y-lt-BOUND t c =
     let a = c.args in
     let pre = c.requires in
-    sequence-second-refused a.text.now.now (node_w a.words.now a.text.now.now a.left) (pair_m (rules_in a.words.now) a.b a.text.now.now (node_w a.words.now a.text.now.now a.left) a.left) a.table.now a.count.now pre.0.short pre.0.most a.a a.b c.eval_node-x.ensures c.if-x-lt-BOUND.false (sym c.matched_of.ensures ∙ c.if-not-matched_of.false) (rw c.length_of.ensures.0 at c.eval_node-y.ensures) c.if-y-lt-BOUND.true
+    sequence_second_refused a.text.now.now (node_w a.words.now a.text.now.now a.left) (pair_m (rules_in a.words.now) a.b a.text.now.now (node_w a.words.now a.text.now.now a.left) a.left) a.table.now a.count.now pre.0.short pre.0.most a.a a.b c.eval_node-x.ensures c.if-x-lt-BOUND.false (sym c.matched_of.ensures ∙ c.if-not-matched_of.false) (rw c.length_of.ensures.0 at c.eval_node-y.ensures) c.if-y-lt-BOUND.true
 
 pub eval_sequence-in_sequence-requires : goal.eval_sequence-in_sequence-requires
 eval_sequence-in_sequence-requires t c =
@@ -340,7 +340,7 @@ pub eval_sequence-returns : goal.eval_sequence-returns
 eval_sequence-returns t c =
     let a = c.args in
     let pre = c.requires in
-    sequence-both a.text.now.now (node_w a.words.now a.text.now.now a.left) (pair_m (rules_in a.words.now) a.b a.text.now.now (node_w a.words.now a.text.now.now a.left) a.left) a.table.now a.count.now pre.0.short pre.0.most a.a a.b c.eval_node-x.ensures c.if-x-lt-BOUND.false (sym c.matched_of.ensures ∙ c.if-not-matched_of.false) (rw c.length_of.ensures.0 at c.eval_node-y.ensures) c.if-y-lt-BOUND.false c.in_sequence.ensures
+    sequence_both a.text.now.now (node_w a.words.now a.text.now.now a.left) (pair_m (rules_in a.words.now) a.b a.text.now.now (node_w a.words.now a.text.now.now a.left) a.left) a.table.now a.count.now pre.0.short pre.0.most a.a a.b c.eval_node-x.ensures c.if-x-lt-BOUND.false (sym c.matched_of.ensures ∙ c.if-not-matched_of.false) (rw c.length_of.ensures.0 at c.eval_node-y.ensures) c.if-y-lt-BOUND.false c.in_sequence.ensures
 
 pub eval_star-loop-a-init : goal.eval_star-loop-a-init
 eval_star-loop-a-init t c =
@@ -360,7 +360,7 @@ unfolding kind_m
 eval_star-returns-then-x-lt-BOUND t c =
     let a = c.args in
     let pre = c.requires in
-    gives_refusal (round-refused (node_w a.words.now a.text.now.now a.left) a.a pre.0.short pre.0.most c.loop-a.invariant.1 c.eval_node-x.ensures c.if-x-lt-BOUND.true) (was_refused pre.0.short (omega (arith, pre.0.most)) c.eval_node-x.ensures c.if-x-lt-BOUND.true).small
+    gives_refusal (round_refused (node_w a.words.now a.text.now.now a.left) a.a pre.0.short pre.0.most c.loop-a.invariant.1 c.eval_node-x.ensures c.if-x-lt-BOUND.true) (was_refused pre.0.short (omega (arith, pre.0.most)) c.eval_node-x.ensures c.if-x-lt-BOUND.true).small
 
 pub eval_star-overflow_add-consumed : goal.eval_star-overflow_add-consumed
 eval_star-overflow_add-consumed t c =
@@ -370,7 +370,7 @@ pub eval_star-overflow_add-deepest : goal.eval_star-overflow_add-deepest
 eval_star-overflow_add-deepest t c =
     let a = c.args in
     let pre = c.requires in
-    let b = round-bounds (node_w a.words.now a.text.now.now a.left) a.a pre.0.short pre.0.most c.loop-a.invariant.1 c.eval_node-x.ensures c.if-x-lt-BOUND.false in
+    let b = round_bounds (node_w a.words.now a.text.now.now a.left) a.a pre.0.short pre.0.most c.loop-a.invariant.1 c.eval_node-x.ensures c.if-x-lt-BOUND.false in
     let e = (rw c.nesting_of.ensures.0 at c.larger-deepest.ensures) in
     omega (arith, b.1, pre.0.most)
 
@@ -378,7 +378,7 @@ pub eval_star-answer-requires : goal.eval_star-answer-requires
 eval_star-answer-requires t c =
     let a = c.args in
     let pre = c.requires in
-    let b = round-bounds (node_w a.words.now a.text.now.now a.left) a.a pre.0.short pre.0.most c.loop-a.invariant.1 c.eval_node-x.ensures c.if-x-lt-BOUND.false in
+    let b = round_bounds (node_w a.words.now a.text.now.now a.left) a.a pre.0.short pre.0.most c.loop-a.invariant.1 c.eval_node-x.ensures c.if-x-lt-BOUND.false in
     let d = (rw c.examined_of.ensures.0 at c.larger-examined.ensures) in
     let e = (rw c.nesting_of.ensures.0 at c.larger-deepest.ensures) in
     (omega (arith, b.1, pre.0.most), omega (arith, b.0, pre.0.short), omega (arith, c.loop-a.invariant.1.in_text, pre.0.short))
@@ -387,14 +387,14 @@ pub eval_star-returns-then-not-matched_of : goal.eval_star-returns-then-not-matc
 eval_star-returns-then-not-matched_of t c =
     let a = c.args in
     let pre = c.requires in
-    round-fails (node_w a.words.now a.text.now.now a.left) a.a pre.0.short pre.0.most c.loop-a.invariant.1 c.eval_node-x.ensures c.if-x-lt-BOUND.false a.text.now.now (pair_m (rules_in a.words.now) 0 a.text.now.now (node_w a.words.now a.text.now.now a.left) a.left) a.table.now a.count.now refl (sym c.matched_of.ensures ∙ c.if-not-matched_of.true) (rw c.examined_of.ensures.0 at c.larger-examined.ensures) (rw c.nesting_of.ensures.0 at c.larger-deepest.ensures) c.answer.ensures
+    round_fails (node_w a.words.now a.text.now.now a.left) a.a pre.0.short pre.0.most c.loop-a.invariant.1 c.eval_node-x.ensures c.if-x-lt-BOUND.false a.text.now.now (pair_m (rules_in a.words.now) 0 a.text.now.now (node_w a.words.now a.text.now.now a.left) a.left) a.table.now a.count.now refl (sym c.matched_of.ensures ∙ c.if-not-matched_of.true) (rw c.examined_of.ensures.0 at c.larger-examined.ensures) (rw c.nesting_of.ensures.0 at c.larger-deepest.ensures) c.answer.ensures
 
 pub eval_star-returns-then-length-eq0 : goal.eval_star-returns-then-length-eq0
 unfolding kind_m
 eval_star-returns-then-length-eq0 t c =
     let a = c.args in
     let pre = c.requires in
-    gives_refusal (round-still (node_w a.words.now a.text.now.now a.left) a.a pre.0.short pre.0.most c.loop-a.invariant.1 c.eval_node-x.ensures c.if-x-lt-BOUND.false (sym c.matched_of.ensures ∙ c.if-not-matched_of.false) (sym c.length_of-length.ensures.0 ∙ c.if-length-eq0.true)) (omega arith)
+    gives_refusal (round_still (node_w a.words.now a.text.now.now a.left) a.a pre.0.short pre.0.most c.loop-a.invariant.1 c.eval_node-x.ensures c.if-x-lt-BOUND.false (sym c.matched_of.ensures ∙ c.if-not-matched_of.false) (sym c.length_of-length.ensures.0 ∙ c.if-length-eq0.true)) (omega arith)
 
 pub eval_star-overflow_add-consumed-in-loop-a : goal.eval_star-overflow_add-consumed-in-loop-a
 eval_star-overflow_add-consumed-in-loop-a t c =
@@ -410,4 +410,4 @@ pub eval_star-loop-a-preserved : goal.eval_star-loop-a-preserved
 eval_star-loop-a-preserved t c =
     let a = c.args in
     let pre = c.requires in
-    (c.eval_node-x.auto.table ∙ c.loop-a.invariant.0, round-goes (node_w a.words.now a.text.now.now a.left) a.a pre.0.short pre.0.most c.loop-a.invariant.1 c.eval_node-x.ensures c.if-x-lt-BOUND.false (sym c.matched_of.ensures ∙ c.if-not-matched_of.false) (rw c.examined_of.ensures.0 at c.larger-examined.ensures) (rw c.nesting_of.ensures.0 at c.larger-deepest.ensures) c.length_of-length.ensures.0 c.if-length-eq0.false)
+    (c.eval_node-x.auto.table ∙ c.loop-a.invariant.0, round_goes (node_w a.words.now a.text.now.now a.left) a.a pre.0.short pre.0.most c.loop-a.invariant.1 c.eval_node-x.ensures c.if-x-lt-BOUND.false (sym c.matched_of.ensures ∙ c.if-not-matched_of.false) (rw c.examined_of.ensures.0 at c.larger-examined.ensures) (rw c.nesting_of.ensures.0 at c.larger-deepest.ensures) c.length_of-length.ensures.0 c.if-length-eq0.false)

@@ -2,7 +2,7 @@ use Prim.Native.Nat.{◌*◌, ◌-◌}
 use native.Mathlib.Omega.{arith}
 use borrow.Rule.Slice.PartMut.{put_mid}
 use Rattle.records.specs.Slots.{table_size}
-use Rattle.table.proofs.TableLaw.{slots_fit, front_long, back_room, counts_fit, table_is, standing-is}
+use Rattle.table.proofs.TableLaw.{slots_fit, front_long, back_room, counts_fit, table_is, standing_is}
 use Rattle.table.proofs.edit_table.Goals as goal
 
 pub overflow_mul-from : goal.overflow_mul-from
@@ -52,7 +52,7 @@ overflow_add-result c =
 
 pub returns-clause-standing : goal.returns-clause-standing
 returns-clause-standing c =
-    standing-is c.requires.table_lent c.requires.edit_fits c.keep_front-kept.ensures c.edit_back-carried.ensures
+    standing_is c.requires.table_lent c.requires.edit_fits c.keep_front-kept.ensures c.edit_back-carried.ensures
 
 pub returns-clause-after : goal.returns-clause-after
 returns-clause-after c =

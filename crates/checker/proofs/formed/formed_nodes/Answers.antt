@@ -4,7 +4,7 @@ use Rattle.grammar.specs.Image.{nodes}
 use borrow.Author.Tests.{not-true, not-false}
 use mathlib.Core.Logic.{⊎_elim}
 use mathlib.Core.Path.{◌≡◌, refl, sym, ap, ◌∙◌}
-use Rattle.rounds.proofs.FormedRounds.{marks, marks_start, marked, marked-heavier, marked_visit, unqualified_visit, marked_before, marks_bound, round-marks, formed-nodes-left}
+use Rattle.rounds.proofs.FormedRounds.{marks, marks_start, marked, marked_heavier, marked_visit, unqualified_visit, marked_before, marks_bound, round_marks, formed_nodes_left}
 use Rattle.rounds.proofs.Turns.{Reached, reached_none, reached_more, Turned, turn_none, turn_write, turn_keep, turn_made, nothing_more}
 use Rattle.rounds.proofs.Orders.{array_node}
 use native.Mathlib.Omega.{arith}
@@ -62,7 +62,7 @@ loop-i-preserved c =
           (turn_write t in_order
           (marked_visit img known formed n (cc) ∙ ap (join_at img known formed) at)
           (marked img known formed c.requires.0.words c.requires.2 t.good n in-nodes in_list (cc))
-          (marked-heavier img known formed c.requires.0.words c.requires.2 t.good n in-nodes in_list w.if-not-old.true))
+          (marked_heavier img known formed c.requires.0.words c.requires.2 t.good n in-nodes in_list w.if-not-old.true))
         | then-not-old+else-node_formed w ↦
           rw (w.formed-is, w.added-is)
           (turn_keep t in_order (ap (join_at img known formed) (sym at) ∙ unqualified_visit img known formed n (cc)))
@@ -78,7 +78,7 @@ rounds-smaller c =
     let img = c.args.image.now in
     let count = c.header_of-header.ensures.its_nodes in
     let made = turn_made t (omega (arith, c.requires.1.as_long, count)) in
-    let more = round-marks img c.args.known.now _ c.requires.0.counts c.requires.0.words c.requires.2 c.requires.1 c.rounds.invariant.0 made c.if-not-added.false in
+    let more = round_marks img c.args.known.now _ c.requires.0.counts c.requires.0.words c.requires.2 c.requires.1 c.rounds.invariant.0 made c.if-not-added.false in
     omega (arith, marks_bound img c.loop-i.formed t.good, count)
 
 pub rounds-preserved : goal.rounds-preserved
@@ -91,6 +91,6 @@ pub returns : goal.returns
 returns c =
     let t = c.loop-i.invariant.1 in
     let made = turn_made t (omega (arith, c.requires.1.as_long, c.header_of-header.ensures.its_nodes)) in
-    formed-nodes-left c.args.image.now c.args.known.now _ c.requires.0.counts c.requires.0.words c.requires.2 c.requires.1 c.loop-i.formed
+    formed_nodes_left c.args.image.now c.args.known.now _ c.requires.0.counts c.requires.0.words c.requires.2 c.requires.1 c.loop-i.formed
     (reached_more _ c.rounds.invariant.1 made.is_round)
     (nothing_more _ _ made c.if-not-added.true)

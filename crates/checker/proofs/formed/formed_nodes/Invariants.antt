@@ -4,7 +4,7 @@ use Rattle.grammar.specs.Image.{nodes}
 use borrow.Author.Tests.{not-true, not-false}
 use mathlib.Core.Logic.{⊎_elim}
 use mathlib.Core.Path.{◌≡◌, refl, sym, ap, ◌∙◌}
-use Rattle.rounds.proofs.FormedRounds.{marks, marks_start, marked, marked-heavier, marked_visit, unqualified_visit, marked_before, marks_bound, round-marks, formed-nodes-left}
+use Rattle.rounds.proofs.FormedRounds.{marks, marks_start, marked, marked_heavier, marked_visit, unqualified_visit, marked_before, marks_bound, round_marks, formed_nodes_left}
 use Rattle.rounds.proofs.Turns.{Reached, reached_none, reached_more, Turned, turn_none, turn_write, turn_keep, turn_made, nothing_more}
 use Rattle.rounds.proofs.Orders.{array_node}
 use native.Mathlib.Omega.{arith}

@@ -4,7 +4,7 @@ use Rattle.rounds.specs.Rounds.{Sound}
 use Rattle.grammar.specs.Image.{node, nodes}
 use mathlib.Core.Logic.{⊎_elim}
 use mathlib.Core.Path.{◌≡◌, sym, ap, ◌∙◌}
-use Rattle.rounds.proofs.OutcomeRounds.{weight, stored, stored-heavier, stored-visit, kept-visit, full_visit}
+use Rattle.rounds.proofs.OutcomeRounds.{weight, stored, stored_heavier, stored_visit, kept_visit, full_visit}
 use Rattle.rounds.proofs.Turns.{Turned, turn_none, turn_write, turn_keep, turn_made}
 use Rattle.rounds.proofs.Orders.{array_node}
 use native.Mathlib.Omega.{arith}
@@ -58,14 +58,14 @@ loop-i-preserved c =
           let gained : v ≡ union (get_or known n 0) (gathered img known (node img n)) = cc in
           rw (w.known-is, w.added-is)
           (turn_write t in_order
-          (stored-visit img known t.good n v in-nodes small gained ∙ ap (gather_at img known) at)
+          (stored_visit img known t.good n v in-nodes small gained ∙ ap (gather_at img known) at)
           (stored img known t.good n v in-nodes small gained)
-          (stored-heavier img known t.good n v in-nodes small gained w.if-new-old.true))
+          (stored_heavier img known t.good n v in-nodes small gained w.if-new-old.true))
         | then-old-ne7+else-new-old w ↦
           let v = w.join-new.result in
           let gained : v ≡ union (get_or known n 0) (gathered img known (node img n)) = cc in
           rw (w.known-is, w.added-is)
-          (turn_keep t in_order (ap (gather_at img known) (sym at) ∙ kept-visit img known t.good n v in-nodes small gained w.if-new-old.false))
+          (turn_keep t in_order (ap (gather_at img known) (sym at) ∙ kept_visit img known t.good n v in-nodes small gained w.if-new-old.false))
         | else-old-ne7 w ↦
           rw (w.known-is, w.added-is) (turn_keep t in_order (ap (gather_at img known) (sym at) ∙ full_visit img known n w.if-old-ne7.false))
       ],

@@ -4,7 +4,7 @@ use Rattle.rounds.specs.Rounds.{Sound}
 use Rattle.grammar.specs.Image.{node, nodes}
 use mathlib.Core.Logic.{⊎_elim}
 use mathlib.Core.Path.{◌≡◌, sym, ap, ◌∙◌}
-use Rattle.rounds.proofs.OutcomeRounds.{weight, stored, stored-heavier, stored-visit, kept-visit, full_visit}
+use Rattle.rounds.proofs.OutcomeRounds.{weight, stored, stored_heavier, stored_visit, kept_visit, full_visit}
 use Rattle.rounds.proofs.Turns.{Turned, turn_none, turn_write, turn_keep, turn_made}
 use Rattle.rounds.proofs.Orders.{array_node}
 use native.Mathlib.Omega.{arith}

@@ -1,4 +1,4 @@
-use Rattle.lawful.proofs.Tallies.{once-of-count, count-of-once}
+use Rattle.lawful.proofs.Tallies.{once_of_count, count_of_once}
 use Rattle.lawful.proofs.Told.{so, not_so}
 use borrow.Author.Count.{below_none, below_more}
 use native.Mathlib.Omega.{arith}
@@ -25,7 +25,7 @@ bounds-counts-n c =
 
 pub returns-then-counts-n-ne1 : goal.returns-then-counts-n-ne1
 returns-then-counts-n-ne1 c =
-    not_so (λ h. c.if-counts-n-ne1.true (count-of-once c.args.image.now _ _ 1024 c.loop-n.n c.tally_roots.ensures.all_rules c.tally_children.ensures.all_nodes (h.once c.loop-n.n (omega (arith, c.header_of-header.ensures.its_nodes)))))
+    not_so (λ h. c.if-counts-n-ne1.true (count_of_once c.args.image.now _ _ 1024 c.loop-n.n c.tally_roots.ensures.all_rules c.tally_children.ensures.all_nodes (h.once c.loop-n.n (omega (arith, c.header_of-header.ensures.its_nodes)))))
 
 pub loop-n-preserved : goal.loop-n-preserved
 loop-n-preserved c =
@@ -33,4 +33,4 @@ loop-n-preserved c =
 
 pub returns : goal.returns
 returns c =
-    so (record { once = λ n l. once-of-count c.args.image.now _ _ 1024 n c.tally_roots.ensures.all_rules c.tally_children.ensures.all_nodes (c.loop-n.invariant.1 n (omega (arith, c.header_of-header.ensures.its_nodes))) })
+    so (record { once = λ n l. once_of_count c.args.image.now _ _ 1024 n c.tally_roots.ensures.all_rules c.tally_children.ensures.all_nodes (c.loop-n.invariant.1 n (omega (arith, c.header_of-header.ensures.its_nodes))) })

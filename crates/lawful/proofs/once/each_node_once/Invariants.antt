@@ -1,4 +1,4 @@
-use Rattle.lawful.proofs.Tallies.{once-of-count, count-of-once}
+use Rattle.lawful.proofs.Tallies.{once_of_count, count_of_once}
 use Rattle.lawful.proofs.Told.{so, not_so}
 use borrow.Author.Count.{below_none, below_more}
 use native.Mathlib.Omega.{arith}

@@ -1,5 +1,5 @@
-use Rattle.listing.proofs.Paths.{sequence-first, sequence-ends, sequence-second-ends, sequence-second, sequence-both, not-stops, not-fails, not-matches, part-found, part-ends, part_missed, part-goes, choice_first, choice-failed, choice-second, Rounds, star-start, star-stops, star-last, star-found, star-still, star-more}
-use Rattle.listing.proofs.Rules.{rule-empty, rule-impossible, rule-failed, rule-in-text, rule-missed, rule-full, rule-stops, rule-goes, node_too_deep, node_goes, unlawful_goes, leaf_goes}
+use Rattle.listing.proofs.Paths.{sequence_first, sequence_ends, sequence_second_ends, sequence_second, sequence_both, not_stops, not_fails, not_matches, part_found, part_ends, part_missed, part_goes, choice_first, choice_failed, choice_second, Rounds, star_start, star_stops, star_last, star_found, star_still, star_more}
+use Rattle.listing.proofs.Rules.{rule_empty, rule_impossible, rule_failed, rule_in_text, rule_missed, rule_full, rule_stops, rule_goes, node_too_deep, node_goes, unlawful_goes, leaf_goes}
 use Rattle.packrat.proofs.Rules.{was_possible, was_impossible, past_7}
 use Rattle.packrat.proofs.LoadedRuns.{word_is}
 use Rattle.packrat.specs.Loaded.{rules_in}
@@ -36,14 +36,14 @@ walk_choice-walk_node-requires t c =
     let given = c.args in
     let pre = c.requires in
     let inner = node_v given.room given.words.now given.text.now.now given.table.now.now given.left in
-    (omega arith, (record { short = pre.0.short; here = pre.0.here; few = choice-failed given.text.now.now given.room inner pre.0.short (node_bounded given.room given.words.now given.text.now.now given.table.now.now given.left) (pair_v (rules_in given.words.now) given.b given.room given.text.now.now given.table.now.now inner) given.a given.b given.at given.lo given.hi given.depth pre.0.here pre.0.few c.walk_part-x.ensures c.if-x-ne-FAILED.false; shallow = omega (arith, pre.0.shallow) }, pre.2))
+    (omega arith, (record { short = pre.0.short; here = pre.0.here; few = choice_failed given.text.now.now given.room inner pre.0.short (node_bounded given.room given.words.now given.text.now.now given.table.now.now given.left) (pair_v (rules_in given.words.now) given.b given.room given.text.now.now given.table.now.now inner) given.a given.b given.at given.lo given.hi given.depth pre.0.here pre.0.few c.walk_part-x.ensures c.if-x-ne-FAILED.false; shallow = omega (arith, pre.0.shallow) }, pre.2))
 
 pub walk_choice-returns : goal.walk_choice-returns
 walk_choice-returns t c =
     let given = c.args in
     let pre = c.requires in
     let inner = node_v given.room given.words.now given.text.now.now given.table.now.now given.left in
-    choice-second given.text.now.now given.room inner pre.0.short (node_bounded given.room given.words.now given.text.now.now given.table.now.now given.left) (pair_v (rules_in given.words.now) given.b given.room given.text.now.now given.table.now.now inner) given.a given.b given.at given.lo given.hi given.depth pre.0.here pre.0.few c.walk_part-x.ensures c.if-x-ne-FAILED.false c.walk_node.ensures
+    choice_second given.text.now.now given.room inner pre.0.short (node_bounded given.room given.words.now given.text.now.now given.table.now.now given.left) (pair_v (rules_in given.words.now) given.b given.room given.text.now.now given.table.now.now inner) given.a given.b given.at given.lo given.hi given.depth pre.0.here pre.0.few c.walk_part-x.ensures c.if-x-ne-FAILED.false c.walk_node.ensures
 
 pub walk_node-returns-then-left-eq0 : goal.walk_node-returns-then-left-eq0
 walk_node-returns-then-left-eq0 t c =
@@ -166,21 +166,21 @@ walk_not-returns-then-x-gt-FAILED t c =
     let given = c.args in
     let pre = c.requires in
     let inner = node_v given.room given.words.now given.text.now.now given.table.now.now given.left in
-    not-stops given.text.now.now given.room inner pre.0.short (node_bounded given.room given.words.now given.text.now.now given.table.now.now given.left) (pair_v (rules_in given.words.now) 0 given.room given.text.now.now given.table.now.now inner) given.a given.at 0 0 given.depth pre.0.here pre.0.few ((rw c.end_of.ensures at c.walk_node-x.ensures)) c.if-x-gt-FAILED.true
+    not_stops given.text.now.now given.room inner pre.0.short (node_bounded given.room given.words.now given.text.now.now given.table.now.now given.left) (pair_v (rules_in given.words.now) 0 given.room given.text.now.now given.table.now.now inner) given.a given.at 0 0 given.depth pre.0.here pre.0.few ((rw c.end_of.ensures at c.walk_node-x.ensures)) c.if-x-gt-FAILED.true
 
 pub walk_not-returns-then-x-lt-FAILED : goal.walk_not-returns-then-x-lt-FAILED
 walk_not-returns-then-x-lt-FAILED t c =
     let given = c.args in
     let pre = c.requires in
     let inner = node_v given.room given.words.now given.text.now.now given.table.now.now given.left in
-    not-fails given.text.now.now given.room inner pre.0.short (node_bounded given.room given.words.now given.text.now.now given.table.now.now given.left) (pair_v (rules_in given.words.now) 0 given.room given.text.now.now given.table.now.now inner) given.a given.at 0 0 given.depth pre.0.here pre.0.few ((rw c.end_of.ensures at c.walk_node-x.ensures)) c.if-x-lt-FAILED.true
+    not_fails given.text.now.now given.room inner pre.0.short (node_bounded given.room given.words.now given.text.now.now given.table.now.now given.left) (pair_v (rules_in given.words.now) 0 given.room given.text.now.now given.table.now.now inner) given.a given.at 0 0 given.depth pre.0.here pre.0.few ((rw c.end_of.ensures at c.walk_node-x.ensures)) c.if-x-lt-FAILED.true
 
 pub walk_not-returns : goal.walk_not-returns
 walk_not-returns t c =
     let given = c.args in
     let pre = c.requires in
     let inner = node_v given.room given.words.now given.text.now.now given.table.now.now given.left in
-    not-matches given.text.now.now given.room inner pre.0.short (node_bounded given.room given.words.now given.text.now.now given.table.now.now given.left) (pair_v (rules_in given.words.now) 0 given.room given.text.now.now given.table.now.now inner) given.a given.at 0 0 given.depth pre.0.here pre.0.few ((rw c.end_of.ensures at c.walk_node-x.ensures)) (let a = c.if-x-gt-FAILED.false in let b = c.if-x-lt-FAILED.false in omega arith)
+    not_matches given.text.now.now given.room inner pre.0.short (node_bounded given.room given.words.now given.text.now.now given.table.now.now given.left) (pair_v (rules_in given.words.now) 0 given.room given.text.now.now given.table.now.now inner) given.a given.at 0 0 given.depth pre.0.here pre.0.few ((rw c.end_of.ensures at c.walk_node-x.ensures)) (let a = c.if-x-gt-FAILED.false in let b = c.if-x-lt-FAILED.false in omega arith)
 
 pub walk_part-overflow_add-end_of : goal.walk_part-overflow_add-end_of
 walk_part-overflow_add-end_of t c =
@@ -196,14 +196,14 @@ walk_part-returns-then-x-ge-FAILED t c =
     let given = c.args in
     let pre = c.requires in
     let inner = node_v given.room given.words.now given.text.now.now given.table.now.now given.left in
-    part-ends given.text.now.now given.room inner pre.0.short (node_bounded given.room given.words.now given.text.now.now given.table.now.now given.left) (pair_v (rules_in given.words.now) 0 given.room given.text.now.now given.table.now.now inner) given.a given.at given.lo given.hi given.depth pre.0.here pre.0.few ((rw c.end_of.ensures at c.walk_node-x.ensures)) c.if-x-ge-FAILED.true
+    part_ends given.text.now.now given.room inner pre.0.short (node_bounded given.room given.words.now given.text.now.now given.table.now.now given.left) (pair_v (rules_in given.words.now) 0 given.room given.text.now.now given.table.now.now inner) given.a given.at given.lo given.hi given.depth pre.0.here pre.0.few ((rw c.end_of.ensures at c.walk_node-x.ensures)) c.if-x-ge-FAILED.true
 
 pub walk_part-touched-requires : goal.walk_part-touched-requires
 walk_part-touched-requires t c =
     let given = c.args in
     let pre = c.requires in
     let inner = node_v given.room given.words.now given.text.now.now given.table.now.now given.left in
-    omega (arith, (part-found given.text.now.now given.room inner pre.0.short (node_bounded given.room given.words.now given.text.now.now given.table.now.now given.left) (pair_v (rules_in given.words.now) 0 given.room given.text.now.now given.table.now.now inner) given.a given.at given.lo given.hi given.depth pre.0.here pre.0.few ((rw c.end_of.ensures at c.walk_node-x.ensures)) c.if-x-ge-FAILED.false).in_text, pre.0.short)
+    omega (arith, (part_found given.text.now.now given.room inner pre.0.short (node_bounded given.room given.words.now given.text.now.now given.table.now.now given.left) (pair_v (rules_in given.words.now) 0 given.room given.text.now.now given.table.now.now inner) given.a given.at given.lo given.hi given.depth pre.0.here pre.0.few ((rw c.end_of.ensures at c.walk_node-x.ensures)) c.if-x-ge-FAILED.false).in_text, pre.0.short)
 
 pub walk_part-returns-then-not-touched : goal.walk_part-returns-then-not-touched
 walk_part-returns-then-not-touched t c =
@@ -217,24 +217,24 @@ walk_part-walk_node-requires t c =
     let given = c.args in
     let pre = c.requires in
     let inner = node_v given.room given.words.now given.text.now.now given.table.now.now given.left in
-    (omega arith, (record { short = pre.0.short; here = pre.0.here; few = (part-found given.text.now.now given.room inner pre.0.short (node_bounded given.room given.words.now given.text.now.now given.table.now.now given.left) (pair_v (rules_in given.words.now) 0 given.room given.text.now.now given.table.now.now inner) given.a given.at given.lo given.hi given.depth pre.0.here pre.0.few ((rw c.end_of.ensures at c.walk_node-x.ensures)) c.if-x-ge-FAILED.false).few; shallow = omega (arith, pre.0.shallow) }, pre.1))
+    (omega arith, (record { short = pre.0.short; here = pre.0.here; few = (part_found given.text.now.now given.room inner pre.0.short (node_bounded given.room given.words.now given.text.now.now given.table.now.now given.left) (pair_v (rules_in given.words.now) 0 given.room given.text.now.now given.table.now.now inner) given.a given.at given.lo given.hi given.depth pre.0.here pre.0.few ((rw c.end_of.ensures at c.walk_node-x.ensures)) c.if-x-ge-FAILED.false).few; shallow = omega (arith, pre.0.shallow) }, pre.1))
 
 pub walk_part-returns : goal.walk_part-returns
 walk_part-returns t c =
     let given = c.args in
     let pre = c.requires in
     let inner = node_v given.room given.words.now given.text.now.now given.table.now.now given.left in
-    part-goes given.text.now.now given.room inner pre.0.short (node_bounded given.room given.words.now given.text.now.now given.table.now.now given.left) (pair_v (rules_in given.words.now) 0 given.room given.text.now.now given.table.now.now inner) given.a given.at given.lo given.hi given.depth pre.0.here pre.0.few ((rw c.end_of.ensures at c.walk_node-x.ensures)) c.if-x-ge-FAILED.false (sym c.touched.ensures ∙ c.if-not-touched.false) c.walk_node.ensures
+    part_goes given.text.now.now given.room inner pre.0.short (node_bounded given.room given.words.now given.text.now.now given.table.now.now given.left) (pair_v (rules_in given.words.now) 0 given.room given.text.now.now given.table.now.now inner) given.a given.at given.lo given.hi given.depth pre.0.here pre.0.few ((rw c.end_of.ensures at c.walk_node-x.ensures)) c.if-x-ge-FAILED.false (sym c.touched.ensures ∙ c.if-not-touched.false) c.walk_node.ensures
 
 pub walk_rule-returns-then-not-is_held : goal.walk_rule-returns-then-not-is_held
 walk_rule-returns-then-not-is_held t c =
     let given = c.args in
-    rule-empty (rules_in given.words.now) given.root given.room given.text.now.now given.table.now.now (node_v given.room given.words.now given.text.now.now given.table.now.now given.left) given.rule given.at given.lo given.hi given.depth (c.look-word.ensures ∙ ap (λ (n : ℕ). get_or given.table.now.now (slot_of n given.rule given.at) 0) c.rules_in-rules.ensures.0) given.count.now given.rows.now (sym c.is_held.ensures ∙ c.if-not-is_held.true)
+    rule_empty (rules_in given.words.now) given.root given.room given.text.now.now given.table.now.now (node_v given.room given.words.now given.text.now.now given.table.now.now given.left) given.rule given.at given.lo given.hi given.depth (c.look-word.ensures ∙ ap (λ (n : ℕ). get_or given.table.now.now (slot_of n given.rule given.at) 0) c.rules_in-rules.ensures.0) given.count.now given.rows.now (sym c.is_held.ensures ∙ c.if-not-is_held.true)
 
 pub walk_rule-returns-in_default : goal.walk_rule-returns-in_default
 walk_rule-returns-in_default t c =
     let given = c.args in
-    rule-impossible (rules_in given.words.now) given.root given.room given.text.now.now given.table.now.now (node_v given.room given.words.now given.text.now.now given.table.now.now given.left) given.rule given.at given.lo given.hi given.depth (c.look-word.ensures ∙ ap (λ (n : ℕ). get_or given.table.now.now (slot_of n given.rule given.at) 0) c.rules_in-rules.ensures.0) given.count.now given.rows.now (was_impossible (record_of c.look-word.result) (possible c.look-word.result given.at (length given.text.now.now)) (sym c.in_default.is ∙ (rw c.end_of.ensures at c.from_word.ensures)))
+    rule_impossible (rules_in given.words.now) given.root given.room given.text.now.now given.table.now.now (node_v given.room given.words.now given.text.now.now given.table.now.now given.left) given.rule given.at given.lo given.hi given.depth (c.look-word.ensures ∙ ap (λ (n : ℕ). get_or given.table.now.now (slot_of n given.rule given.at) 0) c.rules_in-rules.ensures.0) given.count.now given.rows.now (was_impossible (record_of c.look-word.result) (possible c.look-word.result given.at (length given.text.now.now)) (sym c.in_default.is ∙ (rw c.end_of.ensures at c.from_word.ensures)))
 
 pub walk_rule-returns-then-not-held : goal.walk_rule-returns-then-not-held
 walk_rule-returns-then-not-held t c =
@@ -242,7 +242,7 @@ walk_rule-returns-then-not-held t c =
     let w = was_possible c.in-Possible.held (record_of c.look-word.result) (possible c.look-word.result given.at (length given.text.now.now)) (sym c.in-Possible.is ∙ (rw c.end_of.ensures at c.from_word.ensures)) in
     let m = ap (λ (r : Record). r.matched) w.1 in
     let n = ap (λ (r : Record). r.length) w.1 in
-    rule-failed (rules_in given.words.now) given.root given.room given.text.now.now given.table.now.now (node_v given.room given.words.now given.text.now.now given.table.now.now given.left) given.rule given.at given.lo given.hi given.depth (c.look-word.ensures ∙ ap (λ (n : ℕ). get_or given.table.now.now (slot_of n given.rule given.at) 0) c.rules_in-rules.ensures.0) given.count.now given.rows.now (sym c.is_held.ensures ∙ c.if-not-is_held.false) w.0 (sym m ∙ not-true c.in-Possible.held.matched c.if-not-held.true)
+    rule_failed (rules_in given.words.now) given.root given.room given.text.now.now given.table.now.now (node_v given.room given.words.now given.text.now.now given.table.now.now given.left) given.rule given.at given.lo given.hi given.depth (c.look-word.ensures ∙ ap (λ (n : ℕ). get_or given.table.now.now (slot_of n given.rule given.at) 0) c.rules_in-rules.ensures.0) given.count.now given.rows.now (sym c.is_held.ensures ∙ c.if-not-is_held.false) w.0 (sym m ∙ not-true c.in-Possible.held.matched c.if-not-held.true)
 
 pub walk_rule-touched-requires : goal.walk_rule-touched-requires
 walk_rule-touched-requires t c =
@@ -250,7 +250,7 @@ walk_rule-touched-requires t c =
     let w = was_possible c.in-Possible.held (record_of c.look-word.result) (possible c.look-word.result given.at (length given.text.now.now)) (sym c.in-Possible.is ∙ (rw c.end_of.ensures at c.from_word.ensures)) in
     let m = ap (λ (r : Record). r.matched) w.1 in
     let n = ap (λ (r : Record). r.length) w.1 in
-    omega (arith, n, rule-in-text (rules_in given.words.now) given.root given.room given.text.now.now given.table.now.now (node_v given.room given.words.now given.text.now.now given.table.now.now given.left) given.rule given.at given.lo given.hi given.depth (c.look-word.ensures ∙ ap (λ (n : ℕ). get_or given.table.now.now (slot_of n given.rule given.at) 0) c.rules_in-rules.ensures.0) given.count.now given.rows.now (sym c.is_held.ensures ∙ c.if-not-is_held.false) w.0, c.requires.0.short)
+    omega (arith, n, rule_in_text (rules_in given.words.now) given.root given.room given.text.now.now given.table.now.now (node_v given.room given.words.now given.text.now.now given.table.now.now given.left) given.rule given.at given.lo given.hi given.depth (c.look-word.ensures ∙ ap (λ (n : ℕ). get_or given.table.now.now (slot_of n given.rule given.at) 0) c.rules_in-rules.ensures.0) given.count.now given.rows.now (sym c.is_held.ensures ∙ c.if-not-is_held.false) w.0, c.requires.0.short)
 
 pub walk_rule-returns-then-not-touched : goal.walk_rule-returns-then-not-touched
 walk_rule-returns-then-not-touched t c =
@@ -258,7 +258,7 @@ walk_rule-returns-then-not-touched t c =
     let w = was_possible c.in-Possible.held (record_of c.look-word.result) (possible c.look-word.result given.at (length given.text.now.now)) (sym c.in-Possible.is ∙ (rw c.end_of.ensures at c.from_word.ensures)) in
     let m = ap (λ (r : Record). r.matched) w.1 in
     let n = ap (λ (r : Record). r.length) w.1 in
-    rule-missed (rules_in given.words.now) given.root given.room given.text.now.now given.table.now.now (node_v given.room given.words.now given.text.now.now given.table.now.now given.left) given.rule given.at given.lo given.hi given.depth (c.look-word.ensures ∙ ap (λ (n : ℕ). get_or given.table.now.now (slot_of n given.rule given.at) 0) c.rules_in-rules.ensures.0) given.count.now given.rows.now (sym c.is_held.ensures ∙ c.if-not-is_held.false) w.0 (sym m ∙ not-false c.in-Possible.held.matched c.if-not-held.false) n (sym c.touched.ensures ∙ c.if-not-touched.true)
+    rule_missed (rules_in given.words.now) given.root given.room given.text.now.now given.table.now.now (node_v given.room given.words.now given.text.now.now given.table.now.now given.left) given.rule given.at given.lo given.hi given.depth (c.look-word.ensures ∙ ap (λ (n : ℕ). get_or given.table.now.now (slot_of n given.rule given.at) 0) c.rules_in-rules.ensures.0) given.count.now given.rows.now (sym c.is_held.ensures ∙ c.if-not-is_held.false) w.0 (sym m ∙ not-false c.in-Possible.held.matched c.if-not-held.false) n (sym c.touched.ensures ∙ c.if-not-touched.true)
 
 pub walk_rule-returns-then-room-count : goal.walk_rule-returns-then-room-count
 walk_rule-returns-then-room-count t c =
@@ -266,7 +266,7 @@ walk_rule-returns-then-room-count t c =
     let w = was_possible c.in-Possible.held (record_of c.look-word.result) (possible c.look-word.result given.at (length given.text.now.now)) (sym c.in-Possible.is ∙ (rw c.end_of.ensures at c.from_word.ensures)) in
     let m = ap (λ (r : Record). r.matched) w.1 in
     let n = ap (λ (r : Record). r.length) w.1 in
-    rule-full (rules_in given.words.now) given.root given.room given.text.now.now given.table.now.now (node_v given.room given.words.now given.text.now.now given.table.now.now given.left) given.rule given.at given.lo given.hi given.depth (c.look-word.ensures ∙ ap (λ (n : ℕ). get_or given.table.now.now (slot_of n given.rule given.at) 0) c.rules_in-rules.ensures.0) given.count.now given.rows.now (sym c.is_held.ensures ∙ c.if-not-is_held.false) w.0 (sym m ∙ not-false c.in-Possible.held.matched c.if-not-held.false) n (sym c.touched.ensures ∙ c.if-not-touched.false) c.if-room-count.true
+    rule_full (rules_in given.words.now) given.root given.room given.text.now.now given.table.now.now (node_v given.room given.words.now given.text.now.now given.table.now.now given.left) given.rule given.at given.lo given.hi given.depth (c.look-word.ensures ∙ ap (λ (n : ℕ). get_or given.table.now.now (slot_of n given.rule given.at) 0) c.rules_in-rules.ensures.0) given.count.now given.rows.now (sym c.is_held.ensures ∙ c.if-not-is_held.false) w.0 (sym m ∙ not-false c.in-Possible.held.matched c.if-not-held.false) n (sym c.touched.ensures ∙ c.if-not-touched.false) c.if-room-count.true
 
 pub walk_rule-row_word-requires : goal.walk_rule-row_word-requires
 walk_rule-row_word-requires t c =
@@ -275,7 +275,7 @@ walk_rule-row_word-requires t c =
     let w = was_possible c.in-Possible.held (record_of c.look-word.result) (possible c.look-word.result given.at (length given.text.now.now)) (sym c.in-Possible.is ∙ (rw c.end_of.ensures at c.from_word.ensures)) in
     let m = ap (λ (r : Record). r.matched) w.1 in
     let n = ap (λ (r : Record). r.length) w.1 in
-    (omega (arith, pre.0.shallow), omega (arith, pre.0.here, pre.0.short), omega (arith, n, rule-in-text (rules_in given.words.now) given.root given.room given.text.now.now given.table.now.now (node_v given.room given.words.now given.text.now.now given.table.now.now given.left) given.rule given.at given.lo given.hi given.depth (c.look-word.ensures ∙ ap (λ (n : ℕ). get_or given.table.now.now (slot_of n given.rule given.at) 0) c.rules_in-rules.ensures.0) given.count.now given.rows.now (sym c.is_held.ensures ∙ c.if-not-is_held.false) w.0, pre.0.short))
+    (omega (arith, pre.0.shallow), omega (arith, pre.0.here, pre.0.short), omega (arith, n, rule_in_text (rules_in given.words.now) given.root given.room given.text.now.now given.table.now.now (node_v given.room given.words.now given.text.now.now given.table.now.now given.left) given.rule given.at given.lo given.hi given.depth (c.look-word.ensures ∙ ap (λ (n : ℕ). get_or given.table.now.now (slot_of n given.rule given.at) 0) c.rules_in-rules.ensures.0) given.count.now given.rows.now (sym c.is_held.ensures ∙ c.if-not-is_held.false) w.0, pre.0.short))
 
 pub walk_rule-overflow_add-count : goal.walk_rule-overflow_add-count
 walk_rule-overflow_add-count t c =
@@ -297,7 +297,7 @@ walk_rule-returns-then-y-gt-FAILED t c =
     let w = was_possible c.in-Possible.held (record_of c.look-word.result) (possible c.look-word.result given.at (length given.text.now.now)) (sym c.in-Possible.is ∙ (rw c.end_of.ensures at c.from_word.ensures)) in
     let m = ap (λ (r : Record). r.matched) w.1 in
     let n = ap (λ (r : Record). r.length) w.1 in
-    rule-stops (rules_in given.words.now) given.root given.room given.text.now.now given.table.now.now (node_v given.room given.words.now given.text.now.now given.table.now.now given.left) given.rule given.at given.lo given.hi given.depth (c.look-word.ensures ∙ ap (λ (n : ℕ). get_or given.table.now.now (slot_of n given.rule given.at) 0) c.rules_in-rules.ensures.0) given.count.now given.rows.now (sym c.is_held.ensures ∙ c.if-not-is_held.false) w.0 (sym m ∙ not-false c.in-Possible.held.matched c.if-not-held.false) n (sym c.touched.ensures ∙ c.if-not-touched.false) c.if-room-count.false c.row_word.ensures pre.0.short pre.0.here (node_bounded given.room given.words.now given.text.now.now given.table.now.now given.left) _ _ _ (rw c.put.ensures at c.walk_node-y.ensures) c.if-y-gt-FAILED.true
+    rule_stops (rules_in given.words.now) given.root given.room given.text.now.now given.table.now.now (node_v given.room given.words.now given.text.now.now given.table.now.now given.left) given.rule given.at given.lo given.hi given.depth (c.look-word.ensures ∙ ap (λ (n : ℕ). get_or given.table.now.now (slot_of n given.rule given.at) 0) c.rules_in-rules.ensures.0) given.count.now given.rows.now (sym c.is_held.ensures ∙ c.if-not-is_held.false) w.0 (sym m ∙ not-false c.in-Possible.held.matched c.if-not-held.false) n (sym c.touched.ensures ∙ c.if-not-touched.false) c.if-room-count.false c.row_word.ensures pre.0.short pre.0.here (node_bounded given.room given.words.now given.text.now.now given.table.now.now given.left) _ _ _ (rw c.put.ensures at c.walk_node-y.ensures) c.if-y-gt-FAILED.true
 
 pub walk_rule-returns : goal.walk_rule-returns
 walk_rule-returns t c =
@@ -306,7 +306,7 @@ walk_rule-returns t c =
     let w = was_possible c.in-Possible.held (record_of c.look-word.result) (possible c.look-word.result given.at (length given.text.now.now)) (sym c.in-Possible.is ∙ (rw c.end_of.ensures at c.from_word.ensures)) in
     let m = ap (λ (r : Record). r.matched) w.1 in
     let n = ap (λ (r : Record). r.length) w.1 in
-    rule-goes (rules_in given.words.now) given.root given.room given.text.now.now given.table.now.now (node_v given.room given.words.now given.text.now.now given.table.now.now given.left) given.rule given.at given.lo given.hi given.depth (c.look-word.ensures ∙ ap (λ (n : ℕ). get_or given.table.now.now (slot_of n given.rule given.at) 0) c.rules_in-rules.ensures.0) given.count.now given.rows.now (sym c.is_held.ensures ∙ c.if-not-is_held.false) w.0 (sym m ∙ not-false c.in-Possible.held.matched c.if-not-held.false) n (sym c.touched.ensures ∙ c.if-not-touched.false) c.if-room-count.false c.row_word.ensures pre.0.short pre.0.here (node_bounded given.room given.words.now given.text.now.now given.table.now.now given.left) _ _ _ (rw c.put.ensures at c.walk_node-y.ensures) c.if-y-gt-FAILED.false
+    rule_goes (rules_in given.words.now) given.root given.room given.text.now.now given.table.now.now (node_v given.room given.words.now given.text.now.now given.table.now.now given.left) given.rule given.at given.lo given.hi given.depth (c.look-word.ensures ∙ ap (λ (n : ℕ). get_or given.table.now.now (slot_of n given.rule given.at) 0) c.rules_in-rules.ensures.0) given.count.now given.rows.now (sym c.is_held.ensures ∙ c.if-not-is_held.false) w.0 (sym m ∙ not-false c.in-Possible.held.matched c.if-not-held.false) n (sym c.touched.ensures ∙ c.if-not-touched.false) c.if-room-count.false c.row_word.ensures pre.0.short pre.0.here (node_bounded given.room given.words.now given.text.now.now given.table.now.now given.left) _ _ _ (rw c.put.ensures at c.walk_node-y.ensures) c.if-y-gt-FAILED.false
 
 pub walk_sequence-walk_node-x-requires : goal.walk_sequence-walk_node-x-requires
 walk_sequence-walk_node-x-requires t c =
@@ -318,47 +318,47 @@ walk_sequence-returns-then-x-ge-FAILED t c =
     let given = c.args in
     let pre = c.requires in
     let inner = node_v given.room given.words.now given.text.now.now given.table.now.now given.left in
-    sequence-ends given.text.now.now given.room inner pre.0.short (node_bounded given.room given.words.now given.text.now.now given.table.now.now given.left) (pair_v (rules_in given.words.now) given.b given.room given.text.now.now given.table.now.now inner) given.a given.b given.at given.lo given.hi given.depth pre.0.here pre.0.few c.walk_node-x.ensures c.if-x-ge-FAILED.true
+    sequence_ends given.text.now.now given.room inner pre.0.short (node_bounded given.room given.words.now given.text.now.now given.table.now.now given.left) (pair_v (rules_in given.words.now) given.b given.room given.text.now.now given.table.now.now inner) given.a given.b given.at given.lo given.hi given.depth pre.0.here pre.0.few c.walk_node-x.ensures c.if-x-ge-FAILED.true
 
 pub walk_sequence-overflow_add-at : goal.walk_sequence-overflow_add-at
 walk_sequence-overflow_add-at t c =
     let given = c.args in
     let pre = c.requires in
     let inner = node_v given.room given.words.now given.text.now.now given.table.now.now given.left in
-    omega (arith, (sequence-first given.text.now.now given.room inner pre.0.short (node_bounded given.room given.words.now given.text.now.now given.table.now.now given.left) (pair_v (rules_in given.words.now) given.b given.room given.text.now.now given.table.now.now inner) given.a given.b given.at given.lo given.hi given.depth pre.0.here pre.0.few c.walk_node-x.ensures c.if-x-ge-FAILED.false).in_text, pre.0.short)
+    omega (arith, (sequence_first given.text.now.now given.room inner pre.0.short (node_bounded given.room given.words.now given.text.now.now given.table.now.now given.left) (pair_v (rules_in given.words.now) given.b given.room given.text.now.now given.table.now.now inner) given.a given.b given.at given.lo given.hi given.depth pre.0.here pre.0.few c.walk_node-x.ensures c.if-x-ge-FAILED.false).in_text, pre.0.short)
 
 pub walk_sequence-walk_node-y-requires : goal.walk_sequence-walk_node-y-requires
 walk_sequence-walk_node-y-requires t c =
     let given = c.args in
     let pre = c.requires in
     let inner = node_v given.room given.words.now given.text.now.now given.table.now.now given.left in
-    (omega arith, (record { short = pre.0.short; here = (sequence-first given.text.now.now given.room inner pre.0.short (node_bounded given.room given.words.now given.text.now.now given.table.now.now given.left) (pair_v (rules_in given.words.now) given.b given.room given.text.now.now given.table.now.now inner) given.a given.b given.at given.lo given.hi given.depth pre.0.here pre.0.few c.walk_node-x.ensures c.if-x-ge-FAILED.false).in_text; few = (sequence-first given.text.now.now given.room inner pre.0.short (node_bounded given.room given.words.now given.text.now.now given.table.now.now given.left) (pair_v (rules_in given.words.now) given.b given.room given.text.now.now given.table.now.now inner) given.a given.b given.at given.lo given.hi given.depth pre.0.here pre.0.few c.walk_node-x.ensures c.if-x-ge-FAILED.false).few; shallow = omega (arith, pre.0.shallow) }, pre.2))
+    (omega arith, (record { short = pre.0.short; here = (sequence_first given.text.now.now given.room inner pre.0.short (node_bounded given.room given.words.now given.text.now.now given.table.now.now given.left) (pair_v (rules_in given.words.now) given.b given.room given.text.now.now given.table.now.now inner) given.a given.b given.at given.lo given.hi given.depth pre.0.here pre.0.few c.walk_node-x.ensures c.if-x-ge-FAILED.false).in_text; few = (sequence_first given.text.now.now given.room inner pre.0.short (node_bounded given.room given.words.now given.text.now.now given.table.now.now given.left) (pair_v (rules_in given.words.now) given.b given.room given.text.now.now given.table.now.now inner) given.a given.b given.at given.lo given.hi given.depth pre.0.here pre.0.few c.walk_node-x.ensures c.if-x-ge-FAILED.false).few; shallow = omega (arith, pre.0.shallow) }, pre.2))
 
 pub walk_sequence-returns-then-y-ge-FAILED : goal.walk_sequence-returns-then-y-ge-FAILED
 walk_sequence-returns-then-y-ge-FAILED t c =
     let given = c.args in
     let pre = c.requires in
     let inner = node_v given.room given.words.now given.text.now.now given.table.now.now given.left in
-    sequence-second-ends given.text.now.now given.room inner pre.0.short (node_bounded given.room given.words.now given.text.now.now given.table.now.now given.left) (pair_v (rules_in given.words.now) given.b given.room given.text.now.now given.table.now.now inner) given.a given.b given.at given.lo given.hi given.depth pre.0.here pre.0.few c.walk_node-x.ensures c.if-x-ge-FAILED.false c.walk_node-y.ensures c.if-y-ge-FAILED.true
+    sequence_second_ends given.text.now.now given.room inner pre.0.short (node_bounded given.room given.words.now given.text.now.now given.table.now.now given.left) (pair_v (rules_in given.words.now) given.b given.room given.text.now.now given.table.now.now inner) given.a given.b given.at given.lo given.hi given.depth pre.0.here pre.0.few c.walk_node-x.ensures c.if-x-ge-FAILED.false c.walk_node-y.ensures c.if-y-ge-FAILED.true
 
 pub walk_sequence-overflow_add-result : goal.walk_sequence-overflow_add-result
 walk_sequence-overflow_add-result t c =
     let given = c.args in
     let pre = c.requires in
     let inner = node_v given.room given.words.now given.text.now.now given.table.now.now given.left in
-    omega (arith, (sequence-second given.text.now.now given.room inner pre.0.short (node_bounded given.room given.words.now given.text.now.now given.table.now.now given.left) (pair_v (rules_in given.words.now) given.b given.room given.text.now.now given.table.now.now inner) given.a given.b given.at given.lo given.hi given.depth pre.0.here pre.0.few c.walk_node-x.ensures c.if-x-ge-FAILED.false c.walk_node-y.ensures c.if-y-ge-FAILED.false).in_text, pre.0.short)
+    omega (arith, (sequence_second given.text.now.now given.room inner pre.0.short (node_bounded given.room given.words.now given.text.now.now given.table.now.now given.left) (pair_v (rules_in given.words.now) given.b given.room given.text.now.now given.table.now.now inner) given.a given.b given.at given.lo given.hi given.depth pre.0.here pre.0.few c.walk_node-x.ensures c.if-x-ge-FAILED.false c.walk_node-y.ensures c.if-y-ge-FAILED.false).in_text, pre.0.short)
 
 pub walk_sequence-returns : goal.walk_sequence-returns
 walk_sequence-returns t c =
     let given = c.args in
     let pre = c.requires in
     let inner = node_v given.room given.words.now given.text.now.now given.table.now.now given.left in
-    sequence-both given.text.now.now given.room inner pre.0.short (node_bounded given.room given.words.now given.text.now.now given.table.now.now given.left) (pair_v (rules_in given.words.now) given.b given.room given.text.now.now given.table.now.now inner) given.a given.b given.at given.lo given.hi given.depth pre.0.here pre.0.few c.walk_node-x.ensures c.if-x-ge-FAILED.false c.walk_node-y.ensures c.if-y-ge-FAILED.false
+    sequence_both given.text.now.now given.room inner pre.0.short (node_bounded given.room given.words.now given.text.now.now given.table.now.now given.left) (pair_v (rules_in given.words.now) given.b given.room given.text.now.now given.table.now.now inner) given.a given.b given.at given.lo given.hi given.depth pre.0.here pre.0.few c.walk_node-x.ensures c.if-x-ge-FAILED.false c.walk_node-y.ensures c.if-y-ge-FAILED.false
 
 pub walk_star-loop-room-init : goal.walk_star-loop-room-init
 walk_star-loop-room-init t c =
     let inner = node_v c.args.room c.args.words.now c.args.text.now.now c.args.table.now.now c.args.left in
-    (refl, λ short. star-start c.args.text.now.now c.args.room inner short (node_bounded c.args.room c.args.words.now c.args.text.now.now c.args.table.now.now c.args.left) c.args.a c.args.at c.args.lo c.args.hi c.args.depth (pair_v (rules_in c.args.words.now) 0 c.args.room c.args.text.now.now c.args.table.now.now inner) c.requires.0.here c.requires.0.few)
+    (refl, λ short. star_start c.args.text.now.now c.args.room inner short (node_bounded c.args.room c.args.words.now c.args.text.now.now c.args.table.now.now c.args.left) c.args.a c.args.at c.args.lo c.args.hi c.args.depth (pair_v (rules_in c.args.words.now) 0 c.args.room c.args.text.now.now c.args.table.now.now inner) c.requires.0.here c.requires.0.few)
 
 pub walk_star-overflow_add-at : goal.walk_star-overflow_add-at
 walk_star-overflow_add-at t c =
@@ -374,33 +374,33 @@ pub walk_star-returns-then-x-gt-FAILED : goal.walk_star-returns-then-x-gt-FAILED
 walk_star-returns-then-x-gt-FAILED t c =
     let given = c.args in
     let pre = c.requires in
-    star-stops given.text.now.now given.room (node_v given.room given.words.now given.text.now.now given.table.now.now given.left) pre.0.short (node_bounded given.room given.words.now given.text.now.now given.table.now.now given.left) given.a given.at given.lo given.hi given.depth (c.loop-room.invariant.1 pre.0.short) c.walk_part-x.ensures c.if-x-gt-FAILED.true
+    star_stops given.text.now.now given.room (node_v given.room given.words.now given.text.now.now given.table.now.now given.left) pre.0.short (node_bounded given.room given.words.now given.text.now.now given.table.now.now given.left) given.a given.at given.lo given.hi given.depth (c.loop-room.invariant.1 pre.0.short) c.walk_part-x.ensures c.if-x-gt-FAILED.true
 
 pub walk_star-returns-then-x-eq-FAILED : goal.walk_star-returns-then-x-eq-FAILED
 walk_star-returns-then-x-eq-FAILED t c =
     let given = c.args in
     let pre = c.requires in
-    star-last given.text.now.now given.room (node_v given.room given.words.now given.text.now.now given.table.now.now given.left) pre.0.short (node_bounded given.room given.words.now given.text.now.now given.table.now.now given.left) given.a given.at given.lo given.hi given.depth (c.loop-room.invariant.1 pre.0.short) c.walk_part-x.ensures c.if-x-eq-FAILED.true
+    star_last given.text.now.now given.room (node_v given.room given.words.now given.text.now.now given.table.now.now given.left) pre.0.short (node_bounded given.room given.words.now given.text.now.now given.table.now.now given.left) given.a given.at given.lo given.hi given.depth (c.loop-room.invariant.1 pre.0.short) c.walk_part-x.ensures c.if-x-eq-FAILED.true
 
 pub walk_star-returns-then-x-eq0 : goal.walk_star-returns-then-x-eq0
 walk_star-returns-then-x-eq0 t c =
     let given = c.args in
     let pre = c.requires in
-    star-still given.text.now.now given.room (node_v given.room given.words.now given.text.now.now given.table.now.now given.left) pre.0.short (node_bounded given.room given.words.now given.text.now.now given.table.now.now given.left) given.a given.at given.lo given.hi given.depth (c.loop-room.invariant.1 pre.0.short) c.walk_part-x.ensures c.if-x-eq0.true
+    star_still given.text.now.now given.room (node_v given.room given.words.now given.text.now.now given.table.now.now given.left) pre.0.short (node_bounded given.room given.words.now given.text.now.now given.table.now.now given.left) given.a given.at given.lo given.hi given.depth (c.loop-room.invariant.1 pre.0.short) c.walk_part-x.ensures c.if-x-eq0.true
 
 pub walk_star-overflow_add-before : goal.walk_star-overflow_add-before
 walk_star-overflow_add-before t c =
     let given = c.args in
     let pre = c.requires in
-    omega (arith, (star-found given.text.now.now given.room (node_v given.room given.words.now given.text.now.now given.table.now.now given.left) pre.0.short (node_bounded given.room given.words.now given.text.now.now given.table.now.now given.left) given.a given.at given.lo given.hi given.depth (c.loop-room.invariant.1 pre.0.short) c.walk_part-x.ensures (let a = c.if-x-gt-FAILED.false in let b = c.if-x-eq-FAILED.false in omega (arith, b))).in_text, pre.0.short)
+    omega (arith, (star_found given.text.now.now given.room (node_v given.room given.words.now given.text.now.now given.table.now.now given.left) pre.0.short (node_bounded given.room given.words.now given.text.now.now given.table.now.now given.left) given.a given.at given.lo given.hi given.depth (c.loop-room.invariant.1 pre.0.short) c.walk_part-x.ensures (let a = c.if-x-gt-FAILED.false in let b = c.if-x-eq-FAILED.false in omega (arith, b))).in_text, pre.0.short)
 
 pub walk_star-loop-room-smaller : goal.walk_star-loop-room-smaller
 walk_star-loop-room-smaller t c =
     let given = c.args in
     let pre = c.requires in
-    let ne = c.if-x-eq0.false in omega (arith, ne, (star-found given.text.now.now given.room (node_v given.room given.words.now given.text.now.now given.table.now.now given.left) pre.0.short (node_bounded given.room given.words.now given.text.now.now given.table.now.now given.left) given.a given.at given.lo given.hi given.depth (c.loop-room.invariant.1 pre.0.short) c.walk_part-x.ensures (let a = c.if-x-gt-FAILED.false in let b = c.if-x-eq-FAILED.false in omega (arith, b))).in_text)
+    let ne = c.if-x-eq0.false in omega (arith, ne, (star_found given.text.now.now given.room (node_v given.room given.words.now given.text.now.now given.table.now.now given.left) pre.0.short (node_bounded given.room given.words.now given.text.now.now given.table.now.now given.left) given.a given.at given.lo given.hi given.depth (c.loop-room.invariant.1 pre.0.short) c.walk_part-x.ensures (let a = c.if-x-gt-FAILED.false in let b = c.if-x-eq-FAILED.false in omega (arith, b))).in_text)
 
 pub walk_star-loop-room-preserved : goal.walk_star-loop-room-preserved
 walk_star-loop-room-preserved t c =
     let given = c.args in
-    (c.walk_part-x.auto.rows ∙ c.loop-room.invariant.0, λ short. star-more given.text.now.now given.room (node_v given.room given.words.now given.text.now.now given.table.now.now given.left) short (node_bounded given.room given.words.now given.text.now.now given.table.now.now given.left) given.a given.at given.lo given.hi given.depth (c.loop-room.invariant.1 short) c.walk_part-x.ensures (let a = c.if-x-gt-FAILED.false in let b = c.if-x-eq-FAILED.false in omega (arith, b)) c.if-x-eq0.false)
+    (c.walk_part-x.auto.rows ∙ c.loop-room.invariant.0, λ short. star_more given.text.now.now given.room (node_v given.room given.words.now given.text.now.now given.table.now.now given.left) short (node_bounded given.room given.words.now given.text.now.now given.table.now.now given.left) given.a given.at given.lo given.hi given.depth (c.loop-room.invariant.1 short) c.walk_part-x.ensures (let a = c.if-x-gt-FAILED.false in let b = c.if-x-eq-FAILED.false in omega (arith, b)) c.if-x-eq0.false)

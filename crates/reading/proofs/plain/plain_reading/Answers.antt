@@ -1,4 +1,4 @@
-use Rattle.reading.proofs.PlainReading.{image_refused, text-refused, depth-refused, answered-reading}
+use Rattle.reading.proofs.PlainReading.{image_refused, text_refused, depth_refused, answered_reading}
 use Rattle.grammar.proofs.Acceptance.{accepted}
 use Rattle.grammar.specs.Questions.{Checked}
 use Rattle.std.proofs.Common.{ℕ, subst, rules}
@@ -11,7 +11,7 @@ returns-then-number-ne0 c =
 pub returns-then-text-gt-MAX_CAP : goal.returns-then-text-gt-MAX_CAP
 returns-then-text-gt-MAX_CAP c =
     let checked_0 : Checked c.args.image.now 0 = subst (λ (k : ℕ). Checked c.args.image.now k) c.if-number-ne0.false c.check-number.ensures in
-    text-refused c.args.image.now c.args.text.now checked_0 c.if-text-gt-MAX_CAP.true
+    text_refused c.args.image.now c.args.text.now checked_0 c.if-text-gt-MAX_CAP.true
 
 pub start_word-word-requires : goal.start_word-word-requires
 start_word-word-requires c =
@@ -21,9 +21,9 @@ start_word-word-requires c =
 pub returns-then-word-lt-BOUND : goal.returns-then-word-lt-BOUND
 returns-then-word-lt-BOUND c =
     let checked_0 : Checked c.args.image.now 0 = subst (λ (k : ℕ). Checked c.args.image.now k) c.if-number-ne0.false c.check-number.ensures in
-    depth-refused c.args.image.now c.args.text.now checked_0 c.if-text-gt-MAX_CAP.false c.start_word-word.ensures c.if-word-lt-BOUND.true
+    depth_refused c.args.image.now c.args.text.now checked_0 c.if-text-gt-MAX_CAP.false c.start_word-word.ensures c.if-word-lt-BOUND.true
 
 pub returns : goal.returns
 returns c =
     let checked_0 : Checked c.args.image.now 0 = subst (λ (k : ℕ). Checked c.args.image.now k) c.if-number-ne0.false c.check-number.ensures in
-    answered-reading c.args.image.now c.args.text.now checked_0 c.if-text-gt-MAX_CAP.false c.start_word-word.ensures c.if-word-lt-BOUND.false c.reading_of.result c.reading_of.ensures
+    answered_reading c.args.image.now c.args.text.now checked_0 c.if-text-gt-MAX_CAP.false c.start_word-word.ensures c.if-word-lt-BOUND.false c.reading_of.result c.reading_of.ensures

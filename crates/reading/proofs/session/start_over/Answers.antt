@@ -1,5 +1,5 @@
 use Rattle.std.proofs.Common.{sym, ◌∙◌, arith, rules}
-use Rattle.packrat.proofs.Start.{start_met, start_refused, start-stored}
+use Rattle.packrat.proofs.Start.{start_met, start_refused, start_stored}
 use Rattle.reading.proofs.StartPair.{start_fits}
 use Rattle.reading.proofs.session.start_over.Goals as goal
 
@@ -40,7 +40,7 @@ returns c =
     let a = c.args in
     let header = c.header_of-header.ensures in
     rw (c.put.ensures, header.its_rules, header.its_start, c.wrapping_add_u64.ensures.value)
-    (start-stored a.image.now a.text.now a.table.now a.count.now
+    (start_stored a.image.now a.text.now a.table.now a.count.now
     (rw (header.its_rules, header.its_start) at c.look-word.ensures)
     c.requires.1
     (sym c.is_held.ensures ∙ c.if-is_held.false)

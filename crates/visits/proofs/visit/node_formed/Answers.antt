@@ -1,5 +1,5 @@
 use Rattle.visits.proofs.ByKind.{forms_0_to_2, forms_3, forms_4, forms_5, forms_6, forms_7, forms_8}
-use Rattle.visits.proofs.Links.{linked-a-below, linked-b-below}
+use Rattle.visits.proofs.Links.{linked_a_below, linked_b_below}
 use mathlib.Core.Path.{sym}
 use native.Mathlib.Omega.{arith}
 use Rattle.visits.proofs.visit.node_formed.Goals as goal
@@ -10,39 +10,39 @@ node_in-word-requires c =
 
 pub bounds-formed-a : goal.bounds-formed-a
 bounds-formed-a c =
-    linked-a-below c.args.image.now c.requires.0.counts c.requires.0.words c.requires.1 c.node_in-word.ensures
+    linked_a_below c.args.image.now c.requires.0.counts c.requires.0.words c.requires.1 c.node_in-word.ensures
 
 pub bounds-known-a : goal.bounds-known-a
 bounds-known-a c =
-    linked-a-below c.args.image.now c.requires.0.counts c.requires.0.words c.requires.1 c.node_in-word.ensures
+    linked_a_below c.args.image.now c.requires.0.counts c.requires.0.words c.requires.1 c.node_in-word.ensures
 
 pub bounds-formed-b : goal.bounds-formed-b
 bounds-formed-b c =
-    linked-b-below c.args.image.now c.requires.0.counts c.requires.0.words c.requires.1 c.node_in-word.ensures
+    linked_b_below c.args.image.now c.requires.0.counts c.requires.0.words c.requires.1 c.node_in-word.ensures
 
 pub bounds-formed-a-in-4 : goal.bounds-formed-a-in-4
 bounds-formed-a-in-4 c =
-    linked-a-below c.args.image.now c.requires.0.counts c.requires.0.words c.requires.1 c.node_in-word.ensures
+    linked_a_below c.args.image.now c.requires.0.counts c.requires.0.words c.requires.1 c.node_in-word.ensures
 
 pub bounds-formed-b-in-4 : goal.bounds-formed-b-in-4
 bounds-formed-b-in-4 c =
-    linked-b-below c.args.image.now c.requires.0.counts c.requires.0.words c.requires.1 c.node_in-word.ensures
+    linked_b_below c.args.image.now c.requires.0.counts c.requires.0.words c.requires.1 c.node_in-word.ensures
 
 pub bounds-formed-a-in-5 : goal.bounds-formed-a-in-5
 bounds-formed-a-in-5 c =
-    linked-a-below c.args.image.now c.requires.0.counts c.requires.0.words c.requires.1 c.node_in-word.ensures
+    linked_a_below c.args.image.now c.requires.0.counts c.requires.0.words c.requires.1 c.node_in-word.ensures
 
 pub bounds-known-a-in-5 : goal.bounds-known-a-in-5
 bounds-known-a-in-5 c =
-    linked-a-below c.args.image.now c.requires.0.counts c.requires.0.words c.requires.1 c.node_in-word.ensures
+    linked_a_below c.args.image.now c.requires.0.counts c.requires.0.words c.requires.1 c.node_in-word.ensures
 
 pub bounds-formed-a-in-6 : goal.bounds-formed-a-in-6
 bounds-formed-a-in-6 c =
-    linked-a-below c.args.image.now c.requires.0.counts c.requires.0.words c.requires.1 c.node_in-word.ensures
+    linked_a_below c.args.image.now c.requires.0.counts c.requires.0.words c.requires.1 c.node_in-word.ensures
 
 pub bounds-formed-b-in-7 : goal.bounds-formed-b-in-7
 bounds-formed-b-in-7 c =
-    linked-b-below c.args.image.now c.requires.0.counts c.requires.0.words c.requires.1 c.node_in-word.ensures
+    linked_b_below c.args.image.now c.requires.0.counts c.requires.0.words c.requires.1 c.node_in-word.ensures
 
 pub returns-in-3 : goal.returns-in-3
 returns-in-3 c =

@@ -1,5 +1,5 @@
 use Rattle.visits.proofs.ByKind.{gathers_by_kind}
-use Rattle.visits.proofs.Links.{linked-a-below, linked-b-below}
+use Rattle.visits.proofs.Links.{linked_a_below, linked_b_below}
 use mathlib.Core.Path.{◌∙◌}
 use native.Mathlib.Omega.{arith}
 use Rattle.visits.proofs.visit.node_outcomes.Goals as goal
@@ -8,10 +8,10 @@ pub node_in-word-requires : goal.node_in-word-requires
 node_in-word-requires c = (c.requires.3, c.requires.1, omega (arith, c.requires.0.counts.few_nodes))
 
 pub bounds-known-a : goal.bounds-known-a
-bounds-known-a c = linked-a-below c.args.image.now c.requires.0.counts c.requires.0.words c.requires.1 c.node_in-word.ensures
+bounds-known-a c = linked_a_below c.args.image.now c.requires.0.counts c.requires.0.words c.requires.1 c.node_in-word.ensures
 
 pub bounds-known-b : goal.bounds-known-b
-bounds-known-b c = linked-b-below c.args.image.now c.requires.0.counts c.requires.0.words c.requires.1 c.node_in-word.ensures
+bounds-known-b c = linked_b_below c.args.image.now c.requires.0.counts c.requires.0.words c.requires.1 c.node_in-word.ensures
 
 pub set_of_kind-requires : goal.set_of_kind-requires
 set_of_kind-requires c =

@@ -1,0 +1,102 @@
+use Prim.Native.Nat.{◌-◌}
+use native.Mathlib.Omega.{arith}
+use mathlib.Core.Path.{refl}
+use lib.ListN.{length, length-take}
+use Rattle.promises.proofs.SheetLists.{lists_unasked}
+use Rattle.sheet.proofs.Laws.{passed, loan, accepted_image, table_lent}
+use Rattle.sheet.proofs.ListLaws.{stop_number, list_refused, list_rows, list_stopped}
+use Rattle.sheet.proofs.list.list_sheet.Goals as goal
+
+pub returns-then-number-ne0 : goal.returns-then-number-ne0
+returns-then-number-ne0 c =
+    lists_unasked c.args.image.now c.args.buffer.now c.args.n c.args.table.now c.args.rows.now c.asked-number.result (let ne = c.if-number-ne0.true in omega (arith, ne)) c.asked-number.ensures
+
+pub slice_bounds-start_over-end : goal.slice_bounds-start_over-end
+slice_bounds-start_over-end c =
+    let image = c.args.image.now in
+    let buffer = c.args.buffer.now in
+    let n = c.args.n in
+    let table = c.args.table.now in
+    let good = passed image (length buffer) n (length table) c.asked-number.ensures c.if-number-ne0.false in
+    omega (arith, (loan image (length buffer) n (length table) good).text_fits)
+
+pub start_over-word-requires : goal.start_over-word-requires
+start_over-word-requires c =
+    let image = c.args.image.now in
+    let buffer = c.args.buffer.now in
+    let n = c.args.n in
+    let table = c.args.table.now in
+    let good = passed image (length buffer) n (length table) c.asked-number.ensures c.if-number-ne0.false in
+    (accepted_image image (length buffer) n (length table) good, simp length-take (omega (arith, (loan image (length buffer) n (length table) good).short)))
+
+pub zeroed-requires : goal.zeroed-requires
+zeroed-requires c =
+    let image = c.args.image.now in
+    let buffer = c.args.buffer.now in
+    let n = c.args.n in
+    let table = c.args.table.now in
+    let good = passed image (length buffer) n (length table) c.asked-number.ensures c.if-number-ne0.false in
+    (omega (arith, c.if-word-lt-BOUND.true), table_lent image (length buffer) n (length table) good refl (omega (arith, (loan image (length buffer) n (length table) good).text_fits)) _ c.start_over-word.auto.table)
+
+pub returns-then-word-lt-BOUND : goal.returns-then-word-lt-BOUND
+returns-then-word-lt-BOUND c =
+    let image = c.args.image.now in
+    let buffer = c.args.buffer.now in
+    let n = c.args.n in
+    let table = c.args.table.now in
+    let good = passed image (length buffer) n (length table) c.asked-number.ensures c.if-number-ne0.false in
+    let rows = c.args.rows.now in
+    rw (c.zeroed.ensures.0, c.zeroed.ensures.1)
+    (list_refused image buffer n table rows good {m = n - 0} c.start_over-word.ensures (omega arith) c.if-word-lt-BOUND.true)
+
+pub slice_bounds-list_over-end : goal.slice_bounds-list_over-end
+slice_bounds-list_over-end c =
+    let image = c.args.image.now in
+    let buffer = c.args.buffer.now in
+    let n = c.args.n in
+    let table = c.args.table.now in
+    let good = passed image (length buffer) n (length table) c.asked-number.ensures c.if-number-ne0.false in
+    omega (arith, (loan image (length buffer) n (length table) good).text_fits)
+
+pub list_over-requires : goal.list_over-requires
+list_over-requires c =
+    let image = c.args.image.now in
+    let buffer = c.args.buffer.now in
+    let n = c.args.n in
+    let table = c.args.table.now in
+    let good = passed image (length buffer) n (length table) c.asked-number.ensures c.if-number-ne0.false in
+    (accepted_image image (length buffer) n (length table) good, simp length-take (omega (arith, (loan image (length buffer) n (length table) good).short)))
+
+pub stopped-requires : goal.stopped-requires
+stopped-requires c =
+    let image = c.args.image.now in
+    let buffer = c.args.buffer.now in
+    let n = c.args.n in
+    let table = c.args.table.now in
+    let good = passed image (length buffer) n (length table) c.asked-number.ensures c.if-number-ne0.false in
+    let rows = c.args.rows.now in (
+      stop_number image buffer n table rows good c.list_over.ensures c.in-Refused.is,
+      table_lent image (length buffer) n (length table) good refl (omega (arith, (loan image (length buffer) n (length table) good).text_fits)) _ c.start_over-word.auto.table,
+    )
+
+pub returns-in-Rows : goal.returns-in-Rows
+returns-in-Rows c =
+    let image = c.args.image.now in
+    let buffer = c.args.buffer.now in
+    let n = c.args.n in
+    let table = c.args.table.now in
+    let good = passed image (length buffer) n (length table) c.asked-number.ensures c.if-number-ne0.false in
+    let rows = c.args.rows.now in
+    rw c.reading_of.ensures
+    (list_rows image buffer n table rows good {m = n - 0} c.start_over-word.ensures (omega arith) c.if-word-lt-BOUND.false c.list_over.ensures c.in-Rows.is)
+
+pub returns-in-Refused : goal.returns-in-Refused
+returns-in-Refused c =
+    let image = c.args.image.now in
+    let buffer = c.args.buffer.now in
+    let n = c.args.n in
+    let table = c.args.table.now in
+    let good = passed image (length buffer) n (length table) c.asked-number.ensures c.if-number-ne0.false in
+    let rows = c.args.rows.now in
+    rw (c.stopped.ensures.0, c.stopped.ensures.1)
+    (list_stopped image buffer n table rows good {m = n - 0} c.start_over-word.ensures (omega arith) c.if-word-lt-BOUND.false c.list_over.ensures c.in-Refused.is)
