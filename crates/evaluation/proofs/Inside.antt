@@ -1,5 +1,5 @@
 -- What is made inside an evaluation without records. Assumes nothing.
---     nesting-is     the nesting is 1 + the largest nesting among the evaluations made inside; of a star's rounds it is that largest
+--     nesting_is     the nesting is 1 + the largest nesting among the evaluations made inside; of a star's rounds it is that largest
 --     made_inside    each is at the position or behind, examines nothing more, and is less deep; one of a star's rounds is no deeper
 use Prim.Native.Nat.{ℕ, ◌+◌, ◌≤◌}
 use native.Mathlib.Omega.{arith}

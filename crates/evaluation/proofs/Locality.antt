@@ -1,5 +1,5 @@
 -- What an evaluation examined decides it.
---     prefix-decides   a text with the same bytes up to where it examined gives the same evaluation; where it examined the end, p +
+--     prefix_decides   a text with the same bytes up to where it examined gives the same evaluation; where it examined the end, p +
 --                      examined is n + 1 and no such text is asked
 --     moved            what stands before the position does not matter: an evaluation moves with the rest of the text, the end included
 -- CallLocality says the same of the pairs called, and Relocation has the way back. Proved from the terminal's laws. Assumes nothing.

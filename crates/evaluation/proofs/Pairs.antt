@@ -1,4 +1,4 @@
--- Pairs in lists: membership as a type (In) and as a test (isIn). Assumes nothing.
+-- Pairs in lists: membership as a type (In) and as a test (is_in). Assumes nothing.
 use Prim.Native.Nat.{ℕ}
 use mathlib.Core.Path.{◌≡◌, refl, sym, ap, ◌∙◌, subst}
 use mathlib.Core.Bool.{Bool, true, false, ◌&&◌, ◌||◌, true≢false}

@@ -1,8 +1,8 @@
 -- The pairs that a reading reaches are those whose body is evaluated in the start pair's evaluation without records.
 -- Assumes nothing.
---     reached-in    a reached pair is among them
---     in-reached    each of them is reached
---     reached-is, is-reached    the same by the test
+--     reached_in    a reached pair is among them
+--     in_reached    each of them is reached
+--     reached_is, is_reached    the same by the test
 use Prim.Native.Nat.{ℕ}
 use mathlib.Core.Path.{◌≡◌, subst}
 use mathlib.Core.Bool.{true}

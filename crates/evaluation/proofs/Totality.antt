@@ -1,6 +1,6 @@
 -- Every accepted image and text has an evaluation: for every node and position, by Ford's rules. Assumes nothing.
 --     total        an evaluation of every node at every position of the text
---     total-pair   and of every pair
+--     total_pair   and of every pair
 use Prim.Native.Nat.{ℕ, zero, suc, ◌+◌, ◌-◌, ◌≤◌, ◌<◌}
 use native.Mathlib.Omega.{arith}
 use mathlib.Core.Path.{◌≡◌, refl, subst}

@@ -1,7 +1,7 @@
 -- The table of characters, by its lines.
---     few-later    no character has more than three later bytes
---     its-line     a byte has the later bytes of the line that it is in
---     from-C2, from-E0 and so on: the same, line by line; below-C2, past-F4: no later bytes
+--     few_later    no character has more than three later bytes
+--     its_line     a byte has the later bytes of the line that it is in
+--     from_C2, from_E0 and so on: the same, line by line; below_C2, past_F4: no later bytes
 -- Assumes nothing.
 use Prim.Native.Nat.{ℕ, ◌+◌, ◌≤◌, ◌<◌, max}
 use native.Mathlib.Omega.{arith}

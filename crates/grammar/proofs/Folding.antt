@@ -1,7 +1,7 @@
 -- What the fold bit is for (02, R-1): "Some loggers write KWH and some kwh."
---     still-taken   what is taken without the fold bit is taken with it
---     either-case   a folded range takes a letter in both cases or in neither
---     no-letter     a byte that is no letter is taken as without the fold bit
+--     still_taken   what is taken without the fold bit is taken with it
+--     either_case   a folded range takes a letter in both cases or in neither
+--     no_letter     a byte that is no letter is taken as without the fold bit
 --     alone         in a lawful word of kind 2 the four zero bits are the fold bit
 -- Assumes nothing.
 use Prim.Native.Nat.{ℕ, ◌+◌, ◌-◌}

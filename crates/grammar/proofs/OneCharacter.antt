@@ -1,6 +1,6 @@
 -- "any" takes one character as RFC 3629 defines it, and looks at the bytes that R-5 (document 02) says: specs/OneCharacter.antt.
---     one-character    at every position before the end of a text, "any" keeps every sentence of `OneCharacter`
---     lawful-taken     a lawful character is taken whole, whatever stands before and after it
+--     one_character    at every position before the end of a text, "any" keeps every sentence of `OneCharacter`
+--     lawful_taken     a lawful character is taken whole, whatever stands before and after it
 --     only_one         `OneCharacter` fixes outcome, length and examined
 -- Assumes nothing.
 use Prim.Native.Nat.{ℕ, suc, ◌+◌, ◌≤◌, ◌<◌}

@@ -2,8 +2,8 @@
 --     shape        what it gives is in the text, and it examined at least one place
 --     prefix       what it examined decides it: a text with the same bytes there gives the same
 --     suffix       it does not look back: what stands before its position does not matter
---     match-consumes   a match has length 1 or more
---     at-most-four     it takes no more than four bytes, and looks at no more
+--     match_consumes   a match has length 1 or more
+--     at_most_four     it takes no more than four bytes, and looks at no more
 --     by_byte      kind 2 takes one byte, or none, and looks at one place
 -- A match can be shorter than what was examined; no law says that the two are equal. Assumes nothing.
 use Prim.Native.Nat.{ℕ, ◌+◌, ◌≤◌, ◌<◌}

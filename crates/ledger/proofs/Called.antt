@@ -1,6 +1,6 @@
 -- The pairs called in an evaluation without records, and pairs that are shifted. Assumes nothing.
---     called-within             each called pair has an evaluation that examines no more of the text than the whole does
---     in-shifted, shifted_in    a pair is among shifted pairs exactly where it is one of them, shifted
+--     called_within             each called pair has an evaluation that examines no more of the text than the whole does
+--     in_shifted, shifted_in    a pair is among shifted pairs exactly where it is one of them, shifted
 use Prim.Native.Nat.{ℕ, ◌+◌, ◌≤◌}
 use native.Mathlib.Omega.{arith}
 use mathlib.Core.Path.{◌≡◌, refl}

@@ -1,8 +1,8 @@
 -- What follows from demand 3: the numbers that occur along a list of calls, and a reading beside the plain reading of the same text.
 -- Assumes nothing.
---     only-these-numbers    1 to 8, 12 and 13 never occur
+--     only_these_numbers    1 to 8, 12 and 13 never occur
 --     as_plain              a reading answers what the plain reading answers, with the number of pairs reached and not held
---     lists-as-plain        a listing answers that too, with the text's rows, or 15 exactly where they do not fit
+--     lists_as_plain        a listing answers that too, with the text's rows, or 15 exactly where they do not fit
 use Prim.Native.Nat.{ℕ, ◌≤◌, ◌<◌}
 use native.Mathlib.Omega.{arith}
 use mathlib.Core.Path.{◌≡◌, refl, sym, ap, ◌∙◌, subst}

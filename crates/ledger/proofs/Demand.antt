@@ -1,7 +1,7 @@
 -- Demand 3: along every list of calls from an accepted opening, each reply is the ledger's, and what is left agrees with the ledger.
 -- Assumes nothing.
---     opened-image    an accepted opening has an accepted image
---     demand-3        the claim
+--     opened_image    an accepted opening has an accepted image
+--     demand_3        the claim
 use Prim.Native.Nat.{ℕ}
 use mathlib.Core.Path.{◌≡◌, refl, subst}
 use mathlib.Core.Bool.{Bool, true, false}

@@ -1,8 +1,8 @@
 -- An edit and the evaluations: which pairs stand, what their evaluations are on the new text, and that the pairs that their bodies call
 -- stand too. Assumes nothing.
---     stands-cases, stands-stay, stands-carry    the two cases of standing
---     value-stay, value-carry                    a pair that stands has its old evaluation
---     stay-calls, carry-there                    and its body calls the old pairs
+--     stands_cases, stands_stay, stands_carry    the two cases of standing
+--     value_stay, value_carry                    a pair that stands has its old evaluation
+--     stay_calls, carry_there                    and its body calls the old pairs
 use Prim.Native.Nat.{ℕ, ◌+◌, ◌-◌, ◌≤◌, ◌<◌}
 use native.Mathlib.Omega.{arith}
 use mathlib.Core.Path.{◌≡◌, sym, ap, ◌∙◌, subst}

@@ -1,7 +1,7 @@
 -- There are evaluations as the ledger asks for: totality gives each pair's evaluation, and the pairs reached are those whose body is
 -- evaluated in the start pair's. And all such functions give the same. Assumes nothing.
 --     evaluations                         functions that will do
---     one_value, one-reached, one-rows    any two give the same
+--     one_value, one_reached, one_rows    any two give the same
 use Prim.Native.Nat.{ℕ, ◌≤◌, ◌<◌}
 use native.Mathlib.Omega.{arith}
 use mathlib.Core.Path.{◌≡◌, refl, sym, ◌∙◌}

@@ -1,6 +1,6 @@
 -- A listing as a function of what it is lent, where questions 1 to 8 hold: it keeps its promise. Assumes nothing.
---     listReply, listWords    its reply, and the words that it leaves
---     list-linked             a link of a list of calls, for every number of row slots
+--     list_reply, list_words    its reply, and the words that it leaves
+--     list_linked             a link of a list of calls, for every number of row slots
 use Prim.Native.Nat.{ℕ, ◌≤◌}
 use native.Mathlib.Omega.{arith}
 use mathlib.Core.Path.{◌≡◌, refl, sym, subst}

@@ -1,8 +1,8 @@
 -- The calls as functions of what they are lent, where questions 1 to 8 hold; each keeps its promise. So there is a run of every list of
 -- calls from every accepted opening, and there is an accepted opening for every accepted image. Assumes nothing.
---     an-opening       an opening that keeps its promise
---     a-run            a run of every list of calls, with the replies and the loan that the functions give
---     ledger-replies   the ledger's replies are those of the functions, whatever gives it its evaluations
+--     an_opening       an opening that keeps its promise
+--     a_run            a run of every list of calls, with the replies and the loan that the functions give
+--     ledger_replies   the ledger's replies are those of the functions, whatever gives it its evaluations
 use Prim.Native.Nat.{ℕ}
 use native.Mathlib.Omega.{arith}
 use mathlib.Core.Path.{◌≡◌, refl, sym, ◌∙◌}

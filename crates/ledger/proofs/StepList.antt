@@ -1,6 +1,6 @@
 -- A listing of demand 3: from the invariant and the listing's promise, the reply is the ledger's, rows included, and the invariant holds
 -- again, as after a reading. Assumes nothing.
---     list-step
+--     list_step
 use Prim.Native.Nat.{ℕ}
 use native.Mathlib.Omega.{arith}
 use mathlib.Core.Path.{◌≡◌, refl, sym, ap, ◌∙◌, subst}

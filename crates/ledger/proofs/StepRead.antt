@@ -1,7 +1,7 @@
 -- A reading of demand 3: from the invariant and the reading's promise, the reply is the ledger's and the invariant holds again. And the
 -- invariant of an empty set, which an opening and a reading refused with 14 leave. Assumes nothing.
---     inv-empty    the invariant where no pair is held and the table is zeroed
---     sheet-step   a reading that passed questions 1 to 8
+--     inv_empty    the invariant where no pair is held and the table is zeroed
+--     sheet_step   a reading that passed questions 1 to 8
 --     read_step    a reading
 use Prim.Native.Nat.{ℕ, suc, ◌+◌, ◌≤◌, ◌<◌}
 use native.Mathlib.Omega.{arith}

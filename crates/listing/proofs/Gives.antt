@@ -2,7 +2,7 @@
 --     found, failed, halted    what a number says: a match of that length, a failure, a refusal
 --     at_once                  an answer without a row
 --     and_then                 a step after a step that was answered
---     and-stop                 a refusal ends what follows
+--     and_stop                 a refusal ends what follows
 use Prim.Native.Nat.{ℕ, suc, ◌+◌, ◌≤◌, ◌<◌}
 use native.Mathlib.Omega.{arith}
 use mathlib.Core.Path.{◌≡◌, refl, sym, ap, ◌∙◌, subst}

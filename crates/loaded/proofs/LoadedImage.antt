@@ -1,5 +1,5 @@
 -- A lawful image has a loaded grammar, as a list that a proof can compute with. Assumes nothing.
---     loadedWords, image-loaded
+--     loaded_words, image_loaded
 use Prim.Native.Nat.{ℕ, zero, suc, ◌+◌, ◌≤◌}
 use native.Mathlib.Omega.{arith}
 use mathlib.Core.Path.{◌≡◌, refl, subst}

@@ -1,6 +1,6 @@
 -- The allowance limits the nesting exactly, for an arbitrary allowance and in both directions: without records a pair is answered with its evaluation
 -- exactly where the allowance covers its nesting, and otherwise gets 14. Assumes nothing.
---     pair-allowed    for every pair at a position of the text
+--     pair_allowed    for every pair at a position of the text
 use Prim.Native.Nat.{ℕ, zero, suc, ◌+◌, ◌%◌, ◌^◌, ◌≤◌, ◌<◌}
 use native.Mathlib.Omega.{arith}
 use mathlib.Core.Path.{◌≡◌, refl, sym, ap, ◌∙◌}

@@ -1,7 +1,7 @@
 -- Whatever the table holds and whatever the allowance, a run of a pair of the image and the text changes only words in slots of pairs
 -- of the text, answers within the text, and is refused with 12 or 14 if at all. Assumes nothing.
---     pair-framed       every run
---     pair-impossible   a held word that is not possible is refused with 12, and nothing changes
+--     pair_framed       every run
+--     pair_impossible   a held word that is not possible is refused with 12, and nothing changes
 use Prim.Native.Nat.{ℕ, zero, suc, ◌+◌, ◌%◌, ◌≤◌, ◌<◌, ◌^◌}
 use native.Mathlib.Omega.{arith}
 use mathlib.Core.Path.{◌≡◌, refl, ap, ◌∙◌}

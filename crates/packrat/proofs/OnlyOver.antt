@@ -1,6 +1,6 @@
 -- Over any table the evaluator answers nothing but the evaluation in which each held pair takes what its word says: where there is none, it
 -- refuses. When it answers that evaluation, and when it gives 14, is `pair-over`. Assumes nothing.
---     only-over    for every pair at a position of the text, and every allowance of at most 4,096
+--     only_over    for every pair at a position of the text, and every allowance of at most 4,096
 use Prim.Native.Nat.{ℕ, zero, suc, ◌+◌, ◌%◌, ◌≤◌, ◌<◌, ◌^◌}
 use native.Mathlib.Omega.{arith}
 use mathlib.Core.Path.{◌≡◌, refl, sym, ap, ◌∙◌, subst}

@@ -2,7 +2,7 @@
 -- words of the pairs whose body is evaluated in it and no other, and the count goes up by the number of these pairs. Where the
 -- allowance is below the evaluation's nesting it refuses with 14. Assumes nothing.
 --     determined   the run of a pair whose nesting is allowed
---     too-deep     the run of a pair whose nesting is not
+--     too_deep     the run of a pair whose nesting is not
 use Prim.Native.Nat.{ℕ, ◌+◌, ◌%◌, ◌≤◌, ◌<◌, ◌^◌}
 use native.Mathlib.Omega.{arith}
 use mathlib.Core.Path.{◌≡◌, refl, sym, ap, ◌∙◌, subst}

@@ -1,8 +1,8 @@
 -- A reading over a table that has room, is true and closed under calls: it answers the evaluation without records, the table is true
 -- and closed afterwards and holds what was held or reached, and the count goes up by the number of pairs reached and not held; where
 -- the nesting is above the allowance it refuses with 14, and with nothing else. Assumes nothing.
---     pair_reads, pair-deep, only-14      for every pair of the image and the text, and every allowance of at most 4,096
---     start-reads, start-deep             for the start pair
+--     pair_reads, pair_deep, only_14      for every pair of the image and the text, and every allowance of at most 4,096
+--     start_reads, start_deep             for the start pair
 use Prim.Native.Nat.{ℕ, ◌+◌, ◌≤◌, ◌<◌, ◌^◌}
 use native.Mathlib.Omega.{arith}
 use native.Mathlib.Nat.{mul-le-mul}

@@ -1,9 +1,9 @@
 -- Over a true table the evaluation is the fresh one: history does not show in what is read. And where the table is closed under calls,
 -- the bodies evaluated over it are those of the fresh evaluation whose pairs are not held. Assumes nothing.
---     over-of-fresh    what Ford's rules give, the rules over a true table give
---     fresh-of-over    and the other way round, where the fresh evaluation exists
---     bodies-over      the bodies evaluated over the table
---     none_true, none-closed    a table that holds no pair of the text is true and closed
+--     over_of_fresh    what Ford's rules give, the rules over a true table give
+--     fresh_of_over    and the other way round, where the fresh evaluation exists
+--     bodies_over      the bodies evaluated over the table
+--     none_true, none_closed    a table that holds no pair of the text is true and closed
 use Prim.Native.Nat.{ℕ, ◌≤◌, ◌<◌}
 use mathlib.Core.Path.{◌≡◌, refl, sym, ap, ◌∙◌}
 use mathlib.Core.Bool.{Bool, true, false, not, ◌&&◌, ◌||◌, true≢false}

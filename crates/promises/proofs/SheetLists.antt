@@ -1,9 +1,9 @@
 -- What a listing makes of the start pair's run over the lent words and of the walk over the words that the run left keeps the listing's
 -- promise, whatever the words are. Assumes nothing.
---     written_listed, stopped-listed    where the run answers, by cases of the walk
---     refused-listed                    where it is refused
---     impossible-listed                 where the start word is held and impossible
---     lists-unasked, lists-done         the whole promise: where one of questions 1 to 8 fails, and where none does
+--     written_listed, stopped_listed    where the run answers, by cases of the walk
+--     refused_listed                    where it is refused
+--     impossible_listed                 where the start word is held and impossible
+--     lists_unasked, lists_done         the whole promise: where one of questions 1 to 8 fails, and where none does
 use Prim.Native.Nat.{ℕ, ◌≤◌}
 use native.Mathlib.Omega.{arith}
 use mathlib.Core.Path.{◌≡◌, refl, sym, ap, ◌∙◌, subst}

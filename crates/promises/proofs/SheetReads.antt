@@ -1,10 +1,10 @@
 -- What a reading makes of the start pair's run over the lent words keeps the reading's promise, whatever the words are.
 -- Assumes nothing.
---     sheet-read       of a text in a buffer of cap bytes, where questions 1 to 8 hold
---     reads-are        of the first n bytes of a buffer
---     reads-answered, reads-refused    the same by cases of the run
---     reads_word, reads-number         the same by cases of the word that the evaluator answers
---     reads-unasked    where one of questions 1 to 8 fails
+--     sheet_read       of a text in a buffer of cap bytes, where questions 1 to 8 hold
+--     reads_are        of the first n bytes of a buffer
+--     reads_answered, reads_refused    the same by cases of the run
+--     reads_word, reads_number         the same by cases of the word that the evaluator answers
+--     reads_unasked    where one of questions 1 to 8 fails
 use Prim.Native.Nat.{ℕ, ◌+◌, ◌≤◌, ◌<◌, ◌^◌}
 use native.Mathlib.Omega.{arith}
 use native.Mathlib.Nat.{mul-le-mul}

@@ -1,8 +1,8 @@
 -- The well-formed rounds: a visit marks only a well-formed node, and one more if it changes anything; so the rounds stop, and what
 -- they leave, over any order that visits every node, is the well-formed set.
---     formed-nodes-least     the nodes that the rounds leave are the well-formed set
---     formed-rounds-stop     "The rounds stop at the first that adds nothing"
---     formed-nodes-left      marks that some rounds leave and to which the next adds nothing are those
+--     formed_nodes_least     the nodes that the rounds leave are the well-formed set
+--     formed_rounds_stop     "The rounds stop at the first that adds nothing"
+--     formed_nodes_left      marks that some rounds leave and to which the next adds nothing are those
 -- Assumes nothing.
 use Prim.Native.Nat.{ℕ, ◌≤◌, ◌<◌}
 use native.Mathlib.Omega.{arith}

@@ -1,6 +1,6 @@
 -- What the second rounds find is in the well-formed set, and it is all of it once no node joins.
---     formed-only     from nodes that are well formed, only such nodes join
---     formed-all      where no node can join, every well-formed node has joined
+--     formed_only     from nodes that are well formed, only such nodes join
+--     formed_all      where no node can join, every well-formed node has joined
 -- Assumes nothing.
 use Prim.Native.Nat.{ℕ, ◌<◌}
 use mathlib.Core.Path.{◌≡◌, refl, sym, ◌∙◌}

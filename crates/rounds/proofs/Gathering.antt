@@ -1,6 +1,6 @@
 -- What a node gathers from the sets known so far is right, and it is all once no node gathers more.
---     gathered-only     from sets with nothing wrong a node gathers nothing wrong
---     gathered-all      from sets to which no node can add anything, a node gathers all its outcomes
+--     gathered_only     from sets with nothing wrong a node gathers nothing wrong
+--     gathered_all      from sets to which no node can add anything, a node gathers all its outcomes
 -- Assumes nothing.
 use Prim.Native.Nat.{ℕ, ◌<◌}
 use mathlib.Core.Path.{◌≡◌, refl, sym, ◌∙◌}

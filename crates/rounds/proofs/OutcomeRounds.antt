@@ -1,8 +1,8 @@
 -- The outcome rounds: a visit adds only what is right, and makes the sets heavier if it changes them; so the rounds stop, and what
 -- they leave, over any order that visits every node, are the least sets.
---     outcome-sets-least     the sets that the rounds leave are the least sets
---     outcome-rounds-stop    "The rounds stop at the first that adds nothing"
---     outcome-sets-left      sets that some rounds leave and to which the next adds nothing are those
+--     outcome_sets_least     the sets that the rounds leave are the least sets
+--     outcome_rounds_stop    "The rounds stop at the first that adds nothing"
+--     outcome_sets_left      sets that some rounds leave and to which the next adds nothing are those
 -- Assumes nothing.
 use Prim.Native.Nat.{ℕ, ◌*◌, ◌≤◌, ◌<◌}
 use native.Mathlib.Omega.{arith}

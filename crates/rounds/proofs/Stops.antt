@@ -1,6 +1,6 @@
 -- Rounds of visits stop, where a visit either changes nothing or makes the list heavier, and no list is heavier than `most`.
---     round-still      a round that adds nothing has visits that each add nothing
---     still-at-most    after `most` rounds no round adds anything
+--     round_still      a round that adds nothing has visits that each add nothing
+--     still_at_most    after `most` rounds no round adds anything
 --     same_left        rounds leave the same wherever they are left after a round that adds nothing
 --     stop             "the first that adds nothing" comes
 -- Assumes nothing.

@@ -1,6 +1,6 @@
 -- Over any table the walk ends, gives no more rows than fit, stays in the text, and is refused with 12, 14 or 15 if at all.
 -- Assumes nothing.
---     node-bounded, pair-bounded    for every loaded grammar, text, table, window and number of rows before
+--     node_bounded, pair_bounded    for every loaded grammar, text, table, window and number of rows before
 use Prim.Native.Nat.{ℕ, zero, suc, ◌+◌, ◌%◌, ◌≤◌, ◌<◌}
 use native.Mathlib.Omega.{arith}
 use mathlib.Core.Path.{◌≡◌, refl, ap, ◌∙◌}

@@ -1,7 +1,7 @@
 -- The walk of the start pair over the records that a reading left gives the rows of the text, in order, and their number, or 15 exactly
 -- where they do not fit. Assumes nothing.
---     start-lists      over a true and closed table that holds the start pair
---     reading-lists    over the table of a reading
+--     start_lists      over a true and closed table that holds the start pair
+--     reading_lists    over the table of a reading
 use Prim.Native.Nat.{ℕ, ◌+◌, ◌≤◌}
 use native.Mathlib.Omega.{arith}
 use mathlib.Core.Path.{◌≡◌, refl, sym, ap, ◌∙◌}

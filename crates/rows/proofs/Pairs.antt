@@ -1,5 +1,5 @@
 -- Over a true and closed table: what the walk does at a pair whose word is held, and which pairs are held. Assumes nothing.
---     pair-says       the pair's word says its evaluation
+--     pair_says       the pair's word says its evaluation
 --     numbered        a node by its number
 --     Held            the pair itself is held, or the pairs that are called in what is not a pair
 use Prim.Native.Nat.{ℕ, suc, ◌+◌, ◌%◌, ◌≤◌, ◌<◌}

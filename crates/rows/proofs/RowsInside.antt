@@ -1,8 +1,8 @@
 -- Where rows lie: what matched holds its rows, their rules are the image's, and their depth is below the nesting. A listing that
 -- is not refused with 14 has a depth of at most 4,095 in each row, so that the fields of its word fit. Assumes nothing.
 --     rows_inside    the rows of a subject at a position of the text
---     start-rows     the rows of the start pair
---     start-fields   the words of these rows have their fields, and zero bits between rule and depth
+--     start_rows     the rows of the start pair
+--     start_fields   the words of these rows have their fields, and zero bits between rule and depth
 use Prim.Native.Nat.{ℕ, ◌+◌, ◌≤◌, ◌<◌, ◌^◌}
 use native.Mathlib.Omega.{arith}
 use mathlib.Core.Path.{◌≡◌, refl, ap, ◌∙◌}

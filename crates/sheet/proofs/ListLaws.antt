@@ -1,7 +1,7 @@
 -- What a listing leaves to be shown: from the evaluator's word and the walk's answer to the listing's promise. Assumes nothing.
---     list-refused    where the word is a refusal's number
---     list-rows       where it is an evaluation's and the walk wrote rows
---     list-stopped    where the walk stopped
+--     list_refused    where the word is a refusal's number
+--     list_rows       where it is an evaluation's and the walk wrote rows
+--     list_stopped    where the walk stopped
 use Prim.Native.Nat.{ℕ, ◌≤◌, ◌<◌}
 use native.Mathlib.Omega.{arith}
 use mathlib.Core.Path.{◌≡◌, sym, subst}
