@@ -6,7 +6,7 @@ use promises::{EditAnswer, ListAnswer, LookUpAnswer, OpenAnswer, ReadAnswer, She
 use reading::plain::Outcome;
 
 #[repr(C)]
-#[derive(Drop)]
+#[derive(Clone, Copy)]
 pub struct Fields {
     pub number: u64,
     pub outcome: u64,

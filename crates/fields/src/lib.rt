@@ -28,7 +28,7 @@ pub fn second_end(line: &[u8]) -> usize
     bytes::scan::find(line, from, line.len(), b' ')
 }
 
-#[derive(Drop)]
+#[derive(Clone, Copy)]
 pub enum Number {
     Is(usize),
     None,
@@ -71,7 +71,7 @@ pub fn decimal(field: &[u8]) -> Number
     Number::Is(value)
 }
 
-#[derive(Drop)]
+#[derive(Clone, Copy)]
 pub enum Decoded {
     Bytes(usize),
     TooLong,

@@ -3,7 +3,7 @@ ghost use Rattle.front.specs.Front.{Scanned, Lowered};
 
 // Of a stretch of words: how many are held, and whether it was seen that every word stays: that each is 0 or held, and that no held word
 // examined more than the limit. Where it was not seen, the words have to be looked at one by one.
-#[derive(Drop)]
+#[derive(Clone, Copy)]
 pub struct Scan {
     pub held: usize,
     pub every: bool,

@@ -1,11 +1,12 @@
 // The language of grammars: what an image holds, which images are accepted, and what Ford's rules say that a node does
 // at a position of a text. This crate has definitions (specs/) and theorems (proofs/), the refusals' numbers by name, and no code
 // that runs.
+#![tactic(auto)]
 
 pub mod numbers;
 
 // What an evaluation has: "an outcome, a length, an examined length and a nesting".
-#[derive(Drop)]
+#[derive(Clone, Copy)]
 pub struct Evaluation {
     pub matched: bool,
     pub length: usize,
@@ -14,7 +15,7 @@ pub struct Evaluation {
 }
 
 // What a node's word has: "kind 4, zero 4, A 12, B 12".
-#[derive(Drop)]
+#[derive(Clone, Copy)]
 pub struct NodeFields {
     pub kind: usize,
     pub zero: usize,

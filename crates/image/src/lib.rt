@@ -7,7 +7,7 @@ ghost use Rattle.image.specs.Linked.{linked_from};
 
 use grammar::NodeFields;
 
-#[derive(Drop)]
+#[derive(Clone, Copy)]
 pub struct Header {
     pub edition: usize,
     pub rules: usize,
@@ -15,7 +15,7 @@ pub struct Header {
     pub start: usize,
 }
 
-#[derive(Drop)]
+#[derive(Clone, Copy)]
 pub struct Rule {
     pub zero: usize,
     pub root: usize,

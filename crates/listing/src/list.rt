@@ -8,7 +8,7 @@ use crate::bytes::FAILED;
 use crate::walk;
 use records::Record;
 
-#[derive(Drop)]
+#[derive(Clone, Copy)]
 pub enum Listed {
     // How many rows were written.
     Rows(usize),

@@ -3,27 +3,27 @@
 use reading::plain::Outcome;
 
 // "The answer is the text's length n."
-#[derive(Drop)]
+#[derive(Clone, Copy)]
 pub enum OpenAnswer {
     Opened(usize),
     Refused(u8),
 }
 
 // "The answer gives the new length and the number of pairs standing."
-#[derive(Drop)]
+#[derive(Clone, Copy)]
 pub struct EditedSheet {
     pub length: usize,
     pub standing: usize,
 }
 
-#[derive(Drop)]
+#[derive(Clone, Copy)]
 pub enum EditAnswer {
     Edited(EditedSheet),
     Refused(u8),
 }
 
 // "it also gives length, examined length and nesting, and in a session evaluations"
-#[derive(Drop)]
+#[derive(Clone, Copy)]
 pub struct SheetReading {
     pub outcome: Outcome,
     pub length: usize,
@@ -32,27 +32,27 @@ pub struct SheetReading {
     pub evaluations: u64,
 }
 
-#[derive(Drop)]
+#[derive(Clone, Copy)]
 pub enum ReadAnswer {
     Read(SheetReading),
     Refused(u8),
 }
 
 // "The answer is the reading's and the number of rows."
-#[derive(Drop)]
+#[derive(Clone, Copy)]
 pub struct SheetListing {
     pub reading: SheetReading,
     pub rows: usize,
 }
 
-#[derive(Drop)]
+#[derive(Clone, Copy)]
 pub enum ListAnswer {
     Listed(SheetListing),
     Refused(u8),
 }
 
 // "The program gives the slot's word whole."
-#[derive(Drop)]
+#[derive(Clone, Copy)]
 pub enum LookUpAnswer {
     Word(u64),
     Refused(u8),

@@ -9,14 +9,14 @@ use crate::start;
 use grammar::numbers;
 
 // "A reading is whole (matched, length n), part (matched, shorter) or none"
-#[derive(Drop)]
+#[derive(Clone, Copy)]
 pub enum Outcome {
     Whole,
     Part,
     Nothing,
 }
 
-#[derive(Drop)]
+#[derive(Clone, Copy)]
 pub struct Reading {
     pub outcome: Outcome,
     pub length: usize,
@@ -25,7 +25,7 @@ pub struct Reading {
 }
 
 // A reading, or the number of the question that failed.
-#[derive(Drop)]
+#[derive(Clone, Copy)]
 pub enum PlainAnswer {
     Read(Reading),
     Refused(u8),

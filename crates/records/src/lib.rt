@@ -3,7 +3,7 @@
 ghost use Rattle.std.specs.Prelude.{◌<◌, ◌≡◌};
 ghost use Rattle.records.specs.Words.{is_held, matched_of, spare_of, nesting_of, examined_of, length_of, record_word, SaidBy, decoded};
 
-#[derive(Drop)]
+#[derive(Clone, Copy)]
 pub struct Record {
     pub matched: bool,
     // The sixteen bits that are zero in a true record.
@@ -14,7 +14,7 @@ pub struct Record {
 }
 
 // What the decoder answers: "is each record met possible?"
-#[derive(Drop)]
+#[derive(Clone, Copy)]
 pub enum Decoded {
     Possible(Record),
     Impossible,

@@ -5,7 +5,7 @@ use crate::{answers, calls, listing, numbers, verbs};
 use fields::Decoded;
 
 // How much of each buffer is lent to the next call, and the text's length.
-#[derive(Drop)]
+#[derive(Clone, Copy)]
 pub struct Session {
     pub image: usize,
     pub cap: usize,

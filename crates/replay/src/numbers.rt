@@ -1,7 +1,7 @@
 // Two numbers in a line.
 use fields::Number;
 
-#[derive(Drop)]
+#[derive(Clone, Copy)]
 pub enum Numbers {
     Are(usize, usize),
     None,

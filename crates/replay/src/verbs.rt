@@ -1,6 +1,6 @@
 // What a line asks for: its first field.
 
-#[derive(Drop)]
+#[derive(Clone, Copy)]
 pub enum Verb {
     Blank,
     Comment,

@@ -1,10 +1,6 @@
-use Prim.Native.Nat.{ℕ, ◌≤◌, ◌-◌}
 use native.Mathlib.Omega.{arith}
 use mathlib.Core.Path.{refl}
-use lib.ListN.{length}
-use borrow.Author.Rules.{rules}
 use Rattle.buffers.proofs.Fill.{none, up, all_same}
-use Rattle.buffers.specs.Filled.{Filled}
 use Rattle.buffers.proofs.bytes.clear.Goals as goal
 
 -- `bytes::clear` meets its contract: up to i the bytes are 0. Assumes nothing.

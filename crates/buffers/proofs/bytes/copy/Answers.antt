@@ -1,10 +1,6 @@
-use Prim.Native.Nat.{◌≤◌, ◌-◌}
 use native.Mathlib.Omega.{arith}
 use mathlib.Core.Path.{refl}
-use lib.ListN.{length}
-use borrow.Author.Rules.{rules}
 use Rattle.buffers.proofs.Fill.{none, up, fit}
-use Rattle.buffers.specs.Filled.{Filled, at}
 use Rattle.buffers.proofs.bytes.copy.Goals as goal
 
 -- `bytes::copy` meets its contract: up to i the bytes are the text's. Assumes nothing.

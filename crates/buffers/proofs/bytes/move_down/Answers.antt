@@ -1,9 +1,8 @@
-use Prim.Native.Nat.{ℕ, ◌≤◌, ◌-◌, ◌+◌}
+use Prim.Native.Nat.{ℕ, ◌-◌, ◌+◌}
 use native.Mathlib.Omega.{arith}
 use mathlib.Core.Path.{◌≡◌, refl, ap, ◌∙◌}
-use borrow.Author.Rules.{rules}
 use Rattle.buffers.proofs.Fill.{empty, up, fit}
-use Rattle.buffers.specs.Filled.{Filled, at}
+use Rattle.buffers.specs.Filled.{at}
 use Rattle.buffers.proofs.bytes.move_down.Goals as goal
 
 -- `bytes::move_down` meets its contract: up to i the bytes are moved; what is read lies at or past what was stored. Assumes nothing.

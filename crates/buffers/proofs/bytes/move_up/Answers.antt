@@ -1,9 +1,8 @@
-use Prim.Native.Nat.{ℕ, ◌≤◌, ◌-◌, ◌+◌}
+use Prim.Native.Nat.{ℕ, ◌-◌, ◌+◌}
 use native.Mathlib.Omega.{arith}
 use mathlib.Core.Path.{◌≡◌, refl, ap, ◌∙◌}
-use borrow.Author.Rules.{rules}
 use Rattle.buffers.proofs.Fill.{none, down, fit}
-use Rattle.buffers.specs.Filled.{Filled, at}
+use Rattle.buffers.specs.Filled.{at}
 use Rattle.buffers.proofs.bytes.move_up.Goals as goal
 
 -- `bytes::move_up` meets its contract: from i on the bytes are moved; what is read lies before what was stored. Assumes nothing.

@@ -1,8 +1,4 @@
-use Prim.Native.Nat.{ℕ, ◌≤◌, ◌-◌, ◌+◌}
-use native.Mathlib.Omega.{arith}
-use mathlib.Core.Path.{◌≡◌, refl, ap, ◌∙◌}
-use borrow.Author.Rules.{rules}
-use Rattle.buffers.proofs.Fill.{none, down, fit}
+use Prim.Native.Nat.{◌≤◌, ◌-◌, ◌+◌}
 use Rattle.buffers.specs.Filled.{Filled, at}
 use Rattle.buffers.proofs.bytes.move_up.Given as goal
 
