@@ -1,4 +1,6 @@
 // The ways of combining evaluations, on their words: one function for each case of the paper.
+#![tactic(auto)]
+
 ghost use Rattle.std.specs.Prelude.{◌≤◌, ◌<◌, max, ◌≡◌};
 ghost use Rattle.grammar.specs.Evaluates.{first_failed, in_sequence, taken_over, second_choice, negated};
 ghost use Rattle.records.specs.Words.{word_of, value_of, nesting_of};

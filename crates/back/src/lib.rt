@@ -1,5 +1,7 @@
 // The back of the table, lent from the slot of position s on: the words behind the edit are carried to their new rows, each row between
 // and behind is zeroed, and the words that stay at s are put over the rest.
+#![tactic(auto)]
+
 ghost use Rattle.std.specs.Prelude.{◌+◌, ◌≤◌, length};
 ghost use Rattle.back.specs.Back.{RowOf, Put, Carried, BackFits, Back};
 

@@ -1,5 +1,7 @@
 // The image check: questions 1 to 7 of the paper, asked of any byte string in their order. The crate `lawful` asks 1 to 5, and this
 // one 6 and 7.
+#![tactic(auto)]
+
 ghost use Rattle.grammar.specs.Questions.{Checked};
 
 use grammar::numbers;

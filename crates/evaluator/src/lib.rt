@@ -3,6 +3,8 @@
 // falls by one from a node to what is evaluated inside it, and not from a rule to its body. An answer is a record word, or the number
 // of a refusal, which is below 16 and so not held. The text is lent as a reference to its slice: one pointer to hand on, where a slice
 // is a pointer and a length that each call copies.
+#![tactic(auto)]
+
 ghost use Rattle.std.specs.Prelude.{◌≡◌, ◌+◌, ◌-◌, ◌<◌, length};
 ghost use Rattle.grammar.specs.Image.{sequence, choice, star, not_predicate, call};
 ghost use Rattle.packrat.specs.Model.{pair_m};

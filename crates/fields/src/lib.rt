@@ -1,12 +1,30 @@
 // The fields of a line: where they lie, decimal numbers, and bytes in hexadecimal digits.
-ghost use Rattle.std.specs.Prelude.{◌+◌, ◌*◌, ◌≤◌, ◌<◌, ◌≡◌, length};
+#![tactic(auto)]
+
+ghost use Rattle.std.specs.Prelude.{ℕ, ◌+◌, ◌*◌, ◌≤◌, ◌<◌, ◌≡◌, ◌≢◌, length, slice_index};
 ghost use Rattle.fields.specs.Fields.{DecimalOf, hex_value, HexOf};
+
+// The first place at or past `from` that has this byte, or the end of the line.
+pub fn place_of(line: &[u8], from: usize, byte: u8) -> usize
+    requires { from ≤ length line.now }
+    ensures from_on { from ≤ result }
+    ensures within { result ≤ length line.now }
+    ensures before { (k : ℕ) → from ≤ k → k < result → slice_index line.now k ≢ byte }
+    ensures found { result < length line.now → slice_index line.now result ≡ byte }
+{
+    for place in from..line.len() {
+        if line[place] == byte {
+            return place;
+        }
+    }
+    line.len()
+}
 
 // The end of the first field: the first space, or the end of the line.
 pub fn end_of(line: &[u8]) -> usize
     ensures { result ≤ length line.now }
 {
-    bytes::scan::find(line, 0, line.len(), b' ')
+    place_of(line, 0, b' ')
 }
 
 // The start of what follows a field that ends there.
@@ -25,7 +43,7 @@ pub fn second_end(line: &[u8]) -> usize
     ensures { result ≤ length line.now }
 {
     let from = after(line, end_of(line));
-    bytes::scan::find(line, from, line.len(), b' ')
+    place_of(line, from, b' ')
 }
 
 #[derive(Clone, Copy)]

@@ -1,4 +1,6 @@
 // The front of the table: the rows of positions before s. There a pair stands where its record examined nothing from s on.
+#![tactic(auto)]
+
 ghost use Rattle.std.specs.Prelude.{◌+◌, ◌-◌, ◌*◌, ◌≤◌, ◌<◌, ◌≡◌, length};
 ghost use Rattle.buffers.specs.Filled.{at};
 ghost use Rattle.editing.specs.Held.{kept_word};

@@ -1,5 +1,7 @@
 // Reads the fields of a grammar image. Every function answers for every byte string and every number: a byte past the end reads
 // as 0. Which bits are which field is said in the crate `grammar`, specs/Image.antt.
+#![tactic(auto)]
+
 ghost use Rattle.std.specs.Prelude.{◌≡◌, ◌/◌, ◌^◌, ◌<◌};
 ghost use Rattle.grammar.specs.Image.{byte_at, word16, word32, node_word, fields_of, fields_at};
 ghost use Rattle.image.specs.Fields.{HeaderFields, RuleFields, SameFields};

@@ -1,4 +1,6 @@
 // Questions 1 to 5: is the image lawful? They ask about the bytes and nothing of what the grammar means.
+#![tactic(auto)]
+
 ghost use Rattle.grammar.specs.Questions.{First, of_lawful};
 
 use grammar::numbers;

@@ -8,7 +8,7 @@ use lib.ListN.{length, get_or, set}
 use lib.Dec.{leb}
 use borrow.Author.Tests.{le-leb, lt-leb, ltb-true, ltb-false}
 use lib.Dec.{ltb}
-use Rattle.grammar.specs.Image.{Node, empty, terminal, Terminal, any, unlawful, fields_of, byte_range}
+use Rattle.grammar.specs.Image.{Node, terminal, Terminal, any, unlawful, fields_of, byte_range}
 use Rattle.grammar.specs.declared.NodeFields.{NodeFields}
 use Rattle.grammar.proofs.Nodes.{is_empty, is_any, is_range}
 use Rattle.image.specs.Fields.{SameFields}

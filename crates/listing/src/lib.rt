@@ -1,4 +1,5 @@
 // Listing: the walk over the records that a reading left, which counts and writes rows.
+#![tactic(auto)]
 
 mod bytes;
 pub mod list;

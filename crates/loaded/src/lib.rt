@@ -1,4 +1,6 @@
 // A grammar read once: a reading visits the same nodes many times.
+#![tactic(auto)]
+
 ghost use Rattle.std.specs.Prelude.{◌<◌, ◌^◌, ◌≡◌};
 ghost use Rattle.grammar.specs.Questions.{Lawful};
 ghost use Rattle.packrat.specs.Loaded.{Loaded, rules_in};

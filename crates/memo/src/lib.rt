@@ -1,5 +1,7 @@
 // The memo table: where a pair's record lies. A slot past the table reads as 0, and a store past it does nothing, so the evaluator
 // asks no room of the table.
+#![tactic(auto)]
+
 ghost use Rattle.std.specs.Prelude.{◌≤◌, ◌<◌, ◌^◌, ◌≡◌, get_or, set};
 ghost use Rattle.records.specs.Slots.{slot_of};
 

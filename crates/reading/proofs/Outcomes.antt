@@ -1,7 +1,6 @@
 -- Theorem `outcome-says`: the outcome as a function is the paper's. Assumes nothing.
-use Rattle.std.proofs.Common.{◌≡◌, ℕ, ◌≤◌, Bool, true, false, eqb, refl, arith, eqb-true}
+use Rattle.std.proofs.Common.{◌≡◌, Bool, true, false, eqb, refl, arith, eqb-true}
 use borrow.Author.Tests.{eqb-false}
-use Rattle.grammar.specs.declared.Evaluation.{Evaluation}
 use Rattle.reading.specs.Plain.{Says, outcome_of, OutcomeSays}
 
 pub outcome_says : OutcomeSays

@@ -1,5 +1,7 @@
 // Records: what an evaluation found, as one 64-bit word.
 // "A record is a 64-bit word: held 1, matched 1, zero 16, nesting 13, examined 17, length 16."
+#![tactic(auto)]
+
 ghost use Rattle.std.specs.Prelude.{◌<◌, ◌≡◌};
 ghost use Rattle.records.specs.Words.{is_held, matched_of, spare_of, nesting_of, examined_of, length_of, record_word, SaidBy, decoded};
 

@@ -1,149 +1,109 @@
-// The lines that are printed.
+// The lines that are printed. What cannot be written is answered as an error.
 use promises::{EditAnswer, ListAnswer, LookUpAnswer, OpenAnswer, ReadAnswer, SheetReading};
 use reading::plain::Outcome;
+use std::io;
+use std::io::Write;
 
-fn wide(number: usize) -> u64 {
-    number as u64
-}
-
-fn wide_byte(number: u8) -> u64 {
-    number as u64
-}
-
-fn say(words: &[u8]) {
-    io::write_all(1, words);
-}
-
-fn say_number(words: &[u8], number: u64) {
-    say(words);
-    io::print_decimal(1, number);
-}
-
-// The number of a line that is answered, and what it asked for.
-fn begin(line: usize, call: &[u8]) {
-    io::print_decimal(1, wide(line));
-    say(b" ");
-    say(call);
-}
-
-fn refused(number: u8) {
-    say_number(b"refused ", wide_byte(number));
-}
-
-pub fn of_open(line: usize, answer: OpenAnswer) {
-    begin(line, b"open: ");
+pub fn of_open(rt: &HostRuntime, line: usize, answer: OpenAnswer) -> io::Result<()> {
     match answer {
-        OpenAnswer::Opened(length) => say_number(b"length ", wide(length)),
-        OpenAnswer::Refused(number) => refused(number),
+        OpenAnswer::Opened(length) => println!(rt; "{line} open: length {length}"),
+        OpenAnswer::Refused(number) => println!(rt; "{line} open: refused {number}"),
     }
-    say(b"\n");
 }
 
-pub fn of_edit(line: usize, answer: EditAnswer) {
-    begin(line, b"edit: ");
+pub fn of_edit(rt: &HostRuntime, line: usize, answer: EditAnswer) -> io::Result<()> {
     match answer {
         EditAnswer::Edited(sheet) => {
-            say_number(b"length ", wide(sheet.length));
-            say_number(b", standing ", wide(sheet.standing));
+            let length = sheet.length;
+            let standing = sheet.standing;
+            println!(rt; "{line} edit: length {length}, standing {standing}")
         }
-        EditAnswer::Refused(number) => refused(number),
+        EditAnswer::Refused(number) => println!(rt; "{line} edit: refused {number}"),
     }
-    say(b"\n");
 }
 
-fn outcome(outcome: Outcome) {
+fn outcome(outcome: Outcome) -> &'static str {
     match outcome {
-        Outcome::Nothing => say(b"none"),
-        Outcome::Part => say(b"part"),
-        Outcome::Whole => say(b"whole"),
+        Outcome::Nothing => "none",
+        Outcome::Part => "part",
+        Outcome::Whole => "whole",
     }
 }
 
-fn reading(reading: SheetReading) {
-    let found = reading.outcome;
-    outcome(found);
-    say_number(b", length ", wide(reading.length));
-    say_number(b", examined ", wide(reading.examined));
-    say_number(b", nesting ", wide(reading.nesting));
-    say_number(b", evaluations ", reading.evaluations);
+// Without the end of its line.
+fn reading(rt: &HostRuntime, reading: SheetReading) -> io::Result<()> {
+    let found = outcome(reading.outcome);
+    let length = reading.length;
+    let examined = reading.examined;
+    let nesting = reading.nesting;
+    let evaluations = reading.evaluations;
+    print!(rt;
+        "{found}, length {length}, examined {examined}, nesting {nesting}, evaluations {evaluations}"
+    )
 }
 
-pub fn of_read(line: usize, answer: ReadAnswer) {
-    begin(line, b"read: ");
+pub fn of_read(rt: &HostRuntime, line: usize, answer: ReadAnswer) -> io::Result<()> {
     match answer {
-        ReadAnswer::Read(found) => reading(found),
-        ReadAnswer::Refused(number) => refused(number),
+        ReadAnswer::Read(found) => {
+            print!(rt; "{line} read: ")?;
+            reading(rt, found)?;
+            println!(rt; "")
+        }
+        ReadAnswer::Refused(number) => println!(rt; "{line} read: refused {number}"),
     }
-    say(b"\n");
 }
 
 // The line goes on with the rows.
-pub fn of_list(line: usize, answer: ListAnswer) {
-    begin(line, b"list: ");
+pub fn of_list(rt: &HostRuntime, line: usize, answer: ListAnswer) -> io::Result<()> {
     match answer {
         ListAnswer::Listed(listing) => {
-            reading(listing.reading);
-            say_number(b", rows ", wide(listing.rows));
+            print!(rt; "{line} list: ")?;
+            reading(rt, listing.reading)?;
+            let rows = listing.rows;
+            print!(rt; ", rows {rows}")
         }
-        ListAnswer::Refused(number) => refused(number),
+        ListAnswer::Refused(number) => print!(rt; "{line} list: refused {number}"),
     }
-}
-
-fn row(word: u64) {
-    say(b" ");
-    io::print_hex(1, word, 16);
 }
 
 // The words of a listing's rows, each after a space, and the end of its line.
-pub fn rows(words: &[u64]) {
-    let mut i: usize = 0;
-    while i < words.len() {
-        row(words[i]);
-        i += 1;
+pub fn rows(rt: &HostRuntime, words: &[u64]) -> io::Result<()> {
+    for word in words {
+        print!(rt; " {word:016x}")?;
     }
-    say(b"\n");
+    println!(rt; "")
 }
 
-pub fn of_look_up(line: usize, answer: LookUpAnswer) {
-    begin(line, b"look: ");
+pub fn of_look_up(rt: &HostRuntime, line: usize, answer: LookUpAnswer) -> io::Result<()> {
     match answer {
-        LookUpAnswer::Word(word) => {
-            say(b"word ");
-            io::print_hex(1, word, 16);
-        }
-        LookUpAnswer::Refused(number) => refused(number),
+        LookUpAnswer::Word(word) => println!(rt; "{line} look: word {word:016x}"),
+        LookUpAnswer::Refused(number) => println!(rt; "{line} look: refused {number}"),
     }
-    say(b"\n");
 }
 
-pub fn comment(words: &[u8]) {
-    say(words);
-    say(b"\n");
+// The bytes of a comment, whatever they are.
+pub fn comment(rt: &HostRuntime, words: &[u8]) -> io::Result<()> {
+    let mut out = io::writer(rt);
+    out.write_all(words)?;
+    out.write_all(b"\n")
 }
 
-fn message(line: usize, words: &[u8]) {
-    io::print_decimal(1, wide(line));
-    say(b": ");
-    say(words);
-    say(b"\n");
+pub fn not_understood(rt: &HostRuntime, line: usize) -> io::Result<()> {
+    println!(rt; "{line}: not understood")
 }
 
-pub fn not_understood(line: usize) {
-    message(line, b"not understood");
+pub fn too_long(rt: &HostRuntime, line: usize) -> io::Result<()> {
+    println!(rt; "{line}: more than 65536 bytes")
 }
 
-pub fn too_long(line: usize) {
-    message(line, b"more than 65536 bytes");
+pub fn too_much_lent(rt: &HostRuntime, line: usize) -> io::Result<()> {
+    println!(rt; "{line}: more than 65536 bytes or 131072 words to lend")
 }
 
-pub fn too_much_lent(line: usize) {
-    message(line, b"more than 65536 bytes or 131072 words to lend");
+pub fn too_many_slots(rt: &HostRuntime, line: usize) -> io::Result<()> {
+    println!(rt; "{line}: more than 65536 row slots to lend")
 }
 
-pub fn too_many_slots(line: usize) {
-    message(line, b"more than 65536 row slots to lend");
-}
-
-pub fn too_much_input() {
-    say(b"the input has 262144 bytes or more: nothing is replayed\n");
+pub fn too_much_input(rt: &HostRuntime) -> io::Result<()> {
+    println!(rt; "the input has 262144 bytes or more: nothing is replayed")
 }

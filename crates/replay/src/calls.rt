@@ -1,26 +1,32 @@
 // The calls but the listing, over what is lent to them. Each prints its answer; those that may change the text give its length afterwards.
+// What is lent is then as the call left it, also where the answer could not be printed.
+ghost use Rattle.std.specs.Prelude.{ℕ, ◌≡◌, IfOk};
 ghost use Rattle.replay.specs.Calls.{Opens, Edits, ReadsSheet};
 
 use crate::numbers::Numbers;
 use crate::{answers, numbers};
 use fields::Decoded;
+use std::io;
 
 fn open_text(
+    rt: &HostRuntime,
     line: usize,
     n: usize,
     image: &[u8],
     buffer: &mut [u8],
     table: &mut [u64],
     text: &[u8],
-) -> usize
-    ensures { Opens image.now text.now buffer.old table.old n result buffer.new table.new }
+) -> io::Result<usize>
+    ensures { (next : ℕ) × Opens image.now text.now buffer.old table.old n next buffer.new table.new × IfOk result (λ k. k ≡ next) }
 {
     let answer = sheet::open::open(image, text, buffer, table);
-    answers::of_open(line, answer);
-    answered::opened(answer, n)
+    let next = answered::opened(answer, n);
+    answers::of_open(rt, line, answer)?;
+    Ok(next)
 }
 
 pub fn open(
+    rt: &HostRuntime,
     rest: &[u8],
     line: usize,
     n: usize,
@@ -28,24 +34,25 @@ pub fn open(
     buffer: &mut [u8],
     table: &mut [u64],
     given: &mut [u8],
-) -> usize {
+) -> io::Result<usize> {
     match fields::hex(rest, given) {
         Decoded::Bytes(count) => {
             let k = fields::at_most(count, given.len());
-            open_text(line, n, image, buffer, table, &given[0..k])
+            open_text(rt, line, n, image, buffer, table, &given[0..k])
         }
         Decoded::TooLong => {
-            answers::too_long(line);
-            n
+            answers::too_long(rt, line)?;
+            Ok(n)
         }
         Decoded::Wrong => {
-            answers::not_understood(line);
-            n
+            answers::not_understood(rt, line)?;
+            Ok(n)
         }
     }
 }
 
 fn edit_text(
+    rt: &HostRuntime,
     line: usize,
     n: usize,
     image: &[u8],
@@ -54,16 +61,18 @@ fn edit_text(
     s: usize,
     e: usize,
     replacement: &[u8],
-) -> usize
-    ensures { Edits image.now buffer.old n table.old s e replacement.now result buffer.new table.new }
+) -> io::Result<usize>
+    ensures { (next : ℕ) × Edits image.now buffer.old n table.old s e replacement.now next buffer.new table.new × IfOk result (λ k. k ≡ next) }
 {
     let answer = sheet::edit::edit(image, buffer, n, table, s, e, replacement);
-    answers::of_edit(line, answer);
-    answered::edited(answer, n)
+    let next = answered::edited(answer, n);
+    answers::of_edit(rt, line, answer)?;
+    Ok(next)
 }
 
 // An edit whose two numbers are read and whose replacement is still digits.
 fn edit_from(
+    rt: &HostRuntime,
     digits: &[u8],
     line: usize,
     n: usize,
@@ -73,24 +82,25 @@ fn edit_from(
     s: usize,
     e: usize,
     given: &mut [u8],
-) -> usize {
+) -> io::Result<usize> {
     match fields::hex(digits, given) {
         Decoded::Bytes(count) => {
             let k = fields::at_most(count, given.len());
-            edit_text(line, n, image, buffer, table, s, e, &given[0..k])
+            edit_text(rt, line, n, image, buffer, table, s, e, &given[0..k])
         }
         Decoded::TooLong => {
-            answers::too_long(line);
-            n
+            answers::too_long(rt, line)?;
+            Ok(n)
         }
         Decoded::Wrong => {
-            answers::not_understood(line);
-            n
+            answers::not_understood(rt, line)?;
+            Ok(n)
         }
     }
 }
 
 pub fn edit(
+    rt: &HostRuntime,
     rest: &[u8],
     line: usize,
     n: usize,
@@ -98,39 +108,72 @@ pub fn edit(
     buffer: &mut [u8],
     table: &mut [u64],
     given: &mut [u8],
-) -> usize {
+) -> io::Result<usize> {
     let end = fields::second_end(rest);
     let next = fields::after(rest, end);
     match numbers::two_numbers(&rest[0..end]) {
-        Numbers::Are(s, e) => edit_from(&rest[next..], line, n, image, buffer, table, s, e, given),
+        Numbers::Are(s, e) => edit_from(
+            rt,
+            &rest[next..],
+            line,
+            n,
+            image,
+            buffer,
+            table,
+            s,
+            e,
+            given,
+        ),
         Numbers::None => {
-            answers::not_understood(line);
-            n
+            answers::not_understood(rt, line)?;
+            Ok(n)
         }
     }
 }
 
-fn read_text(line: usize, n: usize, image: &[u8], buffer: &[u8], table: &mut [u64])
+fn read_text(
+    rt: &HostRuntime,
+    line: usize,
+    n: usize,
+    image: &[u8],
+    buffer: &[u8],
+    table: &mut [u64],
+) -> io::Result<()>
     ensures { ReadsSheet image.now buffer.now n table.old table.new }
 {
     let answer = sheet::read::read_sheet(image, buffer, n, table);
-    answers::of_read(line, answer);
+    answers::of_read(rt, line, answer)
 }
 
-pub fn read(rest: &[u8], line: usize, n: usize, image: &[u8], buffer: &[u8], table: &mut [u64]) {
+pub fn read(
+    rt: &HostRuntime,
+    rest: &[u8],
+    line: usize,
+    n: usize,
+    image: &[u8],
+    buffer: &[u8],
+    table: &mut [u64],
+) -> io::Result<()> {
     if rest.len() != 0 {
-        answers::not_understood(line);
-        return;
+        return answers::not_understood(rt, line);
     }
-    read_text(line, n, image, buffer, table);
+    read_text(rt, line, n, image, buffer, table)
 }
 
-pub fn look_up(rest: &[u8], line: usize, n: usize, image: &[u8], buffer: &[u8], table: &[u64]) {
+pub fn look_up(
+    rt: &HostRuntime,
+    rest: &[u8],
+    line: usize,
+    n: usize,
+    image: &[u8],
+    buffer: &[u8],
+    table: &[u64],
+) -> io::Result<()> {
     match numbers::two_numbers(rest) {
         Numbers::Are(rule, position) => {
             let answer = sheet::look_up::look_up(image, buffer, n, table, rule, position);
-            answers::of_look_up(line, answer);
+            answers::of_look_up(rt, line, answer)
         }
-        Numbers::None => answers::not_understood(line),
+        Numbers::None => answers::not_understood(rt, line),
     }
 }

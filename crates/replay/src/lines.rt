@@ -3,6 +3,7 @@ use crate::numbers::Numbers;
 use crate::verbs::Verb;
 use crate::{answers, calls, listing, numbers, verbs};
 use fields::Decoded;
+use std::io;
 
 // How much of each buffer is lent to the next call, and the text's length.
 #[derive(Clone, Copy)]
@@ -24,49 +25,52 @@ pub fn first() -> Session {
 
 // The bytes go to `given` first, so that a line that is not understood leaves the image.
 fn image_line(
+    rt: &HostRuntime,
     rest: &[u8],
     line: usize,
     session: Session,
     image: &mut [u8],
     given: &mut [u8],
-) -> Session {
+) -> io::Result<Session> {
     let mut next = session;
     match fields::hex(rest, given) {
         Decoded::Bytes(count) => {
             let k = fields::at_most(fields::at_most(count, given.len()), image.len());
-            bytes::copy(&given[0..k], image);
+            image[0..k].copy_from_slice(&given[0..k]);
             next.image = k;
         }
-        Decoded::TooLong => answers::too_long(line),
-        Decoded::Wrong => answers::not_understood(line),
+        Decoded::TooLong => answers::too_long(rt, line)?,
+        Decoded::Wrong => answers::not_understood(rt, line)?,
     }
-    next
+    Ok(next)
 }
 
 fn lend_line(
+    rt: &HostRuntime,
     rest: &[u8],
     line: usize,
     session: Session,
     most_bytes: usize,
     most_words: usize,
-) -> Session {
+) -> io::Result<Session> {
     let mut next = session;
     match numbers::two_numbers(rest) {
         Numbers::Are(cap, words) => {
             if most_bytes < cap || most_words < words {
-                answers::too_much_lent(line);
+                answers::too_much_lent(rt, line)?;
             } else {
                 next.cap = cap;
                 next.words = words;
             }
         }
-        Numbers::None => answers::not_understood(line),
+        Numbers::None => answers::not_understood(rt, line)?,
     }
-    next
+    Ok(next)
 }
 
 // A call with what is lent to it; the text's length afterwards.
 fn call(
+    rt: &HostRuntime,
     verb: Verb,
     rest: &[u8],
     line: usize,
@@ -75,30 +79,31 @@ fn call(
     buffer: &mut [u8],
     table: &mut [u64],
     given: &mut [u8],
-) -> usize {
+) -> io::Result<usize> {
     match verb {
-        Verb::Open => calls::open(rest, line, n, image, buffer, table, given),
-        Verb::Edit => calls::edit(rest, line, n, image, buffer, table, given),
+        Verb::Open => calls::open(rt, rest, line, n, image, buffer, table, given),
+        Verb::Edit => calls::edit(rt, rest, line, n, image, buffer, table, given),
         Verb::Read => {
-            calls::read(rest, line, n, image, buffer, table);
-            n
+            calls::read(rt, rest, line, n, image, buffer, table)?;
+            Ok(n)
         }
         Verb::Look => {
-            calls::look_up(rest, line, n, image, buffer, table);
-            n
+            calls::look_up(rt, rest, line, n, image, buffer, table)?;
+            Ok(n)
         }
         Verb::List => {
-            listing::list(rest, line, n, image, buffer, table);
-            n
+            listing::list(rt, rest, line, n, image, buffer, table)?;
+            Ok(n)
         }
         _ => {
-            answers::not_understood(line);
-            n
+            answers::not_understood(rt, line)?;
+            Ok(n)
         }
     }
 }
 
 fn call_line(
+    rt: &HostRuntime,
     verb: Verb,
     rest: &[u8],
     line: usize,
@@ -107,12 +112,13 @@ fn call_line(
     buffer: &mut [u8],
     table: &mut [u64],
     given: &mut [u8],
-) -> Session {
+) -> io::Result<Session> {
     let mut next = session;
     let length = fields::at_most(session.image, image.len());
     let cap = fields::at_most(session.cap, buffer.len());
     let words = fields::at_most(session.words, table.len());
     let n = call(
+        rt,
         verb,
         rest,
         line,
@@ -121,13 +127,14 @@ fn call_line(
         &mut buffer[0..cap],
         &mut table[0..words],
         given,
-    );
+    )?;
     next.n = n;
-    next
+    Ok(next)
 }
 
 // The line of this number, without its newline.
 pub fn line(
+    rt: &HostRuntime,
     text: &[u8],
     line: usize,
     session: Session,
@@ -135,18 +142,18 @@ pub fn line(
     buffer: &mut [u8],
     table: &mut [u64],
     given: &mut [u8],
-) -> Session {
+) -> io::Result<Session> {
     let start = fields::after(text, fields::end_of(text));
     let rest = &text[start..];
     let verb = verbs::of_line(text);
     match verb {
-        Verb::Blank => session,
+        Verb::Blank => Ok(session),
         Verb::Comment => {
-            answers::comment(text);
-            session
+            answers::comment(rt, text)?;
+            Ok(session)
         }
-        Verb::Image => image_line(rest, line, session, image, given),
-        Verb::Lend => lend_line(rest, line, session, buffer.len(), table.len()),
-        _ => call_line(verb, rest, line, session, image, buffer, table, given),
+        Verb::Image => image_line(rt, rest, line, session, image, given),
+        Verb::Lend => lend_line(rt, rest, line, session, buffer.len(), table.len()),
+        _ => call_line(rt, verb, rest, line, session, image, buffer, table, given),
     }
 }

@@ -24,6 +24,10 @@
 // The text's length that a call is lent is the last one that an open or an edit answered, at first 0; buffer and table keep what calls
 // leave in them, also where another image or less of them is lent. A line that is none of these gets a message with its number, as
 // `9: not understood`, changes nothing, and the next line follows. An input of 262,144 bytes or more gets a message and no answer.
+#![tactic(auto)]
+
+ghost use Rattle.std.specs.Prelude.{◌≤◌, length, IfOk};
+
 mod answers;
 mod calls;
 mod lines;
@@ -31,18 +35,26 @@ mod listing;
 mod numbers;
 mod verbs;
 
-ghost use Rattle.std.specs.Prelude.{length};
-
 use lines::Session;
+use std::io;
+use std::io::Read;
 
-fn replay(input: &[u8], image: &mut [u8], buffer: &mut [u8], table: &mut [u64], given: &mut [u8]) {
+fn replay(
+    rt: &HostRuntime,
+    input: &[u8],
+    image: &mut [u8],
+    buffer: &mut [u8],
+    table: &mut [u64],
+    given: &mut [u8],
+) -> io::Result<()> {
     let mut session = lines::first();
     let mut number: usize = 0;
     let mut at: usize = 0;
     while at < input.len() {
-        let end = bytes::scan::find(input, at, input.len(), b'\n');
+        let end = fields::place_of(input, at, b'\n');
         number += 1;
         session = lines::line(
+            rt,
             &input[at..end],
             number,
             session,
@@ -50,26 +62,42 @@ fn replay(input: &[u8], image: &mut [u8], buffer: &mut [u8], table: &mut [u64], 
             buffer,
             table,
             given,
-        );
+        )?;
         at = end + 1;
     }
+    Ok(())
 }
 
 // Lends the replay its buffers.
-fn replay_over_buffers(input: &[u8]) {
+fn replay_over_buffers(rt: &HostRuntime, input: &[u8]) -> io::Result<()> {
     let mut image = [0u8; 65536];
     let mut buffer = [0u8; 65536];
     let mut table = [0u64; 131072];
     let mut given = [0u8; 65536];
-    replay(input, &mut image, &mut buffer, &mut table, &mut given);
+    replay(rt, input, &mut image, &mut buffer, &mut table, &mut given)
 }
 
-fn main() {
-    let mut input = [0u8; 262144];
-    let length = io::read_full(0, &mut input);
-    if length == 262144 {
-        answers::too_much_input();
-        return;
+// Reads until there is no more or no room is left, and answers how many bytes there were.
+fn read_full(rt: &HostRuntime, input: &mut [u8]) -> io::Result<usize>
+    ensures { IfOk result (λ length'. length' ≤ length input.old) }
+{
+    let mut reader = rt.reader();
+    let mut length: usize = 0;
+    for _ in 0..u64::MAX {
+        let count = reader.read(&mut input[length..])?;
+        if count == 0 {
+            break;
+        }
+        length += count;
     }
-    replay_over_buffers(&input[0..length]);
+    Ok(length)
+}
+
+fn main(rt: HostRuntime) -> io::Result<()> {
+    let mut input = [0u8; 262144];
+    let length = read_full(&rt, &mut input)?;
+    if length == 262144 {
+        return answers::too_much_input(&rt);
+    }
+    replay_over_buffers(&rt, &input[0..length])
 }

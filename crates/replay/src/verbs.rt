@@ -16,25 +16,25 @@ pub enum Verb {
 
 // The verb that a first field names.
 fn named(field: &[u8]) -> Verb {
-    if check::same(field, b"image") {
+    if field == b"image".as_slice() {
         return Verb::Image;
     }
-    if check::same(field, b"lend") {
+    if field == b"lend".as_slice() {
         return Verb::Lend;
     }
-    if check::same(field, b"open") {
+    if field == b"open".as_slice() {
         return Verb::Open;
     }
-    if check::same(field, b"edit") {
+    if field == b"edit".as_slice() {
         return Verb::Edit;
     }
-    if check::same(field, b"read") {
+    if field == b"read".as_slice() {
         return Verb::Read;
     }
-    if check::same(field, b"look") {
+    if field == b"look".as_slice() {
         return Verb::Look;
     }
-    if check::same(field, b"list") {
+    if field == b"list".as_slice() {
         return Verb::List;
     }
     Verb::Unknown

@@ -3,7 +3,7 @@
 --     rows_inside    the rows of a subject at a position of the text
 --     start_rows     the rows of the start pair
 --     start_fields   the words of these rows have their fields, and zero bits between rule and depth
-use Prim.Native.Nat.{ℕ, ◌+◌, ◌≤◌, ◌<◌, ◌^◌}
+use Prim.Native.Nat.{ℕ, ◌+◌, ◌≤◌, ◌<◌}
 use native.Mathlib.Omega.{arith}
 use mathlib.Core.Path.{◌≡◌, refl, ap, ◌∙◌}
 use mathlib.Core.Bool.{Bool, true, false}

@@ -1,4 +1,6 @@
 // The memo table in its lent words, the first rules × (cap + 1) of them.
+#![tactic(auto)]
+
 ghost use Rattle.std.specs.Prelude.{◌≡◌};
 ghost use Rattle.editing.specs.Text.{EditFits};
 ghost use Rattle.editing.specs.Table.{TableLent, cleared_table, words_after, table_after, held_in};

@@ -1,4 +1,6 @@
 // The terminals: what kinds 1 and 2 do at a position, as the word of the evaluation.
+#![tactic(auto)]
+
 pub mod characters;
 
 ghost use Rattle.std.specs.Prelude.{◌<◌, ◌≡◌, length};

@@ -1,4 +1,6 @@
 // The text in its lent buffer: what an opening and an edit store there.
+#![tactic(auto)]
+
 ghost use Rattle.std.specs.Prelude.{◌≤◌, ◌≡◌, length};
 ghost use Rattle.editing.specs.Text.{EditFits, new_length, text_after, opened};
 

@@ -1,4 +1,6 @@
 // One word of the memo table in an edit.
+#![tactic(auto)]
+
 ghost use Rattle.std.specs.Prelude.{◌≤◌, ◌<◌, ◌≡◌, cond};
 ghost use Rattle.editing.specs.Held.{held_bit, only_held, kept_word};
 ghost use Rattle.records.specs.Words.{is_held};

@@ -2,7 +2,6 @@ use native.Mathlib.Omega.{arith}
 use mathlib.Core.Path.{ap}
 use mir.Val.{bool_byte}
 use Rattle.records.specs.Words.{word_of}
-use borrow.Author.Rules.{rules}
 use Rattle.answers.proofs.answer.Goals as goal
 
 pub returns-then-matched : goal.returns-then-matched

@@ -1,7 +1,6 @@
 use Rattle.records.specs.Words.{value_of, matched_of}
 use mathlib.Core.Bool.{true, false}
 use mathlib.Core.Path.{◌≡◌, sym, ◌∙◌}
-use borrow.Author.Rules.{rules}
 use Rattle.answers.proofs.in_sequence.Goals as goal
 
 pub returns-then-matched_of : goal.returns-then-matched_of

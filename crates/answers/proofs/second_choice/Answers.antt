@@ -1,5 +1,4 @@
 use Rattle.records.specs.Words.{value_of}
-use borrow.Author.Rules.{rules}
 use Rattle.answers.proofs.second_choice.Goals as goal
 
 pub returns : goal.returns

@@ -1,9 +1,8 @@
-use Prim.Native.Nat.{◌≤◌, ◌-◌, ◌+◌}
+use Prim.Native.Nat.{◌+◌}
 use native.Mathlib.Omega.{arith}
 use mathlib.Core.Path.{refl}
 use Rattle.buffers.proofs.Fill.{empty}
 use Rattle.buffers.specs.Filled.{at}
-use Rattle.back.specs.Back.{Carried}
 use Rattle.back.proofs.Turns.{carried_down, carried_all}
 use Rattle.editing.proofs.Held.{held_most}
 use Rattle.back.proofs.carry_down.Goals as goal

@@ -1,11 +1,5 @@
-use Prim.Native.Nat.{◌≤◌, ◌-◌, ◌+◌}
-use native.Mathlib.Omega.{arith}
-use mathlib.Core.Path.{refl}
-use Rattle.buffers.proofs.Fill.{empty}
-use Rattle.buffers.specs.Filled.{at}
+use Prim.Native.Nat.{◌≤◌, ◌-◌}
 use Rattle.back.specs.Back.{Carried}
-use Rattle.back.proofs.Turns.{carried_down, carried_all}
-use Rattle.editing.proofs.Held.{held_most}
 use Rattle.back.proofs.carry_down.Given as goal
 
 abbrev pub invariant-loop-i : goal.invariant-loop-i

@@ -1,9 +1,5 @@
-use Prim.Native.Nat.{ℕ, ◌≤◌, ◌-◌, ◌+◌}
-use native.Mathlib.Omega.{arith}
-use mathlib.Core.Path.{◌≡◌, sym, subst}
-use Rattle.buffers.specs.Filled.{at}
-use Rattle.back.proofs.Turns.{Left, none_left, carried_up, all_carried}
-use Rattle.editing.proofs.Held.{held_most}
+use Prim.Native.Nat.{◌≤◌}
+use Rattle.back.proofs.Turns.{Left}
 use Rattle.back.proofs.carry_up.Given as goal
 
 abbrev pub invariant-loop-i : goal.invariant-loop-i

@@ -1,9 +1,7 @@
-use Prim.Native.Nat.{◌≤◌, ◌-◌}
 use native.Mathlib.Omega.{arith}
 use mathlib.Core.Path.{refl}
 use Rattle.buffers.proofs.Fill.{none}
 use Rattle.buffers.specs.Filled.{at}
-use Rattle.back.specs.Back.{Put}
 use Rattle.back.proofs.Turns.{put_over, put_all}
 use Rattle.editing.proofs.Held.{held_most}
 use Rattle.back.proofs.put_row.Goals as goal

@@ -1,10 +1,6 @@
-use Prim.Native.Nat.{◌≤◌, ◌-◌}
 use native.Mathlib.Omega.{arith}
-use mathlib.Core.Path.{◌≡◌, refl}
-use lib.ListN.{length}
+use mathlib.Core.Path.{refl}
 use Rattle.buffers.proofs.Fill.{none, up}
-use Rattle.buffers.specs.Filled.{Filled, at}
-use Rattle.editing.specs.Held.{kept_word}
 use Rattle.back.proofs.staying_row.Goals as goal
 
 -- `staying_row` meets its contract: the first words of the row are those that stay. Assumes nothing.

@@ -1,8 +1,6 @@
 use Prim.Native.Nat.{◌≤◌, ◌-◌}
-use native.Mathlib.Omega.{arith}
-use mathlib.Core.Path.{◌≡◌, refl}
+use mathlib.Core.Path.{◌≡◌}
 use lib.ListN.{length}
-use Rattle.buffers.proofs.Fill.{none, up}
 use Rattle.buffers.specs.Filled.{Filled, at}
 use Rattle.editing.specs.Held.{kept_word}
 use Rattle.back.proofs.staying_row.Given as goal

@@ -1,20 +1,19 @@
-use Rattle.packrat.proofs.Rules.{was_possible, was_impossible, rule_impossible, rule_too_deep, rule_met, rule_refused, rule_stored, node_too_deep, node_goes, word_goes, call_goes, past_7}
+use Rattle.packrat.proofs.Rules.{was_possible, was_impossible, rule_impossible, rule_too_deep, rule_met, rule_refused, rule_stored, node_too_deep, node_goes, word_goes, call_goes}
 use Rattle.evaluator.proofs.Terminals.{terminal_goes, first_any, first_range}
 use Rattle.packrat.proofs.LoadedRuns.{word_is}
-use Rattle.packrat.proofs.Stars.{Rounds, rounds_start, round_refused, round_still, round_fails, round_goes, round_bounds}
+use Rattle.packrat.proofs.Stars.{rounds_start, round_refused, round_still, round_fails, round_goes, round_bounds}
 use Rattle.packrat.proofs.Runs.{not_refused, not_answered, call_refused, call_answered, nesting_allowed, says_itself, length_within}
 use Rattle.packrat.proofs.Runs.{choice_refused, choice_first, choice_second_refused, choice_second}
 use Rattle.packrat.proofs.Runs.{sequence_refused, sequence_failed, sequence_second_refused, joinable, sequence_both}
 use Rattle.packrat.proofs.Gives.{was_refused, gives_value, gives_refusal}
-use Rattle.packrat.specs.Model.{pair_m, kind_m, rounds_m}
+use Rattle.packrat.specs.Model.{pair_m, kind_m}
 use Rattle.packrat.specs.Loaded.{rules_in, node_w}
 use Rattle.records.specs.Words.{word_of, possible, record_of, record_word}
 use Rattle.records.specs.declared.Record.{Record}
 use Rattle.evaluation.proofs.Shape.{empty_within}
 use Rattle.grammar.specs.Evaluates.{empty_here}
 use Rattle.grammar.proofs.Nodes.{is_empty, is_any, is_range, is_sequence, is_choice, is_star, is_not, is_call, is_unlawful}
-use Rattle.std.proofs.Common.{◌≡◌, ℕ, suc, ◌+◌, ◌-◌, ◌*◌, ◌<◌, length, get_or, sym, refl, ap, ◌∙◌, arith, rules}
-use borrow.Author.Tests.{not-true, not-false}
+use Rattle.std.proofs.Common.{◌<◌, length, get_or, sym, refl, ap, ◌∙◌, arith}
 use Rattle.terminals.proofs.CharacterWords.{ascii_word}
 use Rattle.evaluator.proofs.+eval.Goals as goal
 

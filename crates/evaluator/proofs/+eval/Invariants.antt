@@ -5,7 +5,7 @@
 use Rattle.packrat.proofs.Stars.{Rounds}
 use Rattle.packrat.specs.Model.{rounds_m}
 use Rattle.packrat.specs.Loaded.{node_w}
-use Rattle.std.proofs.Common.{◌≡◌, ℕ, suc, ◌+◌, ◌-◌, ◌*◌, length}
+use Rattle.std.proofs.Common.{◌≡◌, suc, ◌+◌, ◌-◌, ◌*◌, length}
 use Rattle.evaluator.proofs.+eval.Given as goal
 
 abbrev pub decreases-eval_call : goal.decreases-eval_call

@@ -1,13 +1,8 @@
 use Prim.Native.Nat.{◌≤◌, ◌-◌}
-use native.Mathlib.Omega.{arith}
-use mathlib.Core.Path.{refl, ap, ◌∙◌}
 use lib.ListN.{length}
-use Rattle.buffers.proofs.Fill.{none}
 use Rattle.buffers.specs.Filled.{at}
 use Rattle.editing.specs.Held.{kept_word}
 use Rattle.words.specs.Counted.{Counted}
-use Rattle.front.proofs.Turns.{in_place, counted_all}
-use Rattle.editing.proofs.Held.{held_most}
 use Rattle.front.proofs.keep_row.Given as goal
 
 abbrev pub invariant-loop-i : goal.invariant-loop-i

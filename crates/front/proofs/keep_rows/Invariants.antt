@@ -1,13 +1,6 @@
-use Prim.Native.Nat.{ℕ, ◌≤◌, ◌-◌, ◌+◌, ◌*◌}
-use native.Mathlib.Omega.{arith}
-use mathlib.Core.Path.{◌≡◌, refl, ap}
-use Rattle.buffers.proofs.Parts.{mid_long}
-use Rattle.buffers.proofs.Fill.{empty}
+use Prim.Native.Nat.{◌≤◌, ◌-◌, ◌*◌}
 use Rattle.words.specs.Counted.{Counted}
 use Rattle.front.specs.Front.{kept_at}
-use Rattle.records.proofs.Slots.{row_room}
-use Rattle.front.proofs.Rows.{row_done, counts_fit}
-use Rattle.front.proofs.Turns.{counted_all}
 use Rattle.front.proofs.keep_rows.Given as goal
 
 abbrev pub invariant-loop-i : goal.invariant-loop-i

@@ -1,10 +1,10 @@
-use Prim.Native.Nat.{ℕ, ◌≤◌, ◌<◌, ◌-◌}
+use Prim.Native.Nat.{ℕ, ◌<◌}
 use native.Mathlib.Omega.{arith}
 use mathlib.Core.Path.{◌≡◌, sym, ap, ◌∙◌}
-use lib.ListN.{length, get_or, length-set, length-replicate}
+use lib.ListN.{length, length-set, length-replicate}
 use Rattle.grammar.specs.Image.{nodes}
 use Rattle.image.specs.Linked.{linked_from}
-use Rattle.loaded.proofs.LoadedWords.{linked_loaded, LoadedTo, none_loaded, next_loaded, loaded}
+use Rattle.loaded.proofs.LoadedWords.{linked_loaded, none_loaded, next_loaded, loaded}
 use Rattle.loaded.proofs.load.Goals as goal
 
 pub loop-n-init : goal.loop-n-init

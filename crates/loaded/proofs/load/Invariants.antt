@@ -1,10 +1,7 @@
-use Prim.Native.Nat.{ℕ, ◌≤◌, ◌<◌, ◌-◌}
-use native.Mathlib.Omega.{arith}
-use mathlib.Core.Path.{◌≡◌, sym, ap, ◌∙◌}
-use lib.ListN.{length, get_or, length-set, length-replicate}
-use Rattle.grammar.specs.Image.{nodes}
-use Rattle.image.specs.Linked.{linked_from}
-use Rattle.loaded.proofs.LoadedWords.{linked_loaded, LoadedTo, none_loaded, next_loaded, loaded}
+use Prim.Native.Nat.{ℕ, ◌≤◌, ◌-◌}
+use mathlib.Core.Path.{◌≡◌}
+use lib.ListN.{length, get_or}
+use Rattle.loaded.proofs.LoadedWords.{LoadedTo}
 use Rattle.loaded.proofs.load.Given as goal
 
 abbrev pub invariant-loop-n : goal.invariant-loop-n

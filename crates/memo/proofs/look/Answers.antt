@@ -1,7 +1,6 @@
 use Prim.Native.Nat.{ℕ}
 use lib.ListN.{get_or, get_or-eq_default}
 use mathlib.Core.Path.{sym, ap, ◌∙◌}
-use borrow.Author.Rules.{rules}
 use Rattle.memo.proofs.look.Goals as goal
 
 pub returns-then-slot-table : goal.returns-then-slot-table

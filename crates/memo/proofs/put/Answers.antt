@@ -2,7 +2,6 @@ use Prim.Native.Nat.{ℕ}
 use lib.ListN.{set}
 use lib.Seq.{set_out}
 use mathlib.Core.Path.{sym, ap, ◌∙◌}
-use borrow.Author.Rules.{rules}
 use Rattle.memo.proofs.put.Goals as goal
 
 pub returns-then-slot-table : goal.returns-then-slot-table

@@ -1,6 +1,5 @@
 use Rattle.records.specs.Words.{length_of}
 use native.Mathlib.Omega.{arith}
-use borrow.Author.Rules.{rules}
 use Rattle.records.proofs.length_of.Goals as goal
 
 pub returns : goal.returns

@@ -2,13 +2,9 @@ use Rattle.grammar.specs.Image.{nodes}
 use mathlib.Core.Bool.{true≢false}
 use mathlib.Core.Path.{sym, ◌∙◌}
 use Rattle.lawful.proofs.Told.{so, not_so}
-use borrow.Author.Tests.{not-false, not-true}
 use borrow.Author.Count.{below_none, below_more}
 use native.Mathlib.Omega.{arith}
-use lib.ListN.{get_or}
-use mathlib.Core.Bool.{true, false}
-use mathlib.Core.Path.{◌≡◌}
-use Prim.Native.Nat.{ℕ, ◌≤◌, ◌<◌, ◌-◌}
+use Prim.Native.Nat.{◌<◌}
 use borrow.Author.Rules.{rules}
 use Rattle.checker.proofs.formed.all_formed.Goals as goal
 

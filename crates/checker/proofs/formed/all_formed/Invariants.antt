@@ -1,10 +1,3 @@
-use Rattle.grammar.specs.Image.{nodes}
-use mathlib.Core.Bool.{true≢false}
-use mathlib.Core.Path.{sym, ◌∙◌}
-use Rattle.lawful.proofs.Told.{so, not_so}
-use borrow.Author.Tests.{not-false, not-true}
-use borrow.Author.Count.{below_none, below_more}
-use native.Mathlib.Omega.{arith}
 use lib.ListN.{get_or}
 use mathlib.Core.Bool.{true, false}
 use mathlib.Core.Path.{◌≡◌}

@@ -1,17 +1,13 @@
 use Rattle.rounds.specs.Visits.{join_at}
-use Rattle.rounds.specs.Rounds.{no_marks, SoundMarks}
 use Rattle.grammar.specs.Image.{nodes}
-use borrow.Author.Tests.{not-true, not-false}
-use mathlib.Core.Logic.{⊎_elim}
 use mathlib.Core.Path.{◌≡◌, refl, sym, ap, ◌∙◌}
-use Rattle.rounds.proofs.FormedRounds.{marks, marks_start, marked, marked_heavier, marked_visit, unqualified_visit, marked_before, marks_bound, round_marks, formed_nodes_left}
-use Rattle.rounds.proofs.Turns.{Reached, reached_none, reached_more, Turned, turn_none, turn_write, turn_keep, turn_made, nothing_more}
+use Rattle.rounds.proofs.FormedRounds.{marks_start, marked, marked_heavier, marked_visit, unqualified_visit, marked_before, marks_bound, round_marks, formed_nodes_left}
+use Rattle.rounds.proofs.Turns.{reached_none, reached_more, turn_none, turn_write, turn_keep, turn_made, nothing_more}
 use Rattle.rounds.proofs.Orders.{array_node}
 use native.Mathlib.Omega.{arith}
 use lib.ListN.{length, get_or, take}
 use lib.Seq.{get_or-take}
-use mathlib.Core.Bool.{false}
-use Prim.Native.Nat.{◌≤◌, ◌<◌, ◌-◌}
+use Prim.Native.Nat.{◌<◌}
 use borrow.Author.Rules.{rules}
 use Rattle.checker.proofs.formed.formed_nodes.Goals as goal
 use Rattle.checker.proofs.formed.formed_nodes.Goals.{then-not-old+then-node_formed, then-not-old+else-node_formed, else-not-old}
@@ -57,18 +53,18 @@ loop-i-preserved c =
     let at : n ≡ get_or (take (nodes img) array) i 0 = c.visited-n.ensures ∙ sym (get_or-take (nodes img) array i 0 i-in) in (
       search rules,
       elim c.if-not-old.branch [
-        then-not-old+then-node_formed w ↦
-          rw (w.formed-is, w.added-is)
-          (turn_write t in_order
-          (marked_visit img known formed n (cc) ∙ ap (join_at img known formed) at)
-          (marked img known formed c.requires.0.words c.requires.2 t.good n in-nodes in_list (cc))
-          (marked_heavier img known formed c.requires.0.words c.requires.2 t.good n in-nodes in_list w.if-not-old.true))
+        | then-not-old+then-node_formed w ↦
+            rw (w.formed-is, w.added-is)
+            (turn_write t in_order
+            (marked_visit img known formed n (cc) ∙ ap (join_at img known formed) at)
+            (marked img known formed c.requires.0.words c.requires.2 t.good n in-nodes in_list (cc))
+            (marked_heavier img known formed c.requires.0.words c.requires.2 t.good n in-nodes in_list w.if-not-old.true))
         | then-not-old+else-node_formed w ↦
-          rw (w.formed-is, w.added-is)
-          (turn_keep t in_order (ap (join_at img known formed) (sym at) ∙ unqualified_visit img known formed n (cc)))
+            rw (w.formed-is, w.added-is)
+            (turn_keep t in_order (ap (join_at img known formed) (sym at) ∙ unqualified_visit img known formed n (cc)))
         | else-not-old w ↦
-          rw (w.formed-is, w.added-is)
-          (turn_keep t in_order (ap (join_at img known formed) (sym at) ∙ marked_before img known formed n w.if-not-old.false))
+            rw (w.formed-is, w.added-is)
+            (turn_keep t in_order (ap (join_at img known formed) (sym at) ∙ marked_before img known formed n w.if-not-old.false))
       ],
     )
 

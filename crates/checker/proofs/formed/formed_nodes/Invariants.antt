@@ -1,17 +1,10 @@
 use Rattle.rounds.specs.Visits.{join_at}
 use Rattle.rounds.specs.Rounds.{no_marks, SoundMarks}
 use Rattle.grammar.specs.Image.{nodes}
-use borrow.Author.Tests.{not-true, not-false}
-use mathlib.Core.Logic.{⊎_elim}
-use mathlib.Core.Path.{◌≡◌, refl, sym, ap, ◌∙◌}
-use Rattle.rounds.proofs.FormedRounds.{marks, marks_start, marked, marked_heavier, marked_visit, unqualified_visit, marked_before, marks_bound, round_marks, formed_nodes_left}
-use Rattle.rounds.proofs.Turns.{Reached, reached_none, reached_more, Turned, turn_none, turn_write, turn_keep, turn_made, nothing_more}
-use Rattle.rounds.proofs.Orders.{array_node}
-use native.Mathlib.Omega.{arith}
-use lib.ListN.{length, get_or, take}
-use lib.Seq.{get_or-take}
-use mathlib.Core.Bool.{false}
-use Prim.Native.Nat.{◌≤◌, ◌<◌, ◌-◌}
+use Rattle.rounds.proofs.FormedRounds.{marks}
+use Rattle.rounds.proofs.Turns.{Reached, Turned}
+use lib.ListN.{take}
+use Prim.Native.Nat.{◌≤◌, ◌-◌}
 use Rattle.checker.proofs.formed.formed_nodes.Given as goal
 
 abbrev pub invariant-loop-i : goal.invariant-loop-i

@@ -2,9 +2,9 @@ use mathlib.Core.Path.{ap}
 use Rattle.rounds.proofs.Orders.{descending_array}
 use Rattle.grammar.proofs.Writes.{next_written}
 use native.Mathlib.Omega.{arith}
-use lib.ListN.{length, get_or, length-set}
-use mathlib.Core.Path.{◌≡◌, refl, ◌∙◌}
-use Prim.Native.Nat.{ℕ, ◌≤◌, ◌<◌, ◌-◌}
+use lib.ListN.{length, length-set}
+use mathlib.Core.Path.{refl, ◌∙◌}
+use Prim.Native.Nat.{ℕ, ◌<◌, ◌-◌}
 use borrow.Author.Rules.{rules}
 use Rattle.checker.proofs.order.round_order.Goals as goal
 

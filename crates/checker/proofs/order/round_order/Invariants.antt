@@ -1,9 +1,5 @@
-use mathlib.Core.Path.{ap}
-use Rattle.rounds.proofs.Orders.{descending_array}
-use Rattle.grammar.proofs.Writes.{next_written}
-use native.Mathlib.Omega.{arith}
-use lib.ListN.{length, get_or, length-set}
-use mathlib.Core.Path.{◌≡◌, refl, ◌∙◌}
+use lib.ListN.{length, get_or}
+use mathlib.Core.Path.{◌≡◌}
 use Prim.Native.Nat.{ℕ, ◌≤◌, ◌<◌, ◌-◌}
 use Rattle.checker.proofs.order.round_order.Given as goal
 

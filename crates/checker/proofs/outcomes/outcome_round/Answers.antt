@@ -1,16 +1,14 @@
 use Rattle.rounds.specs.Visits.{gathered, gather_at}
 use Rattle.rounds.specs.Sets.{union}
-use Rattle.rounds.specs.Rounds.{Sound}
 use Rattle.grammar.specs.Image.{node, nodes}
-use mathlib.Core.Logic.{⊎_elim}
 use mathlib.Core.Path.{◌≡◌, sym, ap, ◌∙◌}
-use Rattle.rounds.proofs.OutcomeRounds.{weight, stored, stored_heavier, stored_visit, kept_visit, full_visit}
-use Rattle.rounds.proofs.Turns.{Turned, turn_none, turn_write, turn_keep, turn_made}
+use Rattle.rounds.proofs.OutcomeRounds.{stored, stored_heavier, stored_visit, kept_visit, full_visit}
+use Rattle.rounds.proofs.Turns.{turn_none, turn_write, turn_keep, turn_made}
 use Rattle.rounds.proofs.Orders.{array_node}
 use native.Mathlib.Omega.{arith}
 use lib.ListN.{length, get_or, take}
 use lib.Seq.{get_or-take}
-use Prim.Native.Nat.{◌≤◌, ◌<◌, ◌-◌}
+use Prim.Native.Nat.{◌<◌}
 use borrow.Author.Rules.{rules}
 use Rattle.checker.proofs.outcomes.outcome_round.Goals as goal
 use Rattle.checker.proofs.outcomes.outcome_round.Goals.{then-old-ne7+then-new-old, then-old-ne7+else-new-old, else-old-ne7}
@@ -53,21 +51,21 @@ loop-i-preserved c =
     let at : n ≡ get_or (take (nodes img) array) i 0 = c.visited-n.ensures ∙ sym (get_or-take (nodes img) array i 0 i-in) in (
       search rules,
       elim c.if-old-ne7.branch [
-        then-old-ne7+then-new-old w ↦
-          let v = w.join-new.result in
-          let gained : v ≡ union (get_or known n 0) (gathered img known (node img n)) = cc in
-          rw (w.known-is, w.added-is)
-          (turn_write t in_order
-          (stored_visit img known t.good n v in-nodes small gained ∙ ap (gather_at img known) at)
-          (stored img known t.good n v in-nodes small gained)
-          (stored_heavier img known t.good n v in-nodes small gained w.if-new-old.true))
+        | then-old-ne7+then-new-old w ↦
+            let v = w.join-new.result in
+            let gained : v ≡ union (get_or known n 0) (gathered img known (node img n)) = cc in
+            rw (w.known-is, w.added-is)
+            (turn_write t in_order
+            (stored_visit img known t.good n v in-nodes small gained ∙ ap (gather_at img known) at)
+            (stored img known t.good n v in-nodes small gained)
+            (stored_heavier img known t.good n v in-nodes small gained w.if-new-old.true))
         | then-old-ne7+else-new-old w ↦
-          let v = w.join-new.result in
-          let gained : v ≡ union (get_or known n 0) (gathered img known (node img n)) = cc in
-          rw (w.known-is, w.added-is)
-          (turn_keep t in_order (ap (gather_at img known) (sym at) ∙ kept_visit img known t.good n v in-nodes small gained w.if-new-old.false))
+            let v = w.join-new.result in
+            let gained : v ≡ union (get_or known n 0) (gathered img known (node img n)) = cc in
+            rw (w.known-is, w.added-is)
+            (turn_keep t in_order (ap (gather_at img known) (sym at) ∙ kept_visit img known t.good n v in-nodes small gained w.if-new-old.false))
         | else-old-ne7 w ↦
-          rw (w.known-is, w.added-is) (turn_keep t in_order (ap (gather_at img known) (sym at) ∙ full_visit img known n w.if-old-ne7.false))
+            rw (w.known-is, w.added-is) (turn_keep t in_order (ap (gather_at img known) (sym at) ∙ full_visit img known n w.if-old-ne7.false))
       ],
     )
 

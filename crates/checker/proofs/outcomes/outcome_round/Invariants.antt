@@ -1,16 +1,10 @@
-use Rattle.rounds.specs.Visits.{gathered, gather_at}
-use Rattle.rounds.specs.Sets.{union}
+use Rattle.rounds.specs.Visits.{gather_at}
 use Rattle.rounds.specs.Rounds.{Sound}
-use Rattle.grammar.specs.Image.{node, nodes}
-use mathlib.Core.Logic.{⊎_elim}
-use mathlib.Core.Path.{◌≡◌, sym, ap, ◌∙◌}
-use Rattle.rounds.proofs.OutcomeRounds.{weight, stored, stored_heavier, stored_visit, kept_visit, full_visit}
-use Rattle.rounds.proofs.Turns.{Turned, turn_none, turn_write, turn_keep, turn_made}
-use Rattle.rounds.proofs.Orders.{array_node}
-use native.Mathlib.Omega.{arith}
-use lib.ListN.{length, get_or, take}
-use lib.Seq.{get_or-take}
-use Prim.Native.Nat.{◌≤◌, ◌<◌, ◌-◌}
+use Rattle.grammar.specs.Image.{nodes}
+use Rattle.rounds.proofs.OutcomeRounds.{weight}
+use Rattle.rounds.proofs.Turns.{Turned}
+use lib.ListN.{take}
+use Prim.Native.Nat.{◌≤◌, ◌-◌}
 use Rattle.checker.proofs.outcomes.outcome_round.Given as goal
 
 abbrev pub invariant-loop-i : goal.invariant-loop-i

@@ -1,11 +1,8 @@
 use Rattle.rounds.specs.Visits.{gather_at}
 use Rattle.rounds.specs.Rounds.{no_outcomes, Sound}
 use Rattle.grammar.specs.Image.{nodes}
-use borrow.Author.Tests.{not-true, not-false}
-use mathlib.Core.Path.{refl}
-use Rattle.rounds.proofs.OutcomeRounds.{weight, sound_start, weight_bound, round_adds, round_sound, outcome_sets_left}
-use Rattle.rounds.proofs.Turns.{Reached, reached_none, reached_more, nothing_more}
-use native.Mathlib.Omega.{arith}
+use Rattle.rounds.proofs.OutcomeRounds.{weight}
+use Rattle.rounds.proofs.Turns.{Reached}
 use lib.ListN.{take}
 use Prim.Native.Nat.{◌*◌, ◌-◌}
 use Rattle.checker.proofs.outcomes.outcome_sets.Given as goal

@@ -1,7 +1,4 @@
-use Rattle.lawful.proofs.Told.{so, not_so, said_no, said_yes}
 use Rattle.rounds.specs.Rounds.{StarConsumes}
-use borrow.Author.Count.{below_none, below_more}
-use native.Mathlib.Omega.{arith}
 use Prim.Native.Nat.{ℕ, ◌≤◌, ◌<◌, ◌-◌}
 use Rattle.checker.proofs.outcomes.stars_consume.Given as goal
 

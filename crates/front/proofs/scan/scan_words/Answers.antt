@@ -1,8 +1,6 @@
-use Prim.Native.Nat.{◌≤◌, ◌-◌}
 use native.Mathlib.Omega.{arith}
-use lib.ListN.{length}
 use Rattle.buffers.specs.Filled.{at}
-use Rattle.front.proofs.ScanLaw.{Seen, nothing_seen, seen_more, told_nothing, told}
+use Rattle.front.proofs.ScanLaw.{nothing_seen, seen_more, told_nothing, told}
 use Rattle.editing.proofs.Held.{held_most}
 use Rattle.front.proofs.scan.scan_words.Goals as goal
 

@@ -1,9 +1,6 @@
 use Prim.Native.Nat.{◌≤◌, ◌-◌}
-use native.Mathlib.Omega.{arith}
 use lib.ListN.{length}
-use Rattle.buffers.specs.Filled.{at}
-use Rattle.front.proofs.ScanLaw.{Seen, nothing_seen, seen_more, told_nothing, told}
-use Rattle.editing.proofs.Held.{held_most}
+use Rattle.front.proofs.ScanLaw.{Seen}
 use Rattle.front.proofs.scan.scan_words.Given as goal
 
 abbrev pub invariant-loop-i : goal.invariant-loop-i

@@ -2,9 +2,7 @@ use Rattle.lawful.proofs.Tallies.{once_of_count, count_of_once}
 use Rattle.lawful.proofs.Told.{so, not_so}
 use borrow.Author.Count.{below_none, below_more}
 use native.Mathlib.Omega.{arith}
-use lib.ListN.{get_or}
-use mathlib.Core.Path.{◌≡◌, refl}
-use Prim.Native.Nat.{ℕ, ◌≤◌, ◌<◌, ◌-◌}
+use mathlib.Core.Path.{refl}
 use borrow.Author.Rules.{rules}
 use Rattle.lawful.proofs.once.each_node_once.Goals as goal
 

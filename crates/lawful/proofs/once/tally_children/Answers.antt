@@ -2,9 +2,7 @@ use Rattle.grammar.specs.Image.{nodes}
 use mathlib.Core.Path.{◌≡◌}
 use Rattle.lawful.proofs.Tallies.{tallied_none, tallied_more, children_step}
 use Rattle.grammar.specs.Questions.{children_below}
-use Rattle.lawful.specs.Tally.{Tallied}
 use native.Mathlib.Omega.{arith}
-use Prim.Native.Nat.{◌≤◌, ◌-◌}
 use borrow.Author.Rules.{rules}
 use Rattle.lawful.proofs.once.tally_children.Goals as goal
 

@@ -1,9 +1,5 @@
-use Rattle.grammar.specs.Image.{nodes}
-use mathlib.Core.Path.{◌≡◌}
-use Rattle.lawful.proofs.Tallies.{tallied_none, tallied_more, children_step}
 use Rattle.grammar.specs.Questions.{children_below}
 use Rattle.lawful.specs.Tally.{Tallied}
-use native.Mathlib.Omega.{arith}
 use Prim.Native.Nat.{◌≤◌, ◌-◌}
 use Rattle.lawful.proofs.once.tally_children.Given as goal
 

@@ -2,10 +2,8 @@ use Rattle.grammar.specs.Image.{rules}
 use Rattle.lawful.proofs.InRange.{root_below}
 use Rattle.lawful.proofs.Tallies.{tallied_none, tallied_more, roots_step}
 use Rattle.grammar.specs.Questions.{roots}
-use Rattle.lawful.specs.Tally.{Tallied}
 use mathlib.Core.Path.{◌≡◌}
 use native.Mathlib.Omega.{arith}
-use Prim.Native.Nat.{◌≤◌, ◌-◌}
 use Rattle.lawful.proofs.once.tally_roots.Goals as goal
 
 pub loop-r-init : goal.loop-r-init

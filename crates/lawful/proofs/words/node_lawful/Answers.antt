@@ -1,4 +1,3 @@
-use Rattle.lawful.specs.Words.{ZeroBits}
 use Rattle.lawful.proofs.Told.{not_so, said_no, said_yes, told_of}
 use native.Mathlib.Omega.{arith}
 use borrow.Author.Rules.{rules}

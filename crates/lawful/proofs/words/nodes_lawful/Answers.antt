@@ -1,8 +1,6 @@
 use Rattle.lawful.proofs.Told.{so, not_so, said_no, said_yes}
-use Rattle.grammar.specs.Questions.{LawfulNode}
 use borrow.Author.Count.{below_none, below_more}
 use native.Mathlib.Omega.{arith}
-use Prim.Native.Nat.{ℕ, ◌≤◌, ◌<◌, ◌-◌}
 use borrow.Author.Rules.{rules}
 use Rattle.lawful.proofs.words.nodes_lawful.Goals as goal
 

@@ -1,7 +1,4 @@
-use Rattle.lawful.proofs.Told.{so, not_so, said_no, said_yes}
 use Rattle.grammar.specs.Questions.{LawfulNode}
-use borrow.Author.Count.{below_none, below_more}
-use native.Mathlib.Omega.{arith}
 use Prim.Native.Nat.{ℕ, ◌≤◌, ◌<◌, ◌-◌}
 use Rattle.lawful.proofs.words.nodes_lawful.Given as goal
 

@@ -4,7 +4,6 @@ use Rattle.rows.proofs.Bounds.{node_bounded, pair_bounded}
 use Rattle.packrat.specs.Loaded.{rules_in}
 use lib.ListN.{length}
 use native.Mathlib.Omega.{arith}
-use borrow.Author.Rules.{rules}
 use Rattle.listing.proofs.list.list_in.Goals as goal
 
 pub returns-then-x-gt-FAILED : goal.returns-then-x-gt-FAILED

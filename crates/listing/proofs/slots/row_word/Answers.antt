@@ -1,7 +1,5 @@
 use Rattle.rows.specs.Rows.{row_word}
 use native.Mathlib.Omega.{arith}
-use Rattle.listing.proofs.slots.row_word.Reads as reads
-use Rattle.listing.proofs.slots.row_word.Lts as lts
 use Rattle.listing.proofs.slots.row_word.Goals as goal
 
 pub returns : goal.returns

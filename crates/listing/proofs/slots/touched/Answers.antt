@@ -4,8 +4,6 @@ use lib.Dec.{leb}
 use borrow.Author.Tests.{le-leb, lt-leb}
 use mathlib.Core.Bool.{Bool, ◌&&◌}
 use mathlib.Core.Path.{sym, ap}
-use Rattle.listing.proofs.slots.touched.Reads as reads
-use Rattle.listing.proofs.slots.touched.Lts as lts
 use Rattle.listing.proofs.slots.touched.Goals as goal
 
 pub returns-then-hi-at : goal.returns-then-hi-at

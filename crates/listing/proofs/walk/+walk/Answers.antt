@@ -1,6 +1,6 @@
-use Rattle.listing.proofs.Paths.{sequence_first, sequence_ends, sequence_second_ends, sequence_second, sequence_both, not_stops, not_fails, not_matches, part_found, part_ends, part_missed, part_goes, choice_first, choice_failed, choice_second, Rounds, star_start, star_stops, star_last, star_found, star_still, star_more}
+use Rattle.listing.proofs.Paths.{sequence_first, sequence_ends, sequence_second_ends, sequence_second, sequence_both, not_stops, not_fails, not_matches, part_found, part_ends, part_missed, part_goes, choice_first, choice_failed, choice_second, star_start, star_stops, star_last, star_found, star_still, star_more}
 use Rattle.listing.proofs.Rules.{rule_empty, rule_impossible, rule_failed, rule_in_text, rule_missed, rule_full, rule_stops, rule_goes, node_too_deep, node_goes, unlawful_goes, leaf_goes}
-use Rattle.packrat.proofs.Rules.{was_possible, was_impossible, past_7}
+use Rattle.packrat.proofs.Rules.{was_possible, was_impossible}
 use Rattle.packrat.proofs.LoadedRuns.{word_is}
 use Rattle.packrat.specs.Loaded.{rules_in}
 use Rattle.rows.specs.Walk.{node_v, pair_v, kind_v}
@@ -9,13 +9,11 @@ use Rattle.records.specs.Words.{possible, record_of}
 use Rattle.records.specs.Slots.{slot_of}
 use Rattle.records.specs.declared.Record.{Record}
 use Rattle.grammar.proofs.Nodes.{is_sequence, is_choice, is_star, is_not, is_call, is_unlawful}
-use Rattle.grammar.specs.Image.{star}
 use lib.ListN.{length, get_or}
-use mathlib.Core.Path.{◌≡◌, refl, sym, ap, ◌∙◌}
+use mathlib.Core.Path.{refl, sym, ap, ◌∙◌}
 use borrow.Author.Tests.{not-true, not-false}
 use native.Mathlib.Omega.{arith}
-use Prim.Native.Nat.{ℕ, ◌+◌, ◌*◌, ◌-◌, ◌≤◌, ◌<◌}
-use borrow.Author.Rules.{rules}
+use Prim.Native.Nat.{ℕ, ◌-◌, ◌<◌}
 use Rattle.listing.proofs.walk.+walk.Goals as goal
 
 -- or proofs/Rules. The measure is three times the allowance, a node below a part, a part below the kinds. Assumes nothing.

@@ -5,7 +5,7 @@ use Rattle.packrat.specs.Loaded.{rules_in}
 use Rattle.rows.specs.Walk.{node_v, pair_v, kind_v}
 use Rattle.rows.proofs.Bounds.{node_bounded}
 use Rattle.grammar.specs.Image.{star}
-use Rattle.std.proofs.Common.{◌≡◌, ℕ, ◌+◌, ◌-◌, ◌*◌, ◌≤◌, length}
+use Rattle.std.proofs.Common.{◌≡◌, ◌+◌, ◌-◌, ◌*◌, ◌≤◌, length}
 use Rattle.listing.proofs.walk.+walk.Given as goal
 
 abbrev pub decreases-walk_choice : goal.decreases-walk_choice

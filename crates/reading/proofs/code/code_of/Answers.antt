@@ -1,4 +1,3 @@
-use Rattle.std.proofs.Common.{rules}
 use Rattle.reading.proofs.code.code_of.Goals as goal
 
 pub returns-in-Refused : goal.returns-in-Refused

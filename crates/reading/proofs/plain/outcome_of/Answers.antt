@@ -1,5 +1,4 @@
 use Rattle.std.proofs.Common.{Bool, true, eqb, sym, ap, ◌∙◌, eq-eqb, ne_eqb}
-use borrow.Author.Tests.{not-true, not-false}
 use Rattle.reading.specs.Plain.{outcome_of}
 use Rattle.reading.proofs.plain.outcome_of.Goals as goal
 

@@ -1,7 +1,7 @@
 use Rattle.reading.proofs.PlainReading.{image_refused, text_refused, depth_refused, answered_reading}
 use Rattle.grammar.proofs.Acceptance.{accepted}
 use Rattle.grammar.specs.Questions.{Checked}
-use Rattle.std.proofs.Common.{ℕ, subst, rules}
+use Rattle.std.proofs.Common.{ℕ, subst}
 use Rattle.reading.proofs.plain.plain_reading.Goals as goal
 
 pub returns-then-number-ne0 : goal.returns-then-number-ne0

@@ -1,4 +1,4 @@
-use Rattle.std.proofs.Common.{eqb, ◌∙◌, rules}
+use Rattle.std.proofs.Common.{eqb, ◌∙◌}
 use Rattle.records.specs.Words.{value_of}
 use Rattle.reading.specs.Plain.{outcome_of}
 use Rattle.reading.proofs.plain.reading_of.Goals as goal

@@ -1,5 +1,4 @@
 use Rattle.packrat.proofs.Start.{start_given}
-use Rattle.std.proofs.Common.{rules}
 use Rattle.reading.proofs.plain.start_word.Goals as goal
 
 pub returns : goal.returns

@@ -1,4 +1,4 @@
-use Rattle.std.proofs.Common.{Bool, cond, sym, ap, ◌∙◌, rules}
+use Rattle.std.proofs.Common.{Bool, cond, sym, ap, ◌∙◌}
 use Rattle.records.specs.Words.{possible, record_of, record_word}
 use Rattle.packrat.proofs.Rules.{was_possible, was_impossible}
 use Rattle.reading.proofs.session.met.Goals as goal

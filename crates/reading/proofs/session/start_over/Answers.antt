@@ -1,4 +1,4 @@
-use Rattle.std.proofs.Common.{sym, ◌∙◌, arith, rules}
+use Rattle.std.proofs.Common.{sym, ◌∙◌, arith}
 use Rattle.packrat.proofs.Start.{start_met, start_refused, start_stored}
 use Rattle.reading.proofs.StartPair.{start_fits}
 use Rattle.reading.proofs.session.start_over.Goals as goal

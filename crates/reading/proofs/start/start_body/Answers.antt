@@ -1,4 +1,4 @@
-use Rattle.std.proofs.Common.{◌≡◌, ap, ◌∙◌, arith, rules}
+use Rattle.std.proofs.Common.{◌≡◌, ap, ◌∙◌, arith}
 use Rattle.grammar.specs.Image.{root, start}
 use Rattle.image.proofs.Linked.{root_small}
 use Rattle.packrat.proofs.LoadedRuns.{body_given}

@@ -1,10 +1,8 @@
 use Rattle.records.proofs.Test.{none_found, found}
 use borrow.Author.Tests.{not-true, not-false}
 use native.Mathlib.Omega.{arith}
-use mathlib.Core.Logic.{⊎_elim}
 use mathlib.Core.Bool.{true≢false}
 use mathlib.Core.Path.{sym, ◌∙◌}
-use borrow.Author.Rules.{rules}
 use Rattle.records.proofs.Record.from_word.Goals as goal
 use Rattle.records.proofs.Record.from_word.Goals.{then-n-at-3+else-n-at-4, else-n-at-3}
 

@@ -2,7 +2,6 @@ use Rattle.records.specs.Words.{record_word}
 use mir.Val.{bool_byte}
 use mathlib.Core.Path.{ap}
 use native.Mathlib.Omega.{arith}
-use borrow.Author.Rules.{rules}
 use Rattle.records.proofs.Record.word.Goals as goal
 
 pub returns-then-self : goal.returns-then-self

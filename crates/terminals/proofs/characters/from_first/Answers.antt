@@ -4,7 +4,6 @@ use Rattle.grammar.specs.Characters.{◌to◌, is_in, tail}
 use Rattle.grammar.proofs.Terminals.{has_in_text}
 use native.Mathlib.Omega.{arith}
 use mathlib.Core.Path.{sym, ◌∙◌}
-use borrow.Author.Tests.{not-true, not-false}
 use Rattle.terminals.proofs.characters.from_first.Goals as goal
 
 pub returns-then-not-has_at : goal.returns-then-not-has_at

@@ -1,9 +1,9 @@
 use Rattle.image.specs.Linked.{linked_from, linked_word}
 use Rattle.grammar.proofs.Writes.{next_written}
 use native.Mathlib.Omega.{arith}
-use lib.ListN.{length, get_or, length-set}
-use mathlib.Core.Path.{◌≡◌, ap, ◌∙◌}
-use Prim.Native.Nat.{ℕ, ◌≤◌, ◌<◌, ◌-◌}
+use lib.ListN.{length, length-set}
+use mathlib.Core.Path.{ap, ◌∙◌}
+use Prim.Native.Nat.{◌<◌}
 use borrow.Author.Rules.{rules}
 use Rattle.visits.proofs.nodes.node_words.Goals as goal
 

@@ -1,8 +1,6 @@
-use Rattle.image.specs.Linked.{linked_from, linked_word}
-use Rattle.grammar.proofs.Writes.{next_written}
-use native.Mathlib.Omega.{arith}
-use lib.ListN.{length, get_or, length-set}
-use mathlib.Core.Path.{◌≡◌, ap, ◌∙◌}
+use Rattle.image.specs.Linked.{linked_word}
+use lib.ListN.{length, get_or}
+use mathlib.Core.Path.{◌≡◌}
 use Prim.Native.Nat.{ℕ, ◌≤◌, ◌<◌, ◌-◌}
 use Rattle.visits.proofs.nodes.node_words.Given as goal
 

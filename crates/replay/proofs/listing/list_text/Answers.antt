@@ -1,0 +1,7 @@
+use Rattle.std.proofs.Common.{arith}
+use Rattle.replay.proofs.Rows.{rows_lent}
+use Rattle.replay.proofs.listing.list_text.Goals as goal
+
+-- The rows that the answer counts are slots that were lent.
+pub returns-clause-upper_bound : goal.returns-clause-upper_bound
+returns-clause-upper_bound c = omega (arith, c.rows_in-count.ensures, rows_lent c.list_sheet-answer.ensures)

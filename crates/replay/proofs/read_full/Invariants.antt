@@ -1,0 +1,6 @@
+-- What is read so far has room.
+use Rattle.std.proofs.Common.{◌≤◌, length}
+use Rattle.replay.proofs.read_full.Given as goal
+
+abbrev pub invariant-loop : goal.invariant-loop
+invariant-loop l = l.length ≤ length l.input
