@@ -3,38 +3,34 @@
 
 # How many crates the library is made of. In crates.txt a crate stands below those that it uses.
 library_crates() {
-    sed 's/#.*//' crates.txt | tac | awk -F: '
+    sed 's/#.*//; s/ staticlib:/:/' crates.txt | tac | awk -F: '
         BEGIN { wanted["bannelgo"] = 1 }
         $1 in wanted { count++; n = split($2, used, " "); for (i = 1; i <= n; i++) wanted[used[i]] = 1 }
         END { print count }'
 }
 
-# Reads what rt says and keeps of it a line for each crate that is proved: "proved 7 of 27: checker (12 s)".
+# Reads what rt says and keeps of it a line for each crate that is proved: "proved 7 of 27: checker".
 proved_of() {
     local total=$1 count=0 line
     while IFS= read -r line; do
-        if [[ $line =~ ^rt:\ ([a-z_]+)\ proved\ (\(.*\))$ ]]; then
+        if [[ $line =~ ^crate\ ([a-z_]+):\ modules ]]; then
             count=$((count + 1))
-            echo "proved $count of $total: ${BASH_REMATCH[1]} ${BASH_REMATCH[2]}"
+            echo "proved $count of $total: ${BASH_REMATCH[1]}"
         fi
     done
 }
 
-# Proves the crates below the library, as many at a time as rt has jobs, then the library itself, which becomes the archive.
+# Proves the crates below the library, then the library itself, which becomes the archive.
 prove_library() {
-    local log=$1 total below
-    total=$(library_crates)
-    read -ra below < <(sed -n 's/^bannelgo: *//p' crates.txt)
-    (set -o pipefail && rt check "${below[@]}" 2>&1 | tee "$log" | proved_of "$total") || return
-    echo "proving $total of $total: bannelgo, and compiling it"
-    bin/archive >>"$log" 2>&1
+    local log=$1
+    (set -o pipefail && bin/archive 2>&1 | tee "$log" | proved_of "$(library_crates)")
 }
 
 archive=target/staticlib/libbannelgo.a
 
 # Whether there is no archive, or a source of a crate is newer.
 is_missing_or_old() {
-    [[ ! -f $archive || -n $(find crates.txt crates -type f -newer "$archive" -not -path '*/must-fail/*' -print -quit) ]]
+    [[ ! -f $archive || -n $(find crates.txt crates -type f -newer "$archive" -not -path '*/must-fail/*' -not -path '*/out/*' -print -quit) ]]
 }
 
 if [[ -z "${BANNELGO_LIB:-}" ]] && is_missing_or_old; then

@@ -1,4 +1,6 @@
 // What a caller takes over from an answer: the text's length for the next call, and the number of rows.
+#![tactic(auto)]
+
 ghost use Rattle.std.specs.Prelude.{◌≡◌};
 ghost use Rattle.answered.specs.After.{after_open, after_edit, rows_in};
 

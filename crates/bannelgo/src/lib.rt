@@ -1,5 +1,7 @@
 // What a host links: libbannelgo.a. "The image check and plain reading are exported to our Rust host." They answer one number; each answer of
 // the sheet's calls is coded as seven (fields.rt).
+#![tactic(auto)]
+
 pub mod fields;
 
 ghost use Rattle.grammar.specs.Questions.{Checked};

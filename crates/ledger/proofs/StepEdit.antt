@@ -34,7 +34,7 @@ use Rattle.ledger.specs.Ledger.{Evaluations, Ledger, Turn, edit, edits, value_in
 use Rattle.ledger.specs.Ledger.{passes9, passes10, edit_turn, turn}
 use Rattle.grammar.proofs.Bools.{both}
 use Rattle.promises.proofs.Asked.{edit_9, edit_10, edit_0, edit_one}
-use Rattle.ledger.proofs.Inv.{Inv, held_word, cap_is, short_text, lent, value_of}
+use Rattle.ledger.proofs.Inv.{Inv, held_word, cap_is, short_text, value_of}
 use Rattle.ledger.proofs.Asks.{good, passes_9, fails_9, passes_10, fails_10}
 use Rattle.promises.proofs.Tables.{lent_table}
 use Rattle.ledger.proofs.Sums.{count_cut}

@@ -1,5 +1,7 @@
 // What the sheet's calls answer, and the promise of each. This crate has the types of the answers, definitions (specs/) and the theorems
 // that the calls cite (proofs/), and no code that runs.
+#![tactic(auto)]
+
 use reading::plain::Outcome;
 
 // "The answer is the text's length n."

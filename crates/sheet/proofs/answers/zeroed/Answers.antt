@@ -9,5 +9,4 @@ pub returns : goal.returns
 returns c = (
   refl,
   rw (sym c.header_of-header.ensures.its_rules) c.clear_table.ensures,
-
 )
