@@ -20,10 +20,11 @@ INSIDE = re.compile(r"^(?:  (?:pub )?| +(?:(?:abbrev |unfoldable )(?:pub )?|pub 
 # Names of std that a lemma's name may join by a dash.
 OF_STD = {"append", "length", "take", "drop", "set", "map", "get_or", "sum", "max", "min"}
 # A lemma that would have its definition's name ends in _lem.
-BY_HAND = {n: n.replace("-", "_") + "_lem" for n in ("byte-range", "edit-number", "list-number", "look-up-number", "image-number", "is-in", "most-later",
+BY_HAND = {n: n.replace("-", "_") + "_lem" for n in ("edit-number", "list-number", "look-up-number", "image-number", "is-in", "most-later",
                                                      "reached-in", "rows-given", "fields-at", "came_from", "read_number")}
-# Names within one file that would hide a definition.
+# Names below one folder that would hide a definition there, or that have its name elsewhere.
 LOCAL = {
+    "crates/marked/": {"image-number": "image_number"},
     "crates/ledger/proofs/StepList.antt": {"rows_in": "rows_in_lem"},
     "crates/editing/proofs/Ledger.antt": {"word_after": "word_after_lem"},
 }
@@ -177,12 +178,19 @@ def main(argv):
                     print("elsewhere:", old, new, sorted(words[new])[:2], len(words[new]))
         return 0
     for path in files():
-        rewrite(path, turn_antt, names | LOCAL.get(path, {}))
+        rewrite(path, turn_antt, local(path, names))
     for path in sorted(glob.glob("crates/*/src/**/*.rt", recursive=True)):
         rewrite(path, turn_rt, names)
     for path in sorted(glob.glob("crates/*/must-fail/**/*.edit", recursive=True)):
-        rewrite(path, turn_edit, names)
+        rewrite(path, turn_edit, local(path, names))
     return 0
+
+
+def local(path, names):
+    for folder, more in LOCAL.items():
+        if path.startswith(folder):
+            names = names | more
+    return names
 
 
 def rewrite(path, turn, names):

@@ -4,7 +4,7 @@ ghost use Rattle.std.specs.Prelude.{ℕ, ◌≡◌, IfOk};
 ghost use Rattle.replay.specs.Calls.{Opens, Edits, ReadsSheet};
 
 use crate::numbers::Numbers;
-use crate::{answers, numbers};
+use crate::{numbers, printed};
 use fields::Decoded;
 use std::io;
 
@@ -21,7 +21,7 @@ fn open_text(
 {
     let answer = sheet::open::open(image, text, buffer, table);
     let next = answered::opened(answer, n);
-    answers::of_open(rt, line, answer)?;
+    printed::of_open(rt, line, answer)?;
     Ok(next)
 }
 
@@ -41,11 +41,11 @@ pub fn open(
             open_text(rt, line, n, image, buffer, table, &given[0..k])
         }
         Decoded::TooLong => {
-            answers::too_long(rt, line)?;
+            printed::too_long(rt, line)?;
             Ok(n)
         }
         Decoded::Wrong => {
-            answers::not_understood(rt, line)?;
+            printed::not_understood(rt, line)?;
             Ok(n)
         }
     }
@@ -66,7 +66,7 @@ fn edit_text(
 {
     let answer = sheet::edit::edit(image, buffer, n, table, s, e, replacement);
     let next = answered::edited(answer, n);
-    answers::of_edit(rt, line, answer)?;
+    printed::of_edit(rt, line, answer)?;
     Ok(next)
 }
 
@@ -89,11 +89,11 @@ fn edit_from(
             edit_text(rt, line, n, image, buffer, table, s, e, &given[0..k])
         }
         Decoded::TooLong => {
-            answers::too_long(rt, line)?;
+            printed::too_long(rt, line)?;
             Ok(n)
         }
         Decoded::Wrong => {
-            answers::not_understood(rt, line)?;
+            printed::not_understood(rt, line)?;
             Ok(n)
         }
     }
@@ -125,7 +125,7 @@ pub fn edit(
             given,
         ),
         Numbers::None => {
-            answers::not_understood(rt, line)?;
+            printed::not_understood(rt, line)?;
             Ok(n)
         }
     }
@@ -142,7 +142,7 @@ fn read_text(
     ensures { ReadsSheet image.now buffer.now n table.old table.new }
 {
     let answer = sheet::read::read_sheet(image, buffer, n, table);
-    answers::of_read(rt, line, answer)
+    printed::of_read(rt, line, answer)
 }
 
 pub fn read(
@@ -155,7 +155,7 @@ pub fn read(
     table: &mut [u64],
 ) -> io::Result<()> {
     if rest.len() != 0 {
-        return answers::not_understood(rt, line);
+        return printed::not_understood(rt, line);
     }
     read_text(rt, line, n, image, buffer, table)
 }
@@ -172,8 +172,8 @@ pub fn look_up(
     match numbers::two_numbers(rest) {
         Numbers::Are(rule, position) => {
             let answer = sheet::look_up::look_up(image, buffer, n, table, rule, position);
-            answers::of_look_up(rt, line, answer)
+            printed::of_look_up(rt, line, answer)
         }
-        Numbers::None => answers::not_understood(rt, line),
+        Numbers::None => printed::not_understood(rt, line),
     }
 }

@@ -1,7 +1,7 @@
 // What a line does to a session.
 use crate::numbers::Numbers;
 use crate::verbs::Verb;
-use crate::{answers, calls, listing, numbers, verbs};
+use crate::{calls, listings, numbers, printed, verbs};
 use fields::Decoded;
 use std::io;
 
@@ -39,8 +39,8 @@ fn image_line(
             image[0..k].copy_from_slice(&given[0..k]);
             next.image = k;
         }
-        Decoded::TooLong => answers::too_long(rt, line)?,
-        Decoded::Wrong => answers::not_understood(rt, line)?,
+        Decoded::TooLong => printed::too_long(rt, line)?,
+        Decoded::Wrong => printed::not_understood(rt, line)?,
     }
     Ok(next)
 }
@@ -57,13 +57,13 @@ fn lend_line(
     match numbers::two_numbers(rest) {
         Numbers::Are(cap, words) => {
             if most_bytes < cap || most_words < words {
-                answers::too_much_lent(rt, line)?;
+                printed::too_much_lent(rt, line)?;
             } else {
                 next.cap = cap;
                 next.words = words;
             }
         }
-        Numbers::None => answers::not_understood(rt, line)?,
+        Numbers::None => printed::not_understood(rt, line)?,
     }
     Ok(next)
 }
@@ -92,11 +92,11 @@ fn call(
             Ok(n)
         }
         Verb::List => {
-            listing::list(rt, rest, line, n, image, buffer, table)?;
+            listings::list(rt, rest, line, n, image, buffer, table)?;
             Ok(n)
         }
         _ => {
-            answers::not_understood(rt, line)?;
+            printed::not_understood(rt, line)?;
             Ok(n)
         }
     }
@@ -149,7 +149,7 @@ pub fn line(
     match verb {
         Verb::Blank => Ok(session),
         Verb::Comment => {
-            answers::comment(rt, text)?;
+            printed::comment(rt, text)?;
             Ok(session)
         }
         Verb::Image => image_line(rt, rest, line, session, image, given),

@@ -28,11 +28,11 @@
 
 ghost use Rattle.std.specs.Prelude.{◌≤◌, length, IfOk};
 
-mod answers;
 mod calls;
 mod lines;
-mod listing;
+mod listings;
 mod numbers;
+mod printed;
 mod verbs;
 
 use lines::Session;
@@ -97,7 +97,7 @@ fn main(rt: HostRuntime) -> io::Result<()> {
     let mut input = [0u8; 262144];
     let length = read_full(&rt, &mut input)?;
     if length == 262144 {
-        return answers::too_much_input(&rt);
+        return printed::too_much_input(&rt);
     }
     replay_over_buffers(&rt, &input[0..length])
 }

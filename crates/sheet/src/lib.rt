@@ -2,7 +2,7 @@
 // number and table content is answered or refused, in the order of the questions.
 #![tactic(auto)]
 
-mod answers;
+mod answering;
 pub mod edit;
 pub mod list;
 pub mod look_up;

@@ -6,7 +6,7 @@ ghost use Rattle.grammar.specs.Image.{rules};
 ghost use Rattle.promises.specs.Listing.{ListPromise};
 ghost use Rattle.promises.specs.Run.{stopped_words};
 
-use crate::{answers, questions};
+use crate::{answering, questions};
 use grammar::numbers;
 use listing::list::Listed;
 use promises::{ListAnswer, SheetListing};
@@ -22,7 +22,7 @@ fn stopped(image: &[u8], cap: usize, table: &mut [u64], number: usize) -> u8
     if number == ROWS {
         return numbers::ROWS;
     }
-    answers::zeroed(image, cap, table, number as u64)
+    answering::zeroed(image, cap, table, number as u64)
 }
 
 // Refused, it leaves the row slots as they were, and the table as a reading does; with 15 the reading's records stay.
@@ -43,11 +43,11 @@ pub fn list_sheet(
     let mut count = 0u64;
     let word = reading::session::start_over(image, &buffer[0..n], table, &mut count);
     if word < numbers::BOUND {
-        return ListAnswer::Refused(answers::zeroed(image, cap, table, word));
+        return ListAnswer::Refused(answering::zeroed(image, cap, table, word));
     }
     match listing::start::list_over(image, &buffer[0..n], table, rows) {
         Listed::Rows(written) => ListAnswer::Listed(SheetListing {
-            reading: answers::reading_of(word, n, count),
+            reading: answering::reading_of(word, n, count),
             rows: written,
         }),
         Listed::Refused(k) => ListAnswer::Refused(stopped(image, cap, table, k)),

@@ -1,7 +1,7 @@
 // "Reading: the answer is the start pair's evaluation, as whole, part or none".
 ghost use Rattle.promises.specs.Reading.{ReadPromise};
 
-use crate::{answers, questions};
+use crate::{answering, questions};
 use grammar::numbers;
 use promises::ReadAnswer;
 
@@ -17,7 +17,7 @@ pub fn read_sheet(image: &[u8], buffer: &[u8], n: usize, table: &mut [u64]) -> R
     let mut count = 0u64;
     let word = reading::session::start_over(image, &buffer[0..n], table, &mut count);
     if word < numbers::BOUND {
-        return ReadAnswer::Refused(answers::zeroed(image, cap, table, word));
+        return ReadAnswer::Refused(answering::zeroed(image, cap, table, word));
     }
-    ReadAnswer::Read(answers::reading_of(word, n, count))
+    ReadAnswer::Read(answering::reading_of(word, n, count))
 }

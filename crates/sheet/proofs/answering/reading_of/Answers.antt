@@ -2,7 +2,7 @@ use mathlib.Core.Path.{◌∙◌}
 use lib.Dec.{eqb}
 use Rattle.records.specs.Words.{value_of}
 use Rattle.reading.specs.Plain.{outcome_of}
-use Rattle.sheet.proofs.answers.reading_of.Goals as goal
+use Rattle.sheet.proofs.answering.reading_of.Goals as goal
 
 pub returns : goal.returns
 unfolding value_of

@@ -2,7 +2,7 @@
 ghost use Rattle.std.specs.Prelude.{ℕ, ◌≡◌, ◌≤◌, length, IfOk};
 ghost use Rattle.replay.specs.Calls.{ListsSheet, ListsInto};
 
-use crate::answers;
+use crate::printed;
 use fields::Number;
 use std::io;
 
@@ -21,7 +21,7 @@ fn list_text(
 {
     let answer = sheet::list::list_sheet(image, buffer, n, table, rows);
     let count = answered::rows_in(answer);
-    answers::of_list(rt, line, answer)?;
+    printed::of_list(rt, line, answer)?;
     Ok(count)
 }
 
@@ -38,7 +38,7 @@ fn list_into(
     ensures { ListsInto image.now buffer.now n table.old (length rows.old) table.new }
 {
     let count = list_text(rt, line, n, image, buffer, table, rows)?;
-    answers::rows(rt, &rows[0..count])
+    printed::rows(rt, &rows[0..count])
 }
 
 fn list_slots(
@@ -69,11 +69,11 @@ pub fn list(
     match fields::decimal(rest) {
         Number::Is(slots) => {
             if 65536 < slots {
-                answers::too_many_slots(rt, line)
+                printed::too_many_slots(rt, line)
             } else {
                 list_slots(rt, line, n, image, buffer, table, slots)
             }
         }
-        Number::None => answers::not_understood(rt, line),
+        Number::None => printed::not_understood(rt, line),
     }
 }

@@ -1,5 +1,5 @@
 use mathlib.Core.Path.{refl, sym}
-use Rattle.sheet.proofs.answers.zeroed.Goals as goal
+use Rattle.sheet.proofs.answering.zeroed.Goals as goal
 
 pub clear_table-requires : goal.clear_table-requires
 clear_table-requires c =

@@ -1,6 +1,6 @@
 use Rattle.std.proofs.Common.{arith}
 use Rattle.replay.proofs.Rows.{rows_lent}
-use Rattle.replay.proofs.listing.list_text.Goals as goal
+use Rattle.replay.proofs.listings.list_text.Goals as goal
 
 -- The rows that the answer counts are slots that were lent.
 pub returns-clause-upper_bound : goal.returns-clause-upper_bound
