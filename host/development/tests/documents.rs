@@ -125,7 +125,7 @@ fn replay(input: &str) -> String {
     let program = Path::new(env!("CARGO_MANIFEST_DIR")).join("../../target/bin/replay");
     assert!(
         program.is_file(),
-        "target/bin/replay is missing: rt check replay"
+        "target/bin/replay is missing: bin/replay"
     );
     let mut command = Command::new(program);
     command.stdin(Stdio::piped()).stdout(Stdio::piped());
