@@ -14,7 +14,7 @@ import os
 import re
 import sys
 
-WORD = re.compile(r"[^\s(){}.;,@\"«»\[\]\\]+")
+WORD = re.compile(r"[^\s(){}.;,@\"«»`\[\]\\]+")
 TOP = re.compile(r"^(?:abbrev |unfoldable )?(?:pub )?(data |record )?([^\s(){}.;,@\"«»:]+)(?= *:| \(|$)")
 INSIDE = re.compile(r"^(?:  (?:pub )?| +(?:(?:abbrev |unfoldable )(?:pub )?|pub (?:abbrev |unfoldable )?))([^\s(){}.;,@\"«»:]+) *:(?: |$)")
 # Names of std that a lemma's name may join by a dash.

@@ -1,4 +1,4 @@
--- Theorems `ledger-after` and `standing`: where the table has the words of a set of pairs and 0 elsewhere, after an edit it has the words of
+-- Theorems `ledger_after` and `standing`: where the table has the words of a set of pairs and 0 elsewhere, after an edit it has the words of
 -- the pairs that stand and 0 elsewhere, and the count of held words is the number of pairs that stand.
 -- Assumes of the words: those of held pairs are held and have the examined length of the pair (`stored`), a pair that stays has the same word
 -- after the edit (`stay-true`), and a pair behind the edit has the word that it had at its old position (`carry-true`).

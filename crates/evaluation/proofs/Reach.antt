@@ -1,6 +1,6 @@
 -- The pairs that a reading reaches are those whose body is evaluated in the start pair's evaluation without records.
 -- Assumes nothing.
---     reached_in    a reached pair is among them
+--     reached_in_lem    a reached pair is among them
 --     in_reached    each of them is reached
 --     reached_is, is_reached    the same by the test
 use Prim.Native.Nat.{ℕ}

@@ -37,7 +37,7 @@ unfoldable pub deepest : List Inside → ℕ
 deepest [] = 0
 deepest (i ∷ is) = max i.value.nesting (deepest is)
 
--- How many levels a subject is above what `insideOf` lists. A pair's level is that of its body. The rounds of a star are no evaluation of
+-- How many levels a subject is above what `inside_of` lists. A pair's level is that of its body. The rounds of a star are no evaluation of
 -- their own; the star around them is.
 abbrev pub level_of : Subject → ℕ
 level_of (a_node m) = 1

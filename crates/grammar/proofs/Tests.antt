@@ -1,4 +1,4 @@
--- Questions 1 to 5 as tests that compute: a test passes exactly when its question holds. `lawful-image` serves images that are written
+-- Questions 1 to 5 as tests that compute: a test passes exactly when its question holds. `lawful_image` serves images that are written
 -- out, the other direction the number of an image (crate `rounds`). Assumes nothing.
 use Prim.Native.Nat.{ℕ, zero, suc, ◌+◌, ◌*◌, ◌<◌}
 use native.Mathlib.Omega.{arith}

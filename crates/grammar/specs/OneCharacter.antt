@@ -1,4 +1,4 @@
--- What a character is, and how much of a text "any" looks at: R-5's sentences, without the steps by which `terminalAt` goes. That it
+-- What a character is, and how much of a text "any" looks at: R-5's sentences, without the steps by which `terminal_at` goes. That it
 -- keeps them is proved in proofs/OneCharacter.antt.
 use Rattle.std.specs.Prelude.{ℕ, ◌+◌, ◌≤◌, ◌<◌, ◌≡◌, true, List, [], ◌∷◌, ◌++◌, length, take}
 use Rattle.grammar.specs.declared.Evaluation.{Evaluation}

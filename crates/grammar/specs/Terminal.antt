@@ -1,5 +1,5 @@
 -- Terminals: the nodes that look at the text itself, kinds 1 and 2. What a terminal does at a position stands behind one name,
--- `terminalAt`; the theorems use its laws (proofs/Terminals.antt) and not its definition.
+-- `terminal_at`; the theorems use its laws (proofs/Terminals.antt) and not its definition.
 use Rattle.std.specs.Prelude.{ℕ, ◌+◌, ◌-◌, Bool, true, false, ◌&&◌, ◌||◌, cond, List, [], ◌∷◌, length, ltb}
 use Rattle.grammar.specs.declared.Evaluation.{Evaluation}
 use Rattle.grammar.specs.Image.{byte_at, Terminal, any, range, folded}

@@ -1,4 +1,4 @@
--- A look_up of demand 3: from the invariant and the look_up's promise, the reply is the ledger's. Assumes nothing.
+-- A look-up of demand 3: from the invariant and the look-up's promise, the reply is the ledger's. Assumes nothing.
 use Prim.Native.Nat.{ℕ, ◌≤◌}
 use native.Mathlib.Omega.{arith}
 use mathlib.Core.Path.{◌≡◌, refl, ap, ◌∙◌}

@@ -1,5 +1,5 @@
 -- The table of marked cases. A line says what a call answers; `Says` gives each line its meaning by the definition that the call's
--- promise cites. The theorem is `marked-hold` in proofs/Marked.antt.
+-- promise cites. The theorem is `marked_hold` in proofs/Marked.antt.
 use Rattle.std.specs.Prelude.{ℕ, List, [], ◌∷◌}
 use Rattle.grammar.specs.Questions.{Checked}
 use Rattle.reading.specs.declared.plain.Outcome.{Outcome}

@@ -7,7 +7,7 @@ use Rattle.promises.specs.declared.ReadAnswer.{ReadAnswer}
 use Rattle.promises.specs.declared.ListAnswer.{ListAnswer}
 use Rattle.ledger.specs.Ledger.{Call, edit, reading, look_up, listing, Reply, edits, reads, finds, lists}
 
--- A reading's reply, an edit's, and a look_up's.
+-- A reading's reply, an edit's, and a look-up's.
 abbrev pub answers : Outcome → (length examined nesting evaluations : ℕ) → Reply
 answers outcome length examined nesting evaluations =
     reads

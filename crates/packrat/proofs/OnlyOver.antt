@@ -1,5 +1,5 @@
 -- Over any table the evaluator answers nothing but the evaluation in which each held pair takes what its word says: where there is none, it
--- refuses. When it answers that evaluation, and when it gives 14, is `pair-over`. Assumes nothing.
+-- refuses. When it answers that evaluation, and when it gives 14, is `pair_over`. Assumes nothing.
 --     only_over    for every pair at a position of the text, and every allowance of at most 4,096
 use Prim.Native.Nat.{ℕ, zero, suc, ◌+◌, ◌%◌, ◌≤◌, ◌<◌, ◌^◌}
 use native.Mathlib.Omega.{arith}

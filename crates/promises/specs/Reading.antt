@@ -31,7 +31,7 @@ pub record AnswersWith (img text W : List ℕ) (z : Evaluation) (ps : List Pair)
   pub stores : Stores img text W ps W'
 
 -- A reading that passed questions 1 to 8, of a text in a buffer of cap bytes. Free is, over foreign records where none of `impossible`,
--- `determinate` and `too-deep` applies: whether it is answered or refused with 12 or 14; and, if it is answered, outcome, examined, nesting
+-- `determinate` and `too_deep` applies: whether it is answered or refused with 12 or 14; and, if it is answered, outcome, examined, nesting
 -- and evaluations, the length up to n, and the words of the table. Nothing else is free.
 pub record SheetRead (img text : List ℕ) (cap : ℕ) (W : List ℕ) (a : ReadAnswer) (W' : List ℕ) : Type 0 where
   -- Over every table: "it ends, changes only the table", "words after it are never touched",

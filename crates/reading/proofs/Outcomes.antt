@@ -1,4 +1,4 @@
--- Theorem `outcome-says`: the outcome as a function is the paper's. Assumes nothing.
+-- Theorem `outcome_says`: the outcome as a function is the paper's. Assumes nothing.
 use Rattle.std.proofs.Common.{◌≡◌, Bool, true, false, eqb, refl, arith, eqb-true}
 use borrow.Author.Tests.{eqb-false}
 use Rattle.reading.specs.Plain.{Says, outcome_of, OutcomeSays}

@@ -67,8 +67,8 @@ pub record PlainRead (img text : List ℕ) (r : PlainAnswer) : Type 0 where
   pub first : First (of_plain img text) (number_of r)
   pub values : Values img text r
 
--- The outcome as a function: the answer of a sheet's reading is made by it (crate `promises`, `sheetReading`). It is the one that `Says` names,
--- for every evaluation in a text of n bytes (proofs/Outcomes.antt, `outcome-says`).
+-- The outcome as a function: the answer of a sheet's reading is made by it (crate `promises`, `sheet_reading`). It is the one that `Says` names,
+-- for every evaluation in a text of n bytes (proofs/Outcomes.antt, `outcome_says`).
 abbrev pub outcome_of : (matched full : Bool) → Outcome
 outcome_of false full = Nothing
 outcome_of true true = Whole

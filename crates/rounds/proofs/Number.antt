@@ -1,4 +1,4 @@
--- Every byte string has its number: `imageNumber` is the number of the first of questions 1 to 7 that fails, 0 where none does.
+-- Every byte string has its number: `image_number` is the number of the first of questions 1 to 7 that fails, 0 where none does.
 -- Assumes nothing.
 use Prim.Native.Nat.{ℕ, ◌<◌}
 use mathlib.Core.Path.{◌≡◌, refl, sym, ◌∙◌, ap}

@@ -19,7 +19,7 @@ unfoldable pub row_word : Row → ℕ
 row_word r = r.rule * 2 ^ 56 + r.depth * 2 ^ 32 + r.start * 2 ^ 16 + r.length
 
 -- A word that has a row's fields, each in its bits, and nothing else: the five fields, most significant first, are all 64 bits of it. The
--- rows of a text that is not too deep have such words (proofs/RowsInside, `start-fields`).
+-- rows of a text that is not too deep have such words (proofs/RowsInside, `start_fields`).
 pub record Fields (word : ℕ) (r : Row) : Type 0 where
   pub rule_fits : r.rule < 2 ^ 8
   pub depth_fits : r.depth < 2 ^ 16
@@ -41,7 +41,7 @@ if_matched true rs = rs
 if_matched false rs = []
 
 -- The rows of an evaluation that has so many rows around it. "No match gives 0 rows." A sequence whose second part fails has none; a
--- star has those of its matched rounds. Without records no pair is answered by one, so that `ev-record` does not
+-- star has those of its matched rounds. Without records no pair is answered by one, so that `ev_record` does not
 -- occur.
 unfoldable pub rows_of : {img text : List ℕ} {s : Subject} {p : ℕ} {z : Evaluation} → Fresh img text s p z → (around : ℕ) → List Row
 rows_of (ev_empty e) k = []

@@ -1,4 +1,4 @@
--- Theorem `cleared-is`: zeros in the first words are the table that an opening leaves. Assumes nothing.
+-- Theorem `cleared_is`: zeros in the first words are the table that an opening leaves. Assumes nothing.
 use Prim.Native.Nat.{ℕ, ◌≤◌}
 use native.Mathlib.Omega.{arith}
 use mathlib.Core.Path.{◌≡◌, ap, ap₂, ◌∙◌}

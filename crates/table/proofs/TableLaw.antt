@@ -1,4 +1,4 @@
--- Theorems `table_is` and `standing-is`: the front kept row by row and the back carried are the table after an edit, pair by pair, and as
+-- Theorems `table_is` and `standing_is`: the front kept row by row and the back carried are the table after an edit, pair by pair, and as
 -- many words are held as the two counts say. Assumes nothing.
 use Prim.Native.Nat.{ℕ, ◌+◌, ◌-◌, ◌*◌, ◌/◌, ◌%◌, ◌≤◌, ◌<◌}
 use native.Mathlib.Omega.{arith}

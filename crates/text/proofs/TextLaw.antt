@@ -1,4 +1,4 @@
--- Theorems `edit-is` and `fill_is`: a move, a copy and zeros in lent parts of the buffer are the edit and the opening of the text.
+-- Theorems `edit_is` and `fill_is`: a move, a copy and zeros in lent parts of the buffer are the edit and the opening of the text.
 -- Assumes nothing.
 use Prim.Native.Nat.{ℕ, ◌+◌, ◌-◌, ◌≤◌, ◌<◌}
 use native.Mathlib.Omega.{arith}
