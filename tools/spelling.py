@@ -1,6 +1,6 @@
 #!/usr/bin/env python3
 """Spells this repository's own definitions, constructors, fields and lemmas as today's Rattle does: words in snake case. A dash stays where
-it joins the names of two definitions. It was run once, after port.py, at the commit that docs/PORT.md names in its second line.
+it joins the names of two definitions. docs/PORT.md says when it was run, after port.py.
 
 usage: python3 tools/spelling.py [--table]      at the top of the repository; --table prints old and new names and writes nothing
 
