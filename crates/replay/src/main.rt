@@ -79,7 +79,7 @@ fn replay_over_buffers(rt: &HostRuntime, input: &[u8]) -> io::Result<()> {
 
 // Reads until there is no more or no room is left, and answers how many bytes there were.
 fn read_full(rt: &HostRuntime, input: &mut [u8]) -> io::Result<usize>
-    ensures { IfOk result (λ length'. length' ≤ length input.old) }
+    ensures { IfOk result (λ k. k ≤ length input.old) }
 {
     let mut reader = rt.reader();
     let mut length: usize = 0;

@@ -1,3 +1,4 @@
+-- `carry` meets its contract: up, down or in place. Assumes nothing.
 use Prim.Native.Nat.{ℕ}
 use mathlib.Core.Path.{sym, subst}
 use Rattle.back.specs.Back.{Carried}

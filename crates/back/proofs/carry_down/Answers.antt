@@ -1,3 +1,4 @@
+-- `carry_down` meets its contract: the first i words are carried, and c of them are held. Assumes nothing.
 use Prim.Native.Nat.{◌+◌}
 use native.Mathlib.Omega.{arith}
 use mathlib.Core.Path.{refl}
@@ -7,7 +8,6 @@ use Rattle.back.proofs.Turns.{carried_down, carried_all}
 use Rattle.editing.proofs.Held.{held_most}
 use Rattle.back.proofs.carry_down.Goals as goal
 
--- `carry_down` meets its contract: the first i words are carried, and c of them are held. Assumes nothing.
 pub loop-i-init : goal.loop-i-init
 loop-i-init c = (omega arith, record { filled = empty (omega arith); counted = refl })
 

@@ -1,3 +1,4 @@
+-- `carry_up` meets its contract: all but the first i words are carried, and c of those are held. Assumes nothing.
 use Prim.Native.Nat.{ℕ, ◌-◌, ◌+◌}
 use native.Mathlib.Omega.{arith}
 use mathlib.Core.Path.{◌≡◌, sym, subst}
@@ -6,7 +7,6 @@ use Rattle.back.proofs.Turns.{Left, none_left, carried_up, all_carried}
 use Rattle.editing.proofs.Held.{held_most}
 use Rattle.back.proofs.carry_up.Goals as goal
 
--- `carry_up` meets its contract: all but the first i words are carried, and c of those are held. Assumes nothing.
 pub loop-i-init : goal.loop-i-init
 loop-i-init c = (omega arith, none_left)
 

@@ -1,3 +1,4 @@
+-- `edit_back` meets its contract, by the law of the back. Assumes nothing.
 use native.Mathlib.Omega.{arith}
 use Rattle.back.proofs.BackLaw.{back_done, counts_fit}
 use Rattle.back.proofs.edit_back.Goals as goal

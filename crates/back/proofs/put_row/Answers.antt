@@ -1,3 +1,4 @@
+-- `put_row` meets its contract: the first words are those of the row where it is held. Assumes nothing.
 use native.Mathlib.Omega.{arith}
 use mathlib.Core.Path.{refl}
 use Rattle.buffers.proofs.Fill.{none}
@@ -6,7 +7,6 @@ use Rattle.back.proofs.Turns.{put_over, put_all}
 use Rattle.editing.proofs.Held.{held_most}
 use Rattle.back.proofs.put_row.Goals as goal
 
--- `put_row` meets its contract: the first words are those of the row where it is held. Assumes nothing.
 pub loop-rule-init : goal.loop-rule-init
 loop-rule-init c = (omega arith, record { filled = none 0; counted = refl })
 

@@ -1,9 +1,9 @@
+-- `staying_row` meets its contract: the first words of the row are those that stay. Assumes nothing.
 use native.Mathlib.Omega.{arith}
 use mathlib.Core.Path.{refl}
 use Rattle.buffers.proofs.Fill.{none, up}
 use Rattle.back.proofs.staying_row.Goals as goal
 
--- `staying_row` meets its contract: the first words of the row are those that stay. Assumes nothing.
 pub loop-rule-init : goal.loop-rule-init
 loop-rule-init c = (omega arith, refl, none 0)
 

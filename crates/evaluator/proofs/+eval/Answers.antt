@@ -1,3 +1,4 @@
+-- The goals of the evaluator's cycle, function by function. Each answer is a way of packrat/proofs/Runs, Stars or Rules. Assumes nothing.
 use Rattle.packrat.proofs.Rules.{was_possible, was_impossible, rule_impossible, rule_too_deep, rule_met, rule_refused, rule_stored, node_too_deep, node_goes, word_goes, call_goes}
 use Rattle.evaluator.proofs.Terminals.{terminal_goes, first_any, first_range}
 use Rattle.packrat.proofs.LoadedRuns.{word_is}
@@ -17,7 +18,6 @@ use Rattle.std.proofs.Common.{◌<◌, length, get_or, sym, refl, ap, ◌∙◌,
 use Rattle.terminals.proofs.CharacterWords.{ascii_word}
 use Rattle.evaluator.proofs.+eval.Goals as goal
 
--- Assumes nothing.
 pub eval_call-eval_rule-x-requires : goal.eval_call-eval_rule-x-requires
 eval_call-eval_rule-x-requires t c =
     let pre = c.requires in

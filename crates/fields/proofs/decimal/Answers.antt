@@ -1,8 +1,8 @@
+-- `fields::decimal` meets its contract: the bytes passed are digits, and the value is their number. Assumes nothing.
 use native.Mathlib.Omega.{arith}
 use Rattle.fields.proofs.Decimals.{none, up, whole, no_digit, too_large}
 use Rattle.fields.proofs.decimal.Goals as goal
 
--- `fields::decimal` meets its contract: the bytes passed are digits, and the value is their number. Assumes nothing.
 pub returns-then-field-eq0 : goal.returns-then-field-eq0
 returns-then-field-eq0 c = λ n. let p = n.0 in omega arith
 

@@ -1,10 +1,10 @@
+-- `fields::hex` meets its contract: before the pair i all are digits, and their bytes are put at the start. Assumes nothing.
 use Prim.Native.Nat.{◌+◌, ◌*◌}
 use native.Mathlib.Omega.{arith}
 use Rattle.fields.proofs.Hexadecimal.{none, next, whole, odd, no_digit}
 use borrow.Author.Rules.{rules}
 use Rattle.fields.proofs.hex.Goals as goal
 
--- `fields::hex` meets its contract: before the pair i all are digits, and their bytes are put at the start. Assumes nothing.
 pub returns-then-field-eq1 : goal.returns-then-field-eq1
 returns-then-field-eq1 c =
     odd c.args.field.now (omega arith)

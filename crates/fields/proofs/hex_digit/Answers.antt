@@ -1,9 +1,9 @@
+-- `fields::hex_digit` meets its contract: its branches are the cases of the definition. Assumes nothing.
 use native.Mathlib.Omega.{arith}
 use mathlib.Core.Path.{sym}
 use Rattle.fields.proofs.Digits.{below_0, of_0_to_9, below_A, of_A_to_F, below_a, of_a_to_f, past_f}
 use Rattle.fields.proofs.hex_digit.Goals as goal
 
--- `fields::hex_digit` meets its contract: its branches are the cases of the definition. Assumes nothing.
 pub returns-then-byte-lt48 : goal.returns-then-byte-lt48
 returns-then-byte-lt48 c = sym (below_0 c.args.byte (omega arith))
 

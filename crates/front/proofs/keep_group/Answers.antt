@@ -1,3 +1,4 @@
+-- `keep_group` meets its contract: where every word stays, nothing is to be stored. Assumes nothing.
 use native.Mathlib.Omega.{arith}
 use Rattle.front.proofs.Rows.{nothing_dropped}
 use Rattle.front.proofs.keep_group.Goals as goal

@@ -1,3 +1,4 @@
+-- `keep_groups` meets its contract: the first i rows are done. Assumes nothing.
 use Prim.Native.Nat.{ℕ, ◌-◌, ◌+◌, ◌*◌}
 use native.Mathlib.Omega.{arith}
 use mathlib.Core.Path.{◌≡◌, refl, ap}
@@ -8,7 +9,6 @@ use Rattle.front.proofs.Rows.{part_done, counts_fit}
 use Rattle.front.proofs.Turns.{counted_all}
 use Rattle.front.proofs.keep_groups.Goals as goal
 
--- `keep_groups` meets its contract: the first i rows are done. Assumes nothing.
 pub loop-i-init : goal.loop-i-init
 loop-i-init c = (omega arith, counted_all (record { filled = empty refl; counted = refl }) (omega arith))
 

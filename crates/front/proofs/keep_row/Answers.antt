@@ -1,3 +1,4 @@
+-- `keep_row` meets its contract: the first i words are kept or zeroed, and c of them are held. Assumes nothing.
 use native.Mathlib.Omega.{arith}
 use mathlib.Core.Path.{refl, ap, ◌∙◌}
 use Rattle.buffers.proofs.Fill.{none}
@@ -7,7 +8,6 @@ use Rattle.front.proofs.Turns.{in_place, counted_all}
 use Rattle.editing.proofs.Held.{held_most}
 use Rattle.front.proofs.keep_row.Goals as goal
 
--- `keep_row` meets its contract: the first i words are kept or zeroed, and c of them are held. Assumes nothing.
 pub loop-i-init : goal.loop-i-init
 loop-i-init c = (omega arith, record { filled = none 0; counted = refl })
 

@@ -1,3 +1,4 @@
+-- q1 to q4 are what is known where each question has been passed.
 use Rattle.lawful.proofs.Told.{said_no, said_yes}
 use Rattle.grammar.specs.Questions.{Question1, Question2, Question3, Question4}
 use mathlib.Core.Logic.{inl, inr}

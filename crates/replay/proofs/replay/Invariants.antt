@@ -1,4 +1,5 @@
--- Each turn goes past a line, there are at most as many lines as bytes gone past, and what is lent keeps its lengths.
+-- `replay` is safe and ends: each turn goes past a line, there are at most as many lines as bytes gone past, and what is lent keeps its
+-- lengths. Assumes nothing.
 use Rattle.std.proofs.Common.{◌≤◌, ◌-◌, length}
 use Rattle.replay.proofs.replay.Given as goal
 

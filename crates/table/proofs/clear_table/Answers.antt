@@ -1,3 +1,4 @@
+-- `clear_table` meets its contract. Assumes nothing.
 use Prim.Native.Nat.{◌+◌, ◌-◌, ◌*◌}
 use native.Mathlib.Omega.{arith}
 use Rattle.table.proofs.OpenLaw.{cleared_is}

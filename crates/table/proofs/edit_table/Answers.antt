@@ -1,3 +1,4 @@
+-- `edit_table` meets its contract, by the law of the edited table. Assumes nothing.
 use Prim.Native.Nat.{◌*◌, ◌-◌}
 use native.Mathlib.Omega.{arith}
 use borrow.Rule.Slice.PartMut.{put_mid}

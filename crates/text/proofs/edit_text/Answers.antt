@@ -1,3 +1,4 @@
+-- `edit_text` meets its contract, by the law of the edited text. Assumes nothing.
 use mathlib.Core.Path.{sym}
 use Rattle.text.proofs.TextLaw.{edit_is}
 use Rattle.editing.proofs.Lengths.{new_is}

@@ -1,3 +1,4 @@
+-- `fill` meets its contract, by the law of the opened text. Assumes nothing.
 use Rattle.text.proofs.TextLaw.{fill_is}
 use Rattle.text.proofs.fill.Goals as goal
 

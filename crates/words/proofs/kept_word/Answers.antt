@@ -1,3 +1,4 @@
+-- `kept_word` meets its contract. Assumes nothing.
 use native.Mathlib.Omega.{arith}
 use mathlib.Core.Path.{sym, ◌∙◌}
 use Rattle.words.proofs.Kept.{kept, kept_not, kept_empty}

@@ -1,3 +1,4 @@
+-- `only_held` meets its contract. Assumes nothing.
 use mathlib.Core.Path.{sym, ◌∙◌}
 use Rattle.editing.proofs.Held.{cond_by}
 use Rattle.words.proofs.only_held.Goals as goal

@@ -1,9 +1,9 @@
+-- `bytes::copy` meets its contract: up to i the bytes are the text's. Assumes nothing.
 use native.Mathlib.Omega.{arith}
 use mathlib.Core.Path.{refl}
 use Rattle.buffers.proofs.Fill.{none, up, fit}
 use Rattle.buffers.proofs.bytes.copy.Goals as goal
 
--- `bytes::copy` meets its contract: up to i the bytes are the text's. Assumes nothing.
 pub loop-i-init : goal.loop-i-init
 loop-i-init c = (omega arith, none 0)
 

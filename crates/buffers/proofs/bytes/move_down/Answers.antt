@@ -1,3 +1,4 @@
+-- `bytes::move_down` meets its contract: up to i the bytes are moved; what is read lies at or past what was stored. Assumes nothing.
 use Prim.Native.Nat.{ℕ, ◌-◌, ◌+◌}
 use native.Mathlib.Omega.{arith}
 use mathlib.Core.Path.{◌≡◌, refl, ap, ◌∙◌}
@@ -5,7 +6,6 @@ use Rattle.buffers.proofs.Fill.{empty, up, fit}
 use Rattle.buffers.specs.Filled.{at}
 use Rattle.buffers.proofs.bytes.move_down.Goals as goal
 
--- `bytes::move_down` meets its contract: up to i the bytes are moved; what is read lies at or past what was stored. Assumes nothing.
 pub loop-i-init : goal.loop-i-init
 loop-i-init c = (omega arith, empty (omega arith))
 

@@ -1,3 +1,4 @@
+-- `bytes::move_up` meets its contract: from i on the bytes are moved; what is read lies before what was stored. Assumes nothing.
 use Prim.Native.Nat.{ℕ, ◌-◌, ◌+◌}
 use native.Mathlib.Omega.{arith}
 use mathlib.Core.Path.{◌≡◌, refl, ap, ◌∙◌}
@@ -5,7 +6,6 @@ use Rattle.buffers.proofs.Fill.{none, down, fit}
 use Rattle.buffers.specs.Filled.{at}
 use Rattle.buffers.proofs.bytes.move_up.Goals as goal
 
--- `bytes::move_up` meets its contract: from i on the bytes are moved; what is read lies before what was stored. Assumes nothing.
 pub loop-i-init : goal.loop-i-init
 loop-i-init c = (omega arith, none _)
 

@@ -1,9 +1,9 @@
+-- `words::clear` meets its contract: up to i the words are 0. Assumes nothing.
 use native.Mathlib.Omega.{arith}
 use mathlib.Core.Path.{refl}
 use Rattle.buffers.proofs.Fill.{none, up, all_same}
 use Rattle.buffers.proofs.words.clear.Goals as goal
 
--- `words::clear` meets its contract: up to i the words are 0. Assumes nothing.
 pub loop-i-init : goal.loop-i-init
 loop-i-init c = (omega arith, none 0)
 

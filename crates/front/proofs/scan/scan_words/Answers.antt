@@ -1,10 +1,10 @@
+-- `scan::scan_words` meets its contract, by the law of one turn. Assumes nothing.
 use native.Mathlib.Omega.{arith}
 use Rattle.buffers.specs.Filled.{at}
 use Rattle.front.proofs.ScanLaw.{nothing_seen, seen_more, told_nothing, told}
 use Rattle.editing.proofs.Held.{held_most}
 use Rattle.front.proofs.scan.scan_words.Goals as goal
 
--- `scan::scan_words` meets its contract, by the law of one turn. Assumes nothing.
 pub loop-i-init : goal.loop-i-init
 loop-i-init c = (omega arith, nothing_seen)
 

@@ -1,3 +1,4 @@
+-- Where the branch of `!zero_bits_lawful(..)` is not taken, the zero bits are lawful.
 use Rattle.lawful.proofs.Told.{not_so, said_no, said_yes, told_of}
 use native.Mathlib.Omega.{arith}
 use borrow.Author.Rules.{rules}

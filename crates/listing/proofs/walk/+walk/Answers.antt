@@ -1,3 +1,4 @@
+-- The goals of the walk's cycle, function by function. Each answer is a way of proofs/Paths or proofs/Rules. Assumes nothing.
 use Rattle.listing.proofs.Paths.{sequence_first, sequence_ends, sequence_second_ends, sequence_second, sequence_both, not_stops, not_fails, not_matches, part_found, part_ends, part_missed, part_goes, choice_first, choice_failed, choice_second, star_start, star_stops, star_last, star_found, star_still, star_more}
 use Rattle.listing.proofs.Rules.{rule_empty, rule_impossible, rule_failed, rule_in_text, rule_missed, rule_full, rule_stops, rule_goes, node_too_deep, node_goes, unlawful_goes, leaf_goes}
 use Rattle.packrat.proofs.Rules.{was_possible, was_impossible}
@@ -16,7 +17,6 @@ use native.Mathlib.Omega.{arith}
 use Prim.Native.Nat.{ℕ, ◌-◌, ◌<◌}
 use Rattle.listing.proofs.walk.+walk.Goals as goal
 
--- or proofs/Rules. The measure is three times the allowance, a node below a part, a part below the kinds. Assumes nothing.
 pub walk_choice-walk_part-x-requires : goal.walk_choice-walk_part-x-requires
 walk_choice-walk_part-x-requires t c =
     let pre = c.requires in

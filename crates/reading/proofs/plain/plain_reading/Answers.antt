@@ -1,3 +1,4 @@
+-- `checked_0` is what is known where the image has been accepted.
 use Rattle.reading.proofs.PlainReading.{image_refused, text_refused, depth_refused, answered_reading}
 use Rattle.grammar.proofs.Acceptance.{accepted}
 use Rattle.grammar.specs.Questions.{Checked}

@@ -1,3 +1,4 @@
+-- `listings::list_text` meets its contract: the library's promise, for the answer that is printed. Assumes nothing.
 use Rattle.std.proofs.Common.{arith}
 use Rattle.replay.proofs.Rows.{rows_lent}
 use Rattle.replay.proofs.listings.list_text.Goals as goal
