@@ -9,13 +9,14 @@ library_crates() {
         END { print count }'
 }
 
-# Reads what rt says and keeps of it a line for each crate that is proved: "proved 7 of 27: checker".
+# Reads what rt says and keeps of it a line for each crate that is proved now: "proved 7 of at most 27: checker". rt passes over those that
+# were proved before.
 proved_of() {
     local total=$1 count=0 line
     while IFS= read -r line; do
         if [[ $line =~ ^crate\ ([a-z_]+):\ modules ]]; then
             count=$((count + 1))
-            echo "proved $count of $total: ${BASH_REMATCH[1]}"
+            echo "proved $count of at most $total: ${BASH_REMATCH[1]}"
         fi
     done
 }
