@@ -3,32 +3,32 @@
 #![tactic(auto)]
 
 ghost use Rattle.grammar.specs.Questions.{Checked};
+ghost use Rattle.grammar.specs.Refusals.{number_in};
 
-use grammar::numbers;
-use visits::nodes;
+use grammar::Refusal;
+use visits::{Nodes, table};
 
 mod formed;
 mod order;
 mod outcomes;
 pub mod stars;
 
-// The number of the first question that the image fails, 0 where it passes all seven.
-pub fn check(image: &[u8]) -> u8
-    ensures { Checked image.now result }
+// Refuses an image by the first question that it fails.
+pub fn check(image: &[u8]) -> Result<(), Refusal>
+    ensures { Checked image.now (number_in result) }
 {
-    let number = lawful::lawful_number(image);
-    if number != 0 {
-        return number;
+    lawful::check(image)?;
+    let table = table::set_table();
+    let nodes = Nodes::of(image, &table);
+    let places = order::round_order(image);
+    let order = &places[..nodes.count];
+    let known = outcomes::outcome_sets(&nodes, order);
+    if !outcomes::stars_consume(&nodes, &known) {
+        return Err(Refusal::StarBodies);
     }
-    let order = order::round_order(image);
-    let words = nodes::node_words(image);
-    let known = outcomes::outcome_sets(image, &order, &words);
-    if !outcomes::stars_consume(image, &known) {
-        return numbers::STAR_BODIES;
+    let formed = formed::formed_nodes(&nodes, order, &known);
+    if !formed::all_formed(&nodes, &formed) {
+        return Err(Refusal::WellFormed);
     }
-    let formed = formed::formed_nodes(image, &order, &words, &known);
-    if !formed::all_formed(image, &formed) {
-        return numbers::WELL_FORMED;
-    }
-    0
+    Ok(())
 }

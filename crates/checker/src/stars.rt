@@ -3,24 +3,20 @@
 ghost use Rattle.checker.specs.Stars.{StarsAsked};
 
 use crate::{order, outcomes};
-use grammar::numbers;
-use visits::nodes;
+use grammar::Refusal;
+use visits::{Nodes, table};
 
-// The number of the first of questions 1 to 6 that the image fails, 0 where it passes them: then `known` has the outcome sets.
-// Refused, it leaves `known` as it was.
-pub fn stars_number(image: &[u8], known: &mut [u8; 1024]) -> u8
-    ensures { StarsAsked image.now known.old known.new result }
+// The outcome sets; refuses an image by the first of questions 1 to 6 that it fails.
+pub fn star_sets(image: &[u8]) -> Result<[u8; 1024], Refusal>
+    ensures { StarsAsked image.now result }
 {
-    let number = lawful::lawful_number(image);
-    if number != 0 {
-        return number;
+    lawful::check(image)?;
+    let table = table::set_table();
+    let nodes = Nodes::of(image, &table);
+    let places = order::round_order(image);
+    let known = outcomes::outcome_sets(&nodes, &places[..nodes.count]);
+    if !outcomes::stars_consume(&nodes, &known) {
+        return Err(Refusal::StarBodies);
     }
-    let order = order::round_order(image);
-    let words = nodes::node_words(image);
-    let sets = outcomes::outcome_sets(image, &order, &words);
-    if !outcomes::stars_consume(image, &sets) {
-        return numbers::STAR_BODIES;
-    }
-    *known = sets;
-    0
+    Ok(known)
 }

@@ -7,7 +7,10 @@ use mathlib.Core.Path.{◌≡◌, refl, sym, subst}
 use mathlib.Core.Bool.{Bool, true, false, not}
 use mathlib.Core.List.{List}
 use Rattle.grammar.specs.declared.Evaluation.{Evaluation}
-use Rattle.grammar.specs.Image.{Terminal, Node, terminal, sequence, choice, star, not_predicate, node, body}
+use Rattle.grammar.specs.declared.node.Node.{Node}
+use Rattle.grammar.specs.declared.node.Terminal.{Terminal}
+use Rattle.grammar.specs.declared.node.Node.TheVariants.{Text, Sequence, Choice, Star, NotPredicate}
+use Rattle.grammar.specs.Image.{node, body}
 use Rattle.grammar.specs.Outcomes.{Outcome, matches_empty, consumes, fails, Has, empty_0, terminal_1, terminal_f, call_body}
 use Rattle.grammar.specs.Outcomes.{then_00, then_10, then_11, then_01, then_f, then_0f, then_1f, else_0, else_1, else_second}
 use Rattle.grammar.specs.Outcomes.{star_1, star_0, not_f0, not_f1, not_0}
@@ -47,33 +50,33 @@ then_shows :
     (img : List ℕ) (a b : ℕ) (m : Bool) (l k : ℕ)
     → Has img (node img a) (shown true l)
     → Has img (node img b) (shown m k)
-    → Has img (sequence a b) (shown m (length_if m (l + k)))
+    → Has img (Sequence a b) (shown m (length_if m (l + k)))
 then_shows img a b false zero k ha hb = then_0f ha hb
 then_shows img a b false (suc l) k ha hb = then_1f ha hb
 then_shows img a b true zero zero ha hb = then_00 ha hb
 then_shows img a b true zero (suc k) ha hb =
-    subst (Has img (sequence a b)) (sym (shows_1 (zero + suc k) (omega arith))) (then_01 ha hb)
+    subst (Has img (Sequence a b)) (sym (shows_1 (zero + suc k) (omega arith))) (then_01 ha hb)
 then_shows img a b true (suc l) zero ha hb =
-    subst (Has img (sequence a b)) (sym (shows_1 (suc l + zero) (omega arith))) (then_10 ha hb)
+    subst (Has img (Sequence a b)) (sym (shows_1 (suc l + zero) (omega arith))) (then_10 ha hb)
 then_shows img a b true (suc l) (suc k) ha hb =
-    subst (Has img (sequence a b)) (sym (shows_1 (suc l + suc k) (omega arith))) (then_11 ha hb)
+    subst (Has img (Sequence a b)) (sym (shows_1 (suc l + suc k) (omega arith))) (then_11 ha hb)
 
-first_shows : (img : List ℕ) (a b : ℕ) (l : ℕ) → Has img (node img a) (shown true l) → Has img (choice a b) (shown true l)
+first_shows : (img : List ℕ) (a b : ℕ) (l : ℕ) → Has img (node img a) (shown true l) → Has img (Choice a b) (shown true l)
 first_shows img a b zero h = else_0 h
 first_shows img a b (suc l) h = else_1 h
 
-not_shows : (img : List ℕ) (a : ℕ) (m : Bool) (l : ℕ) → Has img (node img a) (shown m l) → Has img (not_predicate a) (shown (not m) 0)
+not_shows : (img : List ℕ) (a : ℕ) (m : Bool) (l : ℕ) → Has img (node img a) (shown m l) → Has img (NotPredicate a) (shown (not m) 0)
 not_shows img a false l h = not_0 h
 not_shows img a true zero h = not_f0 h
 not_shows img a true (suc l) h = not_f1 h
 
-star_shows : (img : List ℕ) (a l : ℕ) → Has img (node img a) fails → ((k : ℕ) → l ≡ suc k → Has img (node img a) consumes) → Has img (star a) (shown true l)
+star_shows : (img : List ℕ) (a l : ℕ) → Has img (node img a) fails → ((k : ℕ) → l ≡ suc k → Has img (node img a) consumes) → Has img (Star a) (shown true l)
 star_shows img a zero f c = star_0 f
 star_shows img a (suc l) f c = star_1 (c l refl)
 
-terminal_shows : (img : List ℕ) (t : Terminal) (m : Bool) (l : ℕ) → (m ≡ true → 1 ≤ l) → Has img (terminal t) (shown m l)
+terminal_shows : (img : List ℕ) (t : Terminal) (m : Bool) (l : ℕ) → (m ≡ true → 1 ≤ l) → Has img (Text t) (shown m l)
 terminal_shows img t false l h = terminal_f
-terminal_shows img t true l h = subst (Has img (terminal t)) (sym (shows_1 l (h refl))) terminal_1
+terminal_shows img t true l h = subst (Has img (Text t)) (sym (shows_1 l (h refl))) terminal_1
 
 -- A round that consumed shows outcome 1; else a later one did.
 round_moves :
@@ -93,11 +96,11 @@ module _ (img text : List ℕ) (answers : ℕ → ℕ → CallAnswer)
     shows (ev_then_first_fails {x = x} a m e) = rw e (then_f (rw m at (shows a)))
     shows (ev_then {a} {b} {x = x} {y = y} u m v e) = rw e (then_shows img a b y.matched x.length y.length (rw m at (shows u)) (shows v))
     shows (ev_else_first {a} {b} {x = x} u m e) =
-        rw e (subst (λ (k : Bool). Has img (choice a b) (shown k x.length)) (sym m) (first_shows img a b x.length (rw m at (shows u))))
+        rw e (subst (λ (k : Bool). Has img (Choice a b) (shown k x.length)) (sym m) (first_shows img a b x.length (rw m at (shows u))))
     shows (ev_else_second {a} {b} {x = x} u m v e) = rw e (else_second (rw m at (shows u)) (shows v))
     shows (ev_star {a} {x = x} u e) =
         let r = shows u in
-        rw e (subst (λ (k : Bool). Has img (star a) (shown k x.length)) (sym r.matched_all) (star_shows img a x.length r.ends r.moves))
+        rw e (subst (λ (k : Bool). Has img (Star a) (shown k x.length)) (sym r.matched_all) (star_shows img a x.length r.ends r.moves))
     shows (ev_last_round {a} u m e) =
         rw e (record { matched_all = refl; ends = rw m at (shows u); moves = λ l h. absurd (omega arith) })
     shows (ev_round {a} {x = x} {y = y} u m v e) =

@@ -4,7 +4,7 @@ use Prim.Native.Nat.{ℕ, ◌≤◌}
 use mathlib.Core.List.{List}
 use lib.ListN.{length}
 use Rattle.grammar.specs.declared.Evaluation.{Evaluation}
-use Rattle.grammar.specs.Image.{Node}
+use Rattle.grammar.specs.declared.node.Node.{Node}
 use Rattle.grammar.specs.Outcomes.{Has}
 use Rattle.grammar.specs.Evaluates.{CallAnswer, by_body, by_record, no_answer, bodies_only, Fresh, Subject, a_node}
 use Rattle.evaluation.specs.Within.{Within}

@@ -8,7 +8,9 @@ use mathlib.Core.Bool.{Bool, true, false}
 use mathlib.Core.List.{List}
 use lib.ListN.{length}
 use Rattle.grammar.specs.declared.Evaluation.{Evaluation}
-use Rattle.grammar.specs.Image.{Node, sequence, choice, star, node, nodes, rules, root, body}
+use Rattle.grammar.specs.declared.node.Node.{Node}
+use Rattle.grammar.specs.declared.node.Node.TheVariants.{Sequence, Choice, Star}
+use Rattle.grammar.specs.Image.{node, nodes, rules, root, body}
 use Rattle.grammar.specs.Outcomes.{Has, matches_empty}
 use Rattle.grammar.specs.WellFormed.{WellFormed, wf_empty, wf_terminal, wf_call, wf_then, wf_else, wf_star, wf_not}
 use Rattle.grammar.specs.Questions.{Accepted}
@@ -32,7 +34,7 @@ shows_0 {img} {text} {n} {p} {x} u m l =
     subst (λ (k : ℕ). Has img n (shown true k)) l (subst (λ (b : Bool). Has img n (shown b x.length)) m (fresh_described u))
 
 -- The rounds of a star that has an evaluation.
-rounds_in : {img text : List ℕ} {a p : ℕ} {z : Evaluation} → Fresh img text (a_node (star a)) p z → Exists img text (rounds_of a) p
+rounds_in : {img text : List ℕ} {a p : ℕ} {z : Evaluation} → Fresh img text (a_node (Star a)) p z → Exists img text (rounds_of a) p
 rounds_in (ev_star {x = x} u e) = record { value = x; evaluated = u }
 
 module _ {img text : List ℕ} where
@@ -43,10 +45,10 @@ module _ {img text : List ℕ} where
       → (first : Exists img text (a_node (node img a)) p)
       → ((q : ℕ) → q ≤ length text → p < q → Exists img text (a_node (node img b)) q)
       → (Has img (node img a) matches_empty → Exists img text (a_node (node img b)) p)
-      → Exists img text (a_node (sequence a b)) p
+      → Exists img text (a_node (Sequence a b)) p
   then_exists {a} {b} {p} h first later here = go first.value.matched refl first.value.length refl
     where
-      go : (m : Bool) → first.value.matched ≡ m → (l : ℕ) → first.value.length ≡ l → Exists img text (a_node (sequence a b)) p
+      go : (m : Bool) → first.value.matched ≡ m → (l : ℕ) → first.value.length ≡ l → Exists img text (a_node (Sequence a b)) p
       go false e l k = record { value = first_failed first.value; evaluated = ev_then_first_fails first.evaluated e refl }
       go true e zero k =
           let second = here (shows_0 first.evaluated e k) in
@@ -65,10 +67,10 @@ module _ {img text : List ℕ} where
       {a b p : ℕ}
       → Exists img text (a_node (node img a)) p
       → Exists img text (a_node (node img b)) p
-      → Exists img text (a_node (choice a b)) p
+      → Exists img text (a_node (Choice a b)) p
   else_exists {a} {b} {p} first second = go first.value.matched refl
     where
-      go : (m : Bool) → first.value.matched ≡ m → Exists img text (a_node (choice a b)) p
+      go : (m : Bool) → first.value.matched ≡ m → Exists img text (a_node (Choice a b)) p
       go true e = record { value = taken_over first.value; evaluated = ev_else_first first.evaluated e refl }
       go false e =
           record {
@@ -82,11 +84,11 @@ module _ {img text : List ℕ} where
       → p ≤ length text
       → (Has img (node img a) matches_empty → ⊥)
       → Exists img text (a_node (node img a)) p
-      → ((q : ℕ) → q ≤ length text → p < q → Exists img text (a_node (star a)) q)
-      → Exists img text (a_node (star a)) p
+      → ((q : ℕ) → q ≤ length text → p < q → Exists img text (a_node (Star a)) q)
+      → Exists img text (a_node (Star a)) p
   star_exists {a} {p} h lacks round later = go round.value.matched refl round.value.length refl
     where
-      go : (m : Bool) → round.value.matched ≡ m → (l : ℕ) → round.value.length ≡ l → Exists img text (a_node (star a)) p
+      go : (m : Bool) → round.value.matched ≡ m → (l : ℕ) → round.value.length ≡ l → Exists img text (a_node (Star a)) p
       go false e l k =
           record {
             value = taken_over (last_round round.value);
@@ -132,7 +134,7 @@ module _ (img text : List ℕ) (accepted : Accepted img) where
       let words = accepted.lawful.words in
       star_exists h lacks
       (further m before w (refers img words a r) p h l)
-      (λ q k d. before (star a) (wf_star w lacks) r q k (omega arith))
+      (λ q k d. before (Star a) (wf_star w lacks) r q k (omega arith))
   further m before (wf_not {a} w) r p h l =
       let words = accepted.lawful.words in
       let inner = further m before w (refers img words a r) p h l in

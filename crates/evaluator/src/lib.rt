@@ -6,7 +6,7 @@
 #![tactic(auto)]
 
 ghost use Rattle.std.specs.Prelude.{◌≡◌, ◌+◌, ◌-◌, ◌<◌, length};
-ghost use Rattle.grammar.specs.Image.{sequence, choice, star, not_predicate, call};
+ghost use Rattle.grammar.specs.declared.node.Node.TheVariants.{Sequence, Choice, Star, NotPredicate, Call};
 ghost use Rattle.packrat.specs.Model.{pair_m};
 ghost use Rattle.packrat.specs.Loaded.{rules_in, node_w, word_m, kind_w};
 ghost use Rattle.packrat.specs.Gives.{Ready, Gives};
@@ -100,7 +100,7 @@ fn eval_sequence(
     left: usize,
 ) -> u64
     requires { Ready text.now.now at (left + 1) × (a < 4096) × (b < 4096) }
-    ensures { Gives (length text.now.now) at (left + 1) (kind_w words.now text.now.now left b (sequence a b) at table.old count.old) result table.new count.new }
+    ensures { Gives (length text.now.now) at (left + 1) (kind_w words.now text.now.now left b (Sequence a b) at table.old count.old) result table.new count.new }
 {
     let x = eval_node(words, text, table, count, a, at, left);
     if x < numbers::BOUND {
@@ -137,7 +137,7 @@ fn eval_choice(
     left: usize,
 ) -> u64
     requires { Ready text.now.now at (left + 1) × (a < 4096) × (b < 4096) }
-    ensures { Gives (length text.now.now) at (left + 1) (kind_w words.now text.now.now left b (choice a b) at table.old count.old) result table.new count.new }
+    ensures { Gives (length text.now.now) at (left + 1) (kind_w words.now text.now.now left b (Choice a b) at table.old count.old) result table.new count.new }
 {
     let x = eval_node(words, text, table, count, a, at, left);
     if x < numbers::BOUND {
@@ -165,7 +165,7 @@ fn eval_not(
     left: usize,
 ) -> u64
     requires { Ready text.now.now at (left + 1) × (a < 4096) }
-    ensures { Gives (length text.now.now) at (left + 1) (kind_w words.now text.now.now left 0 (not_predicate a) at table.old count.old) result table.new count.new }
+    ensures { Gives (length text.now.now) at (left + 1) (kind_w words.now text.now.now left 0 (NotPredicate a) at table.old count.old) result table.new count.new }
 {
     let x = eval_node(words, text, table, count, a, at, left);
     if x < numbers::BOUND {
@@ -186,7 +186,7 @@ fn eval_star(
     left: usize,
 ) -> u64
     requires { Ready text.now.now at (left + 1) × (a < 4096) }
-    ensures { Gives (length text.now.now) at (left + 1) (kind_w words.now text.now.now left 0 (star a) at table.old count.old) result table.new count.new }
+    ensures { Gives (length text.now.now) at (left + 1) (kind_w words.now text.now.now left 0 (Star a) at table.old count.old) result table.new count.new }
 {
     let mut consumed = 0usize;
     let mut examined = 0usize;
@@ -222,7 +222,7 @@ fn eval_call(
     left: usize,
 ) -> u64
     requires { Ready text.now.now at (left + 1) × (rule < 4096) × (root < 4096) }
-    ensures { Gives (length text.now.now) at (left + 1) (kind_w words.now text.now.now left root (call rule) at table.old count.old) result table.new count.new }
+    ensures { Gives (length text.now.now) at (left + 1) (kind_w words.now text.now.now left root (Call rule) at table.old count.old) result table.new count.new }
 {
     let x = eval_rule(words, text, table, count, rule, root, at, left);
     if x < numbers::BOUND {

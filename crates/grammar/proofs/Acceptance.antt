@@ -5,7 +5,8 @@ use native.Mathlib.Omega.{arith}
 use mathlib.Core.Path.{◌≡◌, refl}
 use mathlib.Core.List.{List, [], ◌∷◌}
 use mathlib.Core.Logic.{inl, inr, ◌↔◌}
-use Rattle.grammar.specs.Image.{star, node}
+use Rattle.grammar.specs.declared.node.Node.TheVariants.{Star}
+use Rattle.grammar.specs.Image.{node}
 use Rattle.grammar.specs.Outcomes.{Has, matches_empty}
 use Rattle.grammar.specs.WellFormed.{WellFormed, wf_star}
 use Rattle.grammar.specs.Questions.{Question6, Question7, First, Checked, Lawful, Accepted, of_lawful, of_image}
@@ -58,7 +59,7 @@ lawful_at_0 img (inr (q1, inr (q2, inr (q3, inr (q4, inr (q5, e)))))) =
     record { header = q1; counts = q2; size = q3; words = q4; tree = q5 }
 
 -- A star in the well-formed set has a body that lacks outcome 0.
-star_lacks_0 : {img : List ℕ} {a : ℕ} → WellFormed img (star a) → Has img (node img a) matches_empty → ⊥
+star_lacks_0 : {img : List ℕ} {a : ℕ} → WellFormed img (Star a) → Has img (node img a) matches_empty → ⊥
 star_lacks_0 (wf_star w lacks) = lacks
 
 pub stars_of_formed : {img : List ℕ} → Question7 img → Question6 img

@@ -10,7 +10,8 @@ use mathlib.Core.Path.{◌≡◌, refl, ap, ◌∙◌}
 use mathlib.Core.Bool.{Bool, true, false, ◌||◌, cond}
 use mathlib.Core.List.{List}
 use Rattle.grammar.proofs.Between.{bounds, inside, outside}
-use Rattle.grammar.specs.Image.{range, folded, fold_bit, kind, node_zero}
+use Rattle.grammar.specs.declared.node.Terminal.TheVariants.{Range, Folded}
+use Rattle.grammar.specs.Image.{fold_bit, kind, node_zero}
 use Rattle.grammar.specs.Questions.{LawfulNode}
 use Rattle.grammar.specs.Between.{between}
 use Rattle.grammar.specs.Terminal.{other_case, accepts}
@@ -52,11 +53,11 @@ other_twice byte = go (between 65 90 byte) refl (between 97 122 byte) refl
     go false e false f = ap other_case (of_no_letter byte e f) ∙ of_no_letter byte e f
 
 module _ (from to byte : ℕ) where
-  pub still_taken : accepts (range from to) byte ≡ true → accepts (folded from to) byte ≡ true
+  pub still_taken : accepts (Range from to) byte ≡ true → accepts (Folded from to) byte ≡ true
   unfolding accepts
   still_taken e = simp e
 
-  pub either_case : accepts (folded from to) (other_case byte) ≡ accepts (folded from to) byte
+  pub either_case : accepts (Folded from to) (other_case byte) ≡ accepts (Folded from to) byte
   unfolding accepts
   either_case =
       ap (λ (x : ℕ). between from to (other_case byte) || between from to x) (other_twice byte)
@@ -69,7 +70,7 @@ module _ (from to byte : ℕ) where
       swapped false false = refl
 
   pub no_letter :
-      between 65 90 byte ≡ false → between 97 122 byte ≡ false → accepts (folded from to) byte ≡ accepts (range from to) byte
+      between 65 90 byte ≡ false → between 97 122 byte ≡ false → accepts (Folded from to) byte ≡ accepts (Range from to) byte
   unfolding accepts
   no_letter e f =
       ap (λ (x : ℕ). between from to byte || between from to x) (of_no_letter byte e f) ∙ once (between from to byte)

@@ -5,69 +5,72 @@ use borrow.Author.Tests.{eq-eqb, ne_eqb}
 use mathlib.Core.Path.{◌≡◌, refl, sym, ap, ◌∙◌}
 use mathlib.Core.Bool.{Bool, cond}
 use lib.ListN.{get_or, get_or-eq_default}
-use Rattle.grammar.specs.declared.NodeFields.{NodeFields}
-use Rattle.grammar.specs.Image.{by_kind, node_of, fold_bit, range_by, byte_range, Terminal, any, range, folded}
-use Rattle.grammar.specs.Image.{Node, empty, terminal, sequence, choice, star, not_predicate, call, unlawful}
+use Rattle.grammar.specs.declared.node.NodeFields.{NodeFields}
+use Rattle.grammar.specs.declared.node.Terminal.{Terminal}
+use Rattle.grammar.specs.declared.node.Terminal.TheVariants.{Any, Range, Folded}
+use Rattle.grammar.specs.Image.{by_kind, node_of, fold_bit, range_by, byte_range}
+use Rattle.grammar.specs.declared.node.Node.{Node}
+use Rattle.grammar.specs.declared.node.Node.TheVariants.{Empty, Text, Sequence, Choice, Star, NotPredicate, Call, Unlawful}
 
 -- Kind 2 with the fold bit and without.
 module _ (bits from to : ℕ) where
   by_bit : Bool → Terminal
-  by_bit b = cond b (folded from to) (range from to)
+  by_bit b = cond b (Folded from to) (Range from to)
 
-  pub with_bit : fold_bit bits ≡ 1 → range_by bits from to ≡ folded from to
+  pub with_bit : fold_bit bits ≡ 1 → range_by bits from to ≡ Folded from to
   unfolding by_bit
   with_bit e = ap by_bit (eq-eqb (fold_bit bits) 1 e)
 
-  pub without_bit : (fold_bit bits ≡ 1 → ⊥) → range_by bits from to ≡ range from to
+  pub without_bit : (fold_bit bits ≡ 1 → ⊥) → range_by bits from to ≡ Range from to
   unfolding by_bit
   without_bit e = ap by_bit (ne_eqb (fold_bit bits) 1 e)
 
 module _ (f : NodeFields) where
-  of_kind : {k : ℕ} → f.kind ≡ k → node_of f ≡ get_or (by_kind f) k unlawful
+  of_kind : {k : ℕ} → f.kind ≡ k → node_of f ≡ get_or (by_kind f) k Unlawful
   unfolding node_of
-  of_kind e = ap (λ (k : ℕ). get_or (by_kind f) k unlawful) e
+  of_kind e = ap (λ (k : ℕ). get_or (by_kind f) k Unlawful) e
 
-  pub is_empty : f.kind ≡ 0 → node_of f ≡ empty
+  pub is_empty : f.kind ≡ 0 → node_of f ≡ Empty
   is_empty e = of_kind e
 
-  pub is_any : f.kind ≡ 1 → node_of f ≡ terminal any
+  pub is_any : f.kind ≡ 1 → node_of f ≡ Text Any
   is_any e = of_kind e
 
-  pub is_range : f.kind ≡ 2 → node_of f ≡ terminal (byte_range f)
+  pub is_range : f.kind ≡ 2 → node_of f ≡ Text (byte_range f)
   is_range e = of_kind e
 
-  pub is_plain_range : f.kind ≡ 2 → fold_bit f.zero ≡ 0 → node_of f ≡ terminal (range f.a f.b)
-  is_plain_range e z = is_range e ∙ ap terminal (without_bit f.zero f.a f.b (λ o. omega arith))
+  pub is_plain_range : f.kind ≡ 2 → fold_bit f.zero ≡ 0 → node_of f ≡ Text (Range f.a f.b)
+  is_plain_range e z = is_range e ∙ ap Text (without_bit f.zero f.a f.b (λ o. omega arith))
 
-  pub is_sequence : f.kind ≡ 3 → node_of f ≡ sequence f.a f.b
+  pub is_sequence : f.kind ≡ 3 → node_of f ≡ Sequence f.a f.b
   is_sequence e = of_kind e
 
-  pub is_choice : f.kind ≡ 4 → node_of f ≡ choice f.a f.b
+  pub is_choice : f.kind ≡ 4 → node_of f ≡ Choice f.a f.b
   is_choice e = of_kind e
 
-  pub is_star : f.kind ≡ 5 → node_of f ≡ star f.a
+  pub is_star : f.kind ≡ 5 → node_of f ≡ Star f.a
   is_star e = of_kind e
 
-  pub is_not : f.kind ≡ 6 → node_of f ≡ not_predicate f.a
+  pub is_not : f.kind ≡ 6 → node_of f ≡ NotPredicate f.a
   is_not e = of_kind e
 
-  pub is_call : f.kind ≡ 7 → node_of f ≡ call f.a
+  pub is_call : f.kind ≡ 7 → node_of f ≡ Call f.a
   is_call e = of_kind e
 
-  pub is_unlawful : 8 ≤ f.kind → node_of f ≡ unlawful
+  pub is_unlawful : 8 ≤ f.kind → node_of f ≡ Unlawful
   unfolding node_of
-  is_unlawful h = get_or-eq_default (by_kind f) unlawful h
+  is_unlawful h = get_or-eq_default (by_kind f) Unlawful h
 
 -- The kind of a node, read back from it, which 1 and 2 need not be.
 abbrev kind_of : Node → ℕ
-kind_of empty = 0
-kind_of (terminal t) = 1
-kind_of (sequence a b) = 3
-kind_of (choice a b) = 4
-kind_of (star a) = 5
-kind_of (not_predicate a) = 6
-kind_of (call r) = 7
-kind_of unlawful = 8
+kind_of Empty = 0
+kind_of (Text t) = 1
+kind_of (Sequence a b) = 3
+kind_of (Choice a b) = 4
+kind_of (Star a) = 5
+kind_of (NotPredicate a) = 6
+kind_of (Call r) = 7
+kind_of Unlawful = 8
 
 read_back : (f : NodeFields) → 3 ≤ kind_of (node_of f) → kind_of (node_of f) ≡ min f.kind 8
 read_back f = go f.kind refl
@@ -84,25 +87,25 @@ read_back f = go f.kind refl
     go (suc (suc (suc (suc (suc (suc (suc (suc k)))))))) e h = ap kind_of (is_unlawful f (omega arith)) ∙ omega arith
 
 module _ (f : NodeFields) where
-  pub kind_of_star : {a : ℕ} → node_of f ≡ star a → f.kind ≡ 5
+  pub kind_of_star : {a : ℕ} → node_of f ≡ Star a → f.kind ≡ 5
   kind_of_star e = let k = ap kind_of e in omega (arith, read_back f (omega arith))
 
-  pub kind_of_call : {r : ℕ} → node_of f ≡ call r → f.kind ≡ 7
+  pub kind_of_call : {r : ℕ} → node_of f ≡ Call r → f.kind ≡ 7
   kind_of_call e = let k = ap kind_of e in omega (arith, read_back f (omega arith))
 
-  pub kind_of_unlawful : node_of f ≡ unlawful → 8 ≤ f.kind
+  pub kind_of_unlawful : node_of f ≡ Unlawful → 8 ≤ f.kind
   kind_of_unlawful e = let k = ap kind_of e in omega (arith, read_back f (omega arith))
 
 -- The rule that a node calls, read back from it.
 abbrev called_by : Node → ℕ
-called_by empty = 0
-called_by (terminal t) = 0
-called_by (sequence a b) = 0
-called_by (choice a b) = 0
-called_by (star a) = 0
-called_by (not_predicate a) = 0
-called_by (call r) = r
-called_by unlawful = 0
+called_by Empty = 0
+called_by (Text t) = 0
+called_by (Sequence a b) = 0
+called_by (Choice a b) = 0
+called_by (Star a) = 0
+called_by (NotPredicate a) = 0
+called_by (Call r) = r
+called_by Unlawful = 0
 
-pub rule_of_call : (f : NodeFields) {r : ℕ} → node_of f ≡ call r → f.a ≡ r
+pub rule_of_call : (f : NodeFields) {r : ℕ} → node_of f ≡ Call r → f.a ≡ r
 rule_of_call f e = ap called_by (sym (is_call f (kind_of_call f e)) ∙ e)

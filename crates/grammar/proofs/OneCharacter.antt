@@ -16,7 +16,8 @@ use lib.Seq.{take-suc, take_all, length-take-le, get_or-append_seam, append_snoc
 use Rattle.grammar.proofs.Characters.{its_line}
 use Rattle.grammar.proofs.Terminals.{has_there, has_in_text, suffix}
 use Rattle.grammar.specs.declared.Evaluation.{Evaluation}
-use Rattle.grammar.specs.Image.{byte_at, any}
+use Rattle.grammar.specs.declared.node.Terminal.TheVariants.{Any}
+use Rattle.grammar.specs.Image.{byte_at}
 use Rattle.grammar.specs.Characters.{Octets, is_in, Line, begins, tail, table, later_in, later_bytes}
 use Rattle.grammar.specs.Terminal.{accepts, later_of, has_at, taken, alone, continued, not_taken, terminal_at}
 use Rattle.grammar.specs.OneCharacter.{IsOne, here, further, Fit, none_left, one_more, LawfulCharacter, lawful}
@@ -223,10 +224,10 @@ along text looked done (next ∷ later) line begun in_text earlier =
     (along text (looked + 1) (done ++ (next ∷ [])) later (rw (append_snoc done next later) line))
 
 -- Before the end, "any" goes along the later bytes of the byte there.
-any_at : (byte : ℕ) (others : List ℕ) → terminal_at any (byte ∷ others) 0 ≡ continued (later_bytes byte) (byte ∷ others) 0 1
+any_at : (byte : ℕ) (others : List ℕ) → terminal_at Any (byte ∷ others) 0 ≡ continued (later_bytes byte) (byte ∷ others) 0 1
 unfolding terminal_at accepts later_of
 any_at byte others =
-    ap (λ (b : Bool). cond b (continued (later_bytes byte) (byte ∷ others) 0 1) not_taken) (has_there (accepts any) (byte ∷ others) 0 (omega arith))
+    ap (λ (b : Bool). cond b (continued (later_bytes byte) (byte ∷ others) 0 1) not_taken) (has_there (accepts Any) (byte ∷ others) 0 (omega arith))
 
 -- A byte that is in no line begins nothing, and is taken alone.
 in_no_line : (byte : ℕ) (others : List ℕ) → InNone table byte → OneCharacter (byte ∷ others) (taken 1 1)
@@ -240,7 +241,7 @@ in_no_line byte others n =
     begins-none b = unlawful b.rest b.whole
 
 -- At the start of a text,
-at-start : (text : List ℕ) → 0 < length text → OneCharacter text (terminal_at any text 0)
+at-start : (text : List ℕ) → 0 < length text → OneCharacter text (terminal_at Any text 0)
 unfolding later_bytes
 at-start [] h = absurd (omega arith)
 at-start (byte ∷ others) h = rw (any_at byte others) (go (later_bytes byte) (find table byte))
@@ -250,13 +251,13 @@ at-start (byte ∷ others) h = rw (any_at byte others) (go (later_bytes byte) (f
     go later (in_none z n) = rw z (in_no_line byte others n)
 
 -- and at any position before its end.
-pub one_character : (text : List ℕ) (p : ℕ) → p < length text → OneCharacter (drop p text) (terminal_at any text p)
+pub one_character : (text : List ℕ) (p : ℕ) → p < length text → OneCharacter (drop p text) (terminal_at Any text p)
 one_character text p h = subst (OneCharacter (drop p text)) same (at-start (drop p text) (let l = length-drop p text in omega arith))
   where
-    same : terminal_at any (drop p text) 0 ≡ terminal_at any text p
+    same : terminal_at Any (drop p text) 0 ≡ terminal_at Any text p
     same =
-        sym (suffix any (take p text) (drop p text) 0)
-        ∙ ap₂ (λ (bytes : List ℕ) (k : ℕ). terminal_at any bytes k)
+        sym (suffix Any (take p text) (drop p text) 0)
+        ∙ ap₂ (λ (bytes : List ℕ) (k : ℕ). terminal_at Any bytes k)
         (take-append-drop p text)
         (let l = length-take-le p text (omega arith) in let e : length (take p text) + 0 ≡ p = omega arith in e)
 
@@ -289,10 +290,10 @@ all_taken seen after (one_more {octets = next} {ranges = later} {byte = byte} {b
 pub lawful_taken :
     (before character after : List ℕ)
     → LawfulCharacter character
-    → terminal_at any (before ++ (character ++ after)) (length before) ≡ taken (length character) (length character)
+    → terminal_at Any (before ++ (character ++ after)) (length before) ≡ taken (length character) (length character)
 lawful_taken before character after (lawful line (one_more {byte = byte} {bytes = bytes} h f)) =
-    ap (terminal_at any (before ++ (byte ∷ (bytes ++ after)))) (let e : length before ≡ length before + 0 = omega arith in e)
-    ∙ suffix any before (byte ∷ (bytes ++ after)) 0
+    ap (terminal_at Any (before ++ (byte ∷ (bytes ++ after)))) (let e : length before ≡ length before + 0 = omega arith in e)
+    ∙ suffix Any before (byte ∷ (bytes ++ after)) 0
     ∙ any_at byte (bytes ++ after)
     ∙ ap (λ (later : List Octets). continued later (byte ∷ (bytes ++ after)) 0 1) (its_line byte line h)
     ∙ all_taken (byte ∷ []) after f

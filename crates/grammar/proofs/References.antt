@@ -5,20 +5,21 @@ use native.Mathlib.Omega.{arith}
 use mathlib.Core.Path.{◌≡◌}
 use mathlib.Core.List.{List}
 use Rattle.grammar.specs.Image.{rules, nodes, root, fields_at, kind, node}
-use Rattle.grammar.specs.Image.{Node, empty, terminal, sequence, choice, star, not_predicate, call, unlawful}
+use Rattle.grammar.specs.declared.node.Node.{Node}
+use Rattle.grammar.specs.declared.node.Node.TheVariants.{Empty, Text, Sequence, Choice, Star, NotPredicate, Call, Unlawful}
 use Rattle.grammar.specs.Questions.{Question4}
 use Rattle.grammar.proofs.Nodes.{is_empty, is_any, is_range, is_sequence, is_choice, is_star, is_not, is_call, is_unlawful}
 
 -- The node refers only to nodes and rules of the image.
 abbrev pub Refers : List ℕ → Node → Type 0
-Refers img empty = Unit {0}
-Refers img (terminal t) = Unit {0}
-Refers img (sequence a b) = (a < nodes img) × (b < nodes img)
-Refers img (choice a b) = (a < nodes img) × (b < nodes img)
-Refers img (star a) = a < nodes img
-Refers img (not_predicate a) = a < nodes img
-Refers img (call r) = r < rules img
-Refers img unlawful = Unit {0}
+Refers img Empty = Unit {0}
+Refers img (Text t) = Unit {0}
+Refers img (Sequence a b) = (a < nodes img) × (b < nodes img)
+Refers img (Choice a b) = (a < nodes img) × (b < nodes img)
+Refers img (Star a) = a < nodes img
+Refers img (NotPredicate a) = a < nodes img
+Refers img (Call r) = r < rules img
+Refers img Unlawful = Unit {0}
 
 module _ (img : List ℕ) (words : Question4 img) where
   pub root_in_range : (r : ℕ) → r < rules img → root img r < nodes img

@@ -18,7 +18,9 @@ use lib.Seq.{get_or-take, get_or-append-add}
 use Rattle.grammar.proofs.Bools.{both}
 use Rattle.grammar.proofs.Characters.{few_later}
 use Rattle.grammar.specs.declared.Evaluation.{Evaluation}
-use Rattle.grammar.specs.Image.{byte_at, Terminal, any, range, folded}
+use Rattle.grammar.specs.declared.node.Terminal.{Terminal}
+use Rattle.grammar.specs.declared.node.Terminal.TheVariants.{Any, Range, Folded}
+use Rattle.grammar.specs.Image.{byte_at}
 use Rattle.grammar.specs.Characters.{Octets, is_in}
 use Rattle.grammar.specs.Terminal.{accepts, later_of, has_at, taken, alone, continued, not_taken, terminal_at}
 
@@ -184,19 +186,19 @@ continued_few text p (next ∷ later) looked h =
     (λ e. record { some_taken = λ e. omega arith; few_taken = omega arith; few_examined = omega arith; no_depth = refl })
 
 -- Kind 2 has no later bytes, kind 1 at most three.
-pub range_alone : (from to first : ℕ) → later_of (range from to) first ≡ []
+pub range_alone : (from to first : ℕ) → later_of (Range from to) first ≡ []
 unfolding later_of
 range_alone from to first = refl
 
-pub folded_alone : (from to first : ℕ) → later_of (folded from to) first ≡ []
+pub folded_alone : (from to first : ℕ) → later_of (Folded from to) first ≡ []
 unfolding later_of
 folded_alone from to first = refl
 
 few_later_of : (t : Terminal) (first : ℕ) → length (later_of t first) ≤ 3
 unfolding later_of
-few_later_of any first = few_later first
-few_later_of (range from to) first = let e = ap length (range_alone from to first) in omega arith
-few_later_of (folded from to) first = let e = ap length (folded_alone from to first) in omega arith
+few_later_of Any first = few_later first
+few_later_of (Range from to) first = let e = ap length (range_alone from to first) in omega arith
+few_later_of (Folded from to) first = let e = ap length (folded_alone from to first) in omega arith
 
 -- "of 1 to 4 bytes" (02, R-5)
 pub at_most_four : (t : Terminal) (text : List ℕ) (p : ℕ) → Few 4 (terminal_at t text p)

@@ -3,7 +3,10 @@
 -- The paper evaluates at positions 0 to n. The relation does not ask that: whoever takes a position from elsewhere asks it.
 use Rattle.std.specs.Prelude.{ℕ, ◌+◌, max, ◌≡◌, Bool, true, false, not, List}
 use Rattle.grammar.specs.declared.Evaluation.{Evaluation}
-use Rattle.grammar.specs.Image.{Terminal, Node, empty, terminal, sequence, choice, star, not_predicate, call, node, body}
+use Rattle.grammar.specs.declared.node.Node.{Node}
+use Rattle.grammar.specs.declared.node.Terminal.{Terminal}
+use Rattle.grammar.specs.declared.node.Node.TheVariants.{Empty, Text, Sequence, Choice, Star, NotPredicate, Call}
+use Rattle.grammar.specs.Image.{node, body}
 use Rattle.grammar.specs.Terminal.{terminal_at}
 
 -- "Empty: length 0, examined 0." Nesting is "1 if there are none" inside.
@@ -89,17 +92,17 @@ pub data Subject : Type 0 where
 -- the evaluation z.
 pub data Evaluates (img text : List ℕ) (answers : ℕ → ℕ → CallAnswer) : Subject → ℕ → Evaluation → Type 0 where
   -- empty
-  ev_empty : {p : ℕ} {z : Evaluation} → z ≡ empty_here → Evaluates img text answers (a_node empty) p z
+  ev_empty : {p : ℕ} {z : Evaluation} → z ≡ empty_here → Evaluates img text answers (a_node Empty) p z
   -- any, byte from A to B
   ev_terminal :
-      {t : Terminal} {p : ℕ} {z : Evaluation} → z ≡ terminal_at t text p → Evaluates img text answers (a_node (terminal t)) p z
+      {t : Terminal} {p : ℕ} {z : Evaluation} → z ≡ terminal_at t text p → Evaluates img text answers (a_node (Text t)) p z
   -- A then B, A fails
   ev_then_first_fails :
       {a b p : ℕ} {x z : Evaluation}
       → Evaluates img text answers (a_node (node img a)) p x
       → x.matched ≡ false
       → z ≡ first_failed x
-      → Evaluates img text answers (a_node (sequence a b)) p z
+      → Evaluates img text answers (a_node (Sequence a b)) p z
   -- A then B, A matches
   ev_then :
       {a b p : ℕ} {x y z : Evaluation}
@@ -107,14 +110,14 @@ pub data Evaluates (img text : List ℕ) (answers : ℕ → ℕ → CallAnswer) 
       → x.matched ≡ true
       → Evaluates img text answers (a_node (node img b)) (p + x.length) y
       → z ≡ in_sequence x y
-      → Evaluates img text answers (a_node (sequence a b)) p z
+      → Evaluates img text answers (a_node (Sequence a b)) p z
   -- A else B, A matches
   ev_else_first :
       {a b p : ℕ} {x z : Evaluation}
       → Evaluates img text answers (a_node (node img a)) p x
       → x.matched ≡ true
       → z ≡ taken_over x
-      → Evaluates img text answers (a_node (choice a b)) p z
+      → Evaluates img text answers (a_node (Choice a b)) p z
   -- A else B, A fails
   ev_else_second :
       {a b p : ℕ} {x y z : Evaluation}
@@ -122,13 +125,13 @@ pub data Evaluates (img text : List ℕ) (answers : ℕ → ℕ → CallAnswer) 
       → x.matched ≡ false
       → Evaluates img text answers (a_node (node img b)) p y
       → z ≡ second_choice x y
-      → Evaluates img text answers (a_node (choice a b)) p z
+      → Evaluates img text answers (a_node (Choice a b)) p z
   -- A zero or more times: its rounds
   ev_star :
       {a p : ℕ} {x z : Evaluation}
       → Evaluates img text answers (rounds_of a) p x
       → z ≡ taken_over x
-      → Evaluates img text answers (a_node (star a)) p z
+      → Evaluates img text answers (a_node (Star a)) p z
   -- a round that fails is the last
   ev_last_round :
       {a p : ℕ} {x z : Evaluation}
@@ -149,13 +152,13 @@ pub data Evaluates (img text : List ℕ) (answers : ℕ → ℕ → CallAnswer) 
       {a p : ℕ} {x z : Evaluation}
       → Evaluates img text answers (a_node (node img a)) p x
       → z ≡ negated x
-      → Evaluates img text answers (a_node (not_predicate a)) p z
+      → Evaluates img text answers (a_node (NotPredicate a)) p z
   -- call of rule A: "For a call the body is inside."
   ev_call :
       {r p : ℕ} {x z : Evaluation}
       → Evaluates img text answers (a_pair r) p x
       → z ≡ taken_over x
-      → Evaluates img text answers (a_node (call r)) p z
+      → Evaluates img text answers (a_node (Call r)) p z
   -- "A pair is (rule, position); its evaluation is the body's there."
   ev_body :
       {r p : ℕ} {z : Evaluation}

@@ -2,7 +2,11 @@
 -- A byte string is a list of numbers; a byte past its end reads as 0. The questions on an image ask for its length before they
 -- look at a field that could lie past the end.
 use Rattle.std.specs.Prelude.{ℕ, ◌+◌, ◌*◌, ◌/◌, ◌%◌, ◌^◌, cond, List, [], ◌∷◌, get_or, eqb}
-use Rattle.grammar.specs.declared.NodeFields.{NodeFields}
+use Rattle.grammar.specs.declared.node.NodeFields.{NodeFields}
+use Rattle.grammar.specs.declared.node.Node.{Node}
+use Rattle.grammar.specs.declared.node.Node.TheVariants.{Empty, Text, Sequence, Choice, Star, NotPredicate, Call, Unlawful}
+use Rattle.grammar.specs.declared.node.Terminal.{Terminal}
+use Rattle.grammar.specs.declared.node.Terminal.TheVariants.{Any, Range, Folded}
 
 -- The byte at a place of a byte string.
 abbrev pub byte_at : List ℕ → ℕ → ℕ
@@ -66,31 +70,13 @@ field_a img n = (fields_at img n).a
 abbrev pub field_b : List ℕ → ℕ → ℕ
 field_b img n = (fields_at img n).b
 
--- The kinds that look at the text itself: "1 any byte", of which 02, R-5, makes one character; "2 byte from A to B inclusive", and kind 2
--- with the fold bit set.
-pub data Terminal : Type 0 where
-  any : Terminal
-  range : (from to : ℕ) → Terminal
-  folded : (from to : ℕ) → Terminal
-
--- What a node's word stands for. A number in it is a child node, or the called rule; `unlawful` is a kind above 7.
-pub data Node : Type 0 where
-  empty : Node
-  terminal : Terminal → Node
-  sequence : (first second : ℕ) → Node
-  choice : (first second : ℕ) → Node
-  star : (child : ℕ) → Node
-  not_predicate : (child : ℕ) → Node
-  call : (rule : ℕ) → Node
-  unlawful : Node
-
 -- "The lowest of a node's four zero bits becomes a fold bit for kind 2." (02, R-1, which coins the term)
 abbrev pub fold_bit : (zero_bits : ℕ) → ℕ
 fold_bit bits = bits % 2
 
 -- Kind 2: "byte from A to B inclusive", folded where the fold bit is set.
 abbrev pub range_by : (zero_bits from to : ℕ) → Terminal
-range_by bits from to = cond (eqb (fold_bit bits) 1) (folded from to) (range from to)
+range_by bits from to = cond (eqb (fold_bit bits) 1) (Folded from to) (Range from to)
 
 abbrev pub byte_range : NodeFields → Terminal
 byte_range f = range_by f.zero f.a f.b
@@ -99,18 +85,18 @@ byte_range f = range_by f.zero f.a f.b
 -- rule A."
 abbrev pub by_kind : NodeFields → List Node
 by_kind f =
-    empty
-    ∷ terminal any
-    ∷ terminal (byte_range f)
-    ∷ sequence f.a f.b
-    ∷ choice f.a f.b
-    ∷ star f.a
-    ∷ not_predicate f.a
-    ∷ call f.a
+    Empty
+    ∷ Text Any
+    ∷ Text (byte_range f)
+    ∷ Sequence f.a f.b
+    ∷ Choice f.a f.b
+    ∷ Star f.a
+    ∷ NotPredicate f.a
+    ∷ Call f.a
     ∷ []
 
 unfoldable pub node_of : NodeFields → Node
-node_of f = get_or (by_kind f) f.kind unlawful
+node_of f = get_or (by_kind f) f.kind Unlawful
 
 abbrev pub node : List ℕ → ℕ → Node
 node img n = node_of (fields_at img n)
@@ -121,11 +107,11 @@ body img r = node img (root img r)
 
 -- "A and B are child nodes in 3 to 6."
 abbrev pub children : Node → List ℕ
-children empty = []
-children (terminal t) = []
-children (sequence a b) = a ∷ b ∷ []
-children (choice a b) = a ∷ b ∷ []
-children (star a) = a ∷ []
-children (not_predicate a) = a ∷ []
-children (call r) = []
-children unlawful = []
+children Empty = []
+children (Text t) = []
+children (Sequence a b) = a ∷ b ∷ []
+children (Choice a b) = a ∷ b ∷ []
+children (Star a) = a ∷ []
+children (NotPredicate a) = a ∷ []
+children (Call r) = []
+children Unlawful = []

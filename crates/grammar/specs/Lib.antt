@@ -8,5 +8,6 @@ pub mod Characters
 pub mod Terminal
 pub mod OneCharacter
 pub mod Evaluates
+pub mod Refusals
 pub mod Questions
 pub mod Tests

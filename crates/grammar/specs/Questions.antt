@@ -3,7 +3,8 @@
 -- Here are `First` and questions 1 to 7, which ask about the image.
 use Rattle.std.specs.Prelude.{ℕ, suc, zero, ◌+◌, ◌*◌, ◌≤◌, ◌<◌, ◌≡◌, List, [], ◌∷◌, ◌++◌, ◌⊎◌, length, Bool, true, false, eqb}
 use Rattle.grammar.specs.Image.{edition, rules, nodes, start, rule_zero, root, kind, node_zero, field_a, field_b}
-use Rattle.grammar.specs.Image.{star, node, children}
+use Rattle.grammar.specs.declared.node.Node.TheVariants.{Star}
+use Rattle.grammar.specs.Image.{node, children}
 use Rattle.grammar.specs.Outcomes.{Has, matches_empty}
 use Rattle.grammar.specs.WellFormed.{WellFormed}
 
@@ -83,7 +84,7 @@ pub record Question5 (img : List ℕ) : Type 0 where
 
 -- "6. Does every star's body lack outcome 0?"
 pub record Question6 (img : List ℕ) : Type 0 where
-  pub stars : (n a : ℕ) → n < nodes img → node img n ≡ star a → Has img (node img a) matches_empty → ⊥
+  pub stars : (n a : ℕ) → n < nodes img → node img n ≡ Star a → Has img (node img a) matches_empty → ⊥
 
 -- "7. Is every node in the well-formed set?"
 pub record Question7 (img : List ℕ) : Type 0 where

@@ -2,7 +2,9 @@
 -- `terminal_at`; the theorems use its laws (proofs/Terminals.antt) and not its definition.
 use Rattle.std.specs.Prelude.{ℕ, ◌+◌, ◌-◌, Bool, true, false, ◌&&◌, ◌||◌, cond, List, [], ◌∷◌, length, ltb}
 use Rattle.grammar.specs.declared.Evaluation.{Evaluation}
-use Rattle.grammar.specs.Image.{byte_at, Terminal, any, range, folded}
+use Rattle.grammar.specs.declared.node.Terminal.{Terminal}
+use Rattle.grammar.specs.declared.node.Terminal.TheVariants.{Any, Range, Folded}
+use Rattle.grammar.specs.Image.{byte_at}
 use Rattle.grammar.specs.Between.{between}
 use Rattle.grammar.specs.Characters.{Octets, is_in, later_bytes}
 
@@ -15,15 +17,15 @@ other_case byte = cond (between 65 90 byte) (byte + 32) (cond (between 97 122 by
 -- character matches alone" (02, R-5): it may be any byte. "2 byte from A to B inclusive". "With it [the fold bit] set, a byte matches
 -- if it or its other ASCII case is between A and B." (02, R-1)
 unfoldable pub accepts : Terminal → ℕ → Bool
-accepts any byte = true
-accepts (range from to) byte = between from to byte
-accepts (folded from to) byte = between from to byte || between from to (other_case byte)
+accepts Any byte = true
+accepts (Range from to) byte = between from to byte
+accepts (Folded from to) byte = between from to byte || between from to (other_case byte)
 
 -- The later bytes of a match, by its first: those of a character in kind 1, none in kind 2, which is one byte.
 unfoldable pub later_of : Terminal → (first : ℕ) → List Octets
-later_of any first = later_bytes first
-later_of (range from to) first = []
-later_of (folded from to) first = []
+later_of Any first = later_bytes first
+later_of (Range from to) first = []
+later_of (Folded from to) first = []
 
 -- There is a byte at that place of the text, before its end, and it passes a test.
 abbrev pub has_at : (test : ℕ → Bool) (text : List ℕ) (place : ℕ) → Bool

@@ -6,8 +6,9 @@ use mathlib.Core.Bool.{Bool, true, false}
 use mathlib.Core.List.{List}
 use lib.Dec.{eqb}
 use borrow.Author.Tests.{eqb-true, eqb-false, eq-eqb, ne_eqb}
-use Rattle.grammar.specs.declared.NodeFields.{NodeFields}
-use Rattle.grammar.specs.Image.{node_word, fields_of, fields_at, kind, field_a, root, node_of, node, call}
+use Rattle.grammar.specs.declared.node.NodeFields.{NodeFields}
+use Rattle.grammar.specs.declared.node.Node.TheVariants.{Call}
+use Rattle.grammar.specs.Image.{node_word, fields_of, fields_at, kind, field_a, root, node_of, node}
 use Rattle.grammar.proofs.Nodes.{is_call}
 use Rattle.image.specs.Linked.{linked_if, linked_from, linked_word, Linked}
 use Rattle.image.proofs.SameFields.{same_record}
@@ -54,4 +55,4 @@ module _ (img : List ℕ) (n : ℕ) where
           (record { its_kind = l.same_kind; its_zero = l.same_zero; its_a = l.same_a; its_b = l.same_b (eqb-false (kind img n) 7 e) }))
       go true e =
           let seven = eqb-true (kind img n) 7 e in
-          is_call f (l.same_kind ∙ seven) ∙ ap call l.same_a ∙ sym (is_call (fields_at img n) seven)
+          is_call f (l.same_kind ∙ seven) ∙ ap Call l.same_a ∙ sym (is_call (fields_at img n) seven)

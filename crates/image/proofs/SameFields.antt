@@ -2,7 +2,7 @@
 use Prim.Native.Nat.{ℕ}
 use mathlib.Core.Path.{◌≡◌}
 use mathlib.Core.List.{List}
-use Rattle.grammar.specs.declared.NodeFields.{NodeFields}
+use Rattle.grammar.specs.declared.node.NodeFields.{NodeFields}
 use Rattle.grammar.specs.Image.{node_word, fields_of, fields_at}
 use Rattle.image.specs.Fields.{SameFields}
 

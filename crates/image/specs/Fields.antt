@@ -1,7 +1,7 @@
 -- What the readers of an image's words give: each field has the value that the crate `grammar` gives it.
 use Rattle.std.specs.Prelude.{ℕ, ◌≡◌, List}
 use Rattle.grammar.specs.Image.{edition, rules, nodes, start, rule_zero, root}
-use Rattle.grammar.specs.declared.NodeFields.{NodeFields}
+use Rattle.grammar.specs.declared.node.NodeFields.{NodeFields}
 use Rattle.image.specs.declared.Header.{Header}
 use Rattle.image.specs.declared.Rule.{Rule}
 

@@ -1,8 +1,8 @@
 -- The nodes' words as the image check and the readers keep them: a call's field B, which is 0 in a lawful image, is the root of the
 -- called rule.
-use Rattle.std.specs.Prelude.{ℕ, ◌+◌, ◌*◌, ◌/◌, ◌^◌, ◌≡◌, Bool, true, false, List, eqb}
-use Rattle.grammar.specs.declared.NodeFields.{NodeFields}
-use Rattle.grammar.specs.Image.{node_word, fields_of, root, kind, node_zero, field_a, field_b}
+use Rattle.std.specs.Prelude.{ℕ, ◌+◌, ◌*◌, ◌/◌, ◌^◌, ◌≡◌, ◌<◌, ◌≤◌, Bool, true, false, List, eqb, get_or}
+use Rattle.grammar.specs.declared.node.NodeFields.{NodeFields}
+use Rattle.grammar.specs.Image.{nodes, node_word, fields_of, root, kind, node_zero, field_a, field_b}
 
 abbrev pub linked_if : (calls : Bool) (word root : ℕ) → ℕ
 linked_if false word root = word
@@ -21,3 +21,8 @@ pub record Linked (img : List ℕ) (n : ℕ) (f : NodeFields) : Type 0 where
   pub same_a : f.a ≡ field_a img n
   pub same_b : (kind img n ≡ 7 → ⊥) → f.b ≡ field_b img n
   pub root_for_b : kind img n ≡ 7 → f.b ≡ root img (field_a img n)
+
+-- The words of all nodes, and 0 past the last.
+pub record LinkedWords (img words : List ℕ) : Type 0 where
+  pub word_of : (n : ℕ) → n < nodes img → get_or words n 0 ≡ linked_word img n
+  pub past : (n : ℕ) → nodes img ≤ n → get_or words n 0 ≡ 0

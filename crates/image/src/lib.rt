@@ -2,12 +2,12 @@
 // as 0. Which bits are which field is said in the crate `grammar`, specs/Image.antt.
 #![tactic(auto)]
 
-ghost use Rattle.std.specs.Prelude.{◌≡◌, ◌/◌, ◌^◌, ◌<◌};
-ghost use Rattle.grammar.specs.Image.{byte_at, word16, word32, node_word, fields_of, fields_at};
+ghost use Rattle.std.specs.Prelude.{◌≡◌, ◌/◌, ◌^◌, ◌<◌, ◌≤◌};
+ghost use Rattle.grammar.specs.Image.{nodes, byte_at, word16, word32, node_word, fields_of, fields_at, node};
 ghost use Rattle.image.specs.Fields.{HeaderFields, RuleFields, SameFields};
-ghost use Rattle.image.specs.Linked.{linked_from};
+ghost use Rattle.image.specs.Linked.{linked_from, LinkedWords};
 
-use grammar::NodeFields;
+use grammar::{Node, NodeFields};
 
 #[derive(Clone, Copy)]
 pub struct Header {
@@ -23,18 +23,11 @@ pub struct Rule {
     pub root: usize,
 }
 
-// A byte as a number that later sums can use.
-fn wide(byte: u8) -> usize
-    ensures { (result ≡ byte) × (result < 256) }
-{
-    byte as usize
-}
-
 // The byte at a place, 0 past the end.
 fn byte_at(bytes: &[u8], at: usize) -> usize
     ensures { (result ≡ byte_at bytes.now at) × (result < 256) }
 {
-    if at < bytes.len() { wide(bytes[at]) } else { 0 }
+    if at < bytes.len() { usize::from(bytes[at]) } else { 0 }
 }
 
 // The two bytes from a place on as a number, the first byte highest.
@@ -67,10 +60,10 @@ fn word32_at(bytes: &[u8], at: usize) -> usize
     if bytes.len() - 4 < at {
         return partial_word32_at(bytes, at);
     }
-    wide(bytes[at]) * 16777216
-        + wide(bytes[at + 1]) * 65536
-        + wide(bytes[at + 2]) * 256
-        + wide(bytes[at + 3])
+    usize::from(bytes[at]) * 16777216
+        + usize::from(bytes[at + 1]) * 65536
+        + usize::from(bytes[at + 2]) * 256
+        + usize::from(bytes[at + 3])
 }
 
 // The fields of the header.
@@ -111,17 +104,11 @@ pub fn node_word(image: &[u8], node: usize) -> u32
     word32_at(image, 4 + 2 * (header / 1048576 % 256) + 4 * node) as u32
 }
 
-fn wide_word(word: u32) -> usize
-    ensures { result ≡ word }
-{
-    word as usize
-}
-
 // The fields of a word that is a node's.
 pub fn node_of(word: u32) -> NodeFields
     ensures { SameFields result (fields_of word) }
 {
-    let bits = wide_word(word);
+    let bits = word as usize;
     NodeFields {
         kind: bits / 268435456 % 16,
         zero: bits / 16777216 % 16,
@@ -134,7 +121,7 @@ pub fn node_of(word: u32) -> NodeFields
 pub fn first_byte(word: u32) -> usize
     ensures { result ≡ word / 2 ^ 24 }
 {
-    wide_word(word) / 16777216
+    word as usize / 16777216
 }
 
 // It is the kind alone where the zero bits are 0: any, and a byte range without the fold bit.
@@ -149,14 +136,34 @@ pub fn node_at(image: &[u8], node: usize) -> NodeFields
     node_of(node_word(image, node))
 }
 
+// What a node's word stands for.
+pub fn node(image: &[u8], n: usize) -> Node
+    ensures { result ≡ node image.now n }
+{
+    Node::from(node_at(image, n))
+}
+
 // A node's word, a call's with the root of the called rule for field B, which is 0 in a lawful image.
 pub fn linked_word(image: &[u8], word: u32) -> u32
     ensures { result ≡ linked_from image.now word }
 {
     let fields = node_of(word);
-    if fields.kind != 7 {
+    let Node::Call(rule) = Node::from(fields) else {
         return word;
+    };
+    let body = rule_at(image, rule);
+    (word as usize / 4096 * 4096 + body.root) as u32
+}
+
+// The nodes' linked words in an array of N places, 0 in those past the last node.
+pub fn linked_words<const N: usize>(image: &[u8]) -> [u32; N]
+    requires { nodes image.now ≤ N }
+    ensures { LinkedWords image.now result }
+{
+    let header = header_of(image);
+    let mut words = [0u32; N];
+    for (n, word) in words[..header.nodes].iter_mut().enumerate() {
+        *word = linked_word(image, node_word(image, n));
     }
-    let rule = rule_at(image, fields.a);
-    (wide_word(word) / 4096 * 4096 + rule.root) as u32
+    words
 }

@@ -1,12 +1,15 @@
--- What the arrays of the check ask: a child, and a called rule's root, are below 1,024; and the children of a node by its kind.
+-- What the arrays of the check ask: a child, and a called rule's root, are below 1,024; and the children of a node by what it is.
 -- Assumes nothing.
-use Prim.Native.Nat.{ℕ, zero, suc, ◌≤◌, ◌<◌}
+use Prim.Native.Nat.{ℕ, ◌≤◌, ◌<◌}
 use native.Mathlib.Omega.{arith}
 use mathlib.Core.Path.{◌≡◌, refl, ap}
 use mathlib.Core.List.{List, [], ◌∷◌}
-use Rattle.grammar.specs.Image.{rules, nodes, root, fields_at, kind, field_a, field_b, node, children}
+use mathlib.Core.Logic.{◌⊎◌, inl, inr}
+use Rattle.grammar.specs.declared.node.Node.{Node}
+use Rattle.grammar.specs.declared.node.Node.TheVariants.{Empty, Text, Sequence, Choice, Star, NotPredicate, Call, Unlawful}
+use Rattle.grammar.specs.Image.{rules, nodes, root, kind, field_a, field_b, node, children}
 use Rattle.grammar.specs.Questions.{Question2, Question4}
-use Rattle.grammar.proofs.Nodes.{is_empty, is_any, is_range, is_sequence, is_choice, is_star, is_not, is_call}
+use Rattle.grammar.proofs.References.{refers}
 
 -- A child, and a called rule's root, have a place in the arrays.
 module _ (img : List ℕ) (counts : Question2 img) (words : Question4 img) where
@@ -22,40 +25,39 @@ module _ (img : List ℕ) (counts : Question2 img) (words : Question4 img) where
   pub called_below : (n : ℕ) → n < nodes img → kind img n ≡ 7 → root img (field_a img n) < 1024
   called_below n l e = root_below (field_a img n) ((words.node_words n l).called e)
 
--- The children of a node, by its kind.
-module _ (img : List ℕ) (n : ℕ) where
-  pub children_3_4 : 3 ≤ kind img n → kind img n ≤ 4 → children (node img n) ≡ field_a img n ∷ field_b img n ∷ []
-  children_3_4 h k = go (kind img n) refl
-    where
-      go : (i : ℕ) → kind img n ≡ i → children (node img n) ≡ field_a img n ∷ field_b img n ∷ []
-      go (suc (suc (suc zero))) e = ap children (is_sequence (fields_at img n) e)
-      go (suc (suc (suc (suc zero)))) e = ap children (is_choice (fields_at img n) e)
-      go zero e = absurd (omega arith)
-      go (suc zero) e = absurd (omega arith)
-      go (suc (suc zero)) e = absurd (omega arith)
-      go (suc (suc (suc (suc (suc i))))) e = absurd (omega arith)
+-- The children of a node that has two, one and none, and their places in the arrays.
+module _ (img : List ℕ) (counts : Question2 img) (words : Question4 img) (n : ℕ) (l : n < nodes img) {a b : ℕ} where
+  pub two_below : (node img n ≡ Sequence a b) ⊎ (node img n ≡ Choice a b) → (a < 1024) × (b < 1024)
+  two_below (inl e) = let r = rw e at (refers img words n l) in (omega (arith, r.0, counts.few_nodes), omega (arith, r.1, counts.few_nodes))
+  two_below (inr e) = let r = rw e at (refers img words n l) in (omega (arith, r.0, counts.few_nodes), omega (arith, r.1, counts.few_nodes))
 
-  pub children_5_6 : 5 ≤ kind img n → kind img n ≤ 6 → children (node img n) ≡ field_a img n ∷ []
-  children_5_6 h k = go (kind img n) refl
-    where
-      go : (i : ℕ) → kind img n ≡ i → children (node img n) ≡ field_a img n ∷ []
-      go (suc (suc (suc (suc (suc zero))))) e = ap children (is_star (fields_at img n) e)
-      go (suc (suc (suc (suc (suc (suc zero)))))) e = ap children (is_not (fields_at img n) e)
-      go zero e = absurd (omega arith)
-      go (suc zero) e = absurd (omega arith)
-      go (suc (suc zero)) e = absurd (omega arith)
-      go (suc (suc (suc zero))) e = absurd (omega arith)
-      go (suc (suc (suc (suc zero)))) e = absurd (omega arith)
-      go (suc (suc (suc (suc (suc (suc (suc i))))))) e = absurd (omega arith)
+module _ (img : List ℕ) (counts : Question2 img) (words : Question4 img) (n : ℕ) (l : n < nodes img) {a : ℕ} where
+  pub one_below : (node img n ≡ Star a) ⊎ (node img n ≡ NotPredicate a) → a < 1024
+  one_below (inl e) = let r = rw e at (refers img words n l) in omega (arith, r, counts.few_nodes)
+  one_below (inr e) = let r = rw e at (refers img words n l) in omega (arith, r, counts.few_nodes)
 
-  pub childless_below_3 : kind img n ≤ 2 → children (node img n) ≡ []
-  childless_below_3 h = go (kind img n) refl
-    where
-      go : (i : ℕ) → kind img n ≡ i → children (node img n) ≡ []
-      go zero e = ap children (is_empty (fields_at img n) e)
-      go (suc zero) e = ap children (is_any (fields_at img n) e)
-      go (suc (suc zero)) e = ap children (is_range (fields_at img n) e)
-      go (suc (suc (suc i))) e = absurd (omega arith)
+module _ {m : Node} {a b : ℕ} where
+  pub two_children : (m ≡ Sequence a b) ⊎ (m ≡ Choice a b) → children m ≡ a ∷ b ∷ []
+  two_children (inl e) = ap children e
+  two_children (inr e) = ap children e
 
-  pub childless_from_7 : 7 ≤ kind img n → kind img n ≤ 7 → children (node img n) ≡ []
-  childless_from_7 h k = ap children (is_call (fields_at img n) (omega arith))
+module _ {m : Node} {a : ℕ} where
+  pub one_child : (m ≡ Star a) ⊎ (m ≡ NotPredicate a) → children m ≡ a ∷ []
+  one_child (inl e) = ap children e
+  one_child (inr e) = ap children e
+
+pub no_child :
+    (m : Node)
+    → ((a b : ℕ) → m ≡ Sequence a b → ⊥)
+    → ((a b : ℕ) → m ≡ Choice a b → ⊥)
+    → ((a : ℕ) → m ≡ Star a → ⊥)
+    → ((a : ℕ) → m ≡ NotPredicate a → ⊥)
+    → children m ≡ []
+no_child Empty p q r s = refl
+no_child (Text t) p q r s = refl
+no_child (Sequence a b) p q r s = absurd (p a b refl)
+no_child (Choice a b) p q r s = absurd (q a b refl)
+no_child (Star a) p q r s = absurd (r a refl)
+no_child (NotPredicate a) p q r s = absurd (s a refl)
+no_child (Call a) p q r s = refl
+no_child Unlawful p q r s = refl

@@ -1,4 +1,3 @@
 -- What the functions of questions 1 to 5 promise each other.
-pub mod Tells
 pub mod Words
 pub mod Tally

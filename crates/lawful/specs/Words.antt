@@ -1,13 +1,6 @@
--- The parts of question 4 that a function each asks.
+-- The parts of question 4 that a function each asks of a node.
 use Rattle.std.specs.Prelude.{ℕ, ◌≤◌, ◌<◌, ◌≡◌, List}
 use Rattle.grammar.specs.Image.{rules, nodes}
-use Rattle.grammar.specs.Questions.{LawfulRule, LawfulNode}
-
-pub record RulesLawful (img : List ℕ) : Type 0 where
-  pub rule_words : (r : ℕ) → r < rules img → LawfulRule img r
-
-pub record NodesLawful (img : List ℕ) : Type 0 where
-  pub node_words : (n : ℕ) → n < nodes img → LawfulNode img n
 
 -- The zero bits of a node's word are 0; in kind 2 the lowest, the fold bit, may be 1.
 pub record ZeroBits (kind zero : ℕ) : Type 0 where

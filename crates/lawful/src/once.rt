@@ -1,13 +1,14 @@
 // Question 5: "Does each node occur exactly once among roots and children?"
-ghost use Rattle.std.specs.Prelude.{◌<◌, ◌≡◌, [], ◌∷◌, length};
+ghost use Rattle.std.specs.Prelude.{◌<◌, ◌≡◌, ◌↔◌, [], ◌∷◌, IsTrue};
 ghost use Rattle.grammar.specs.Image.{node, nodes, children};
 ghost use Rattle.grammar.specs.Questions.{Question2, Question4, Question5};
-ghost use Rattle.lawful.specs.Tells.{Tells};
 ghost use Rattle.lawful.specs.Tally.{Tallied, RootsTallied, ChildrenTallied};
+
+use grammar::Node;
 
 // Counts one occurrence of node n. A count of 2 stands for 2 or more.
 fn tally(counts: &mut [u8; 1024], n: usize)
-    requires { (n < 1024) × (length counts.old ≡ 1024) }
+    requires { n < 1024 }
     ensures { Tallied counts.old counts.new (n ∷ []) }
 {
     let count = counts[n];
@@ -18,7 +19,7 @@ fn tally(counts: &mut [u8; 1024], n: usize)
 
 // Counts the root of each rule.
 fn tally_roots(image: &[u8], counts: &mut [u8; 1024])
-    requires { Question2 image.now × Question4 image.now × (length counts.old ≡ 1024) }
+    requires { Question2 image.now × Question4 image.now }
     ensures { RootsTallied image.now counts.old counts.new }
 {
     let header = image::header_of(image);
@@ -30,26 +31,22 @@ fn tally_roots(image: &[u8], counts: &mut [u8; 1024])
 
 // Counts the children of node n.
 fn tally_children_of(image: &[u8], n: usize, counts: &mut [u8; 1024])
-    requires { Question2 image.now × Question4 image.now × (n < nodes image.now) × (length counts.old ≡ 1024) }
+    requires { Question2 image.now × Question4 image.now × (n < nodes image.now) }
     ensures { Tallied counts.old counts.new (children (node image.now n)) }
 {
-    let word = image::node_at(image, n);
-    let kind = word.kind;
-    match kind {
-        3 | 4 => {
-            tally(counts, word.b);
-            tally(counts, word.a);
+    match image::node(image, n) {
+        Node::Sequence(a, b) | Node::Choice(a, b) => {
+            tally(counts, b);
+            tally(counts, a);
         }
-        5 | 6 => {
-            tally(counts, word.a);
-        }
+        Node::Star(a) | Node::NotPredicate(a) => tally(counts, a),
         _ => {}
     }
 }
 
 // Counts the children of every node.
 fn tally_children(image: &[u8], counts: &mut [u8; 1024])
-    requires { Question2 image.now × Question4 image.now × (length counts.old ≡ 1024) }
+    requires { Question2 image.now × Question4 image.now }
     ensures { ChildrenTallied image.now counts.old counts.new }
 {
     let header = image::header_of(image);
@@ -61,16 +58,11 @@ fn tally_children(image: &[u8], counts: &mut [u8; 1024])
 // Whether each node is counted exactly once.
 pub fn each_node_once(image: &[u8]) -> bool
     requires { Question2 image.now × Question4 image.now }
-    ensures { Tells result (Question5 image.now) }
+    ensures { IsTrue result ↔ Question5 image.now }
 {
     let header = image::header_of(image);
     let mut counts = [0u8; 1024];
     tally_roots(image, &mut counts);
     tally_children(image, &mut counts);
-    for n in 0..header.nodes {
-        if counts[n] != 1 {
-            return false;
-        }
-    }
-    true
+    counts[..header.nodes].iter().all(|&count| count == 1)
 }

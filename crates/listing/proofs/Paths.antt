@@ -8,7 +8,7 @@ use lib.ListN.{length, length-append}
 use lib.Seq.{sets}
 use lib.Dec.{ltb, eqb}
 use borrow.Author.Tests.{ltb-true, ltb-false, ne_eqb, eq-eqb}
-use Rattle.grammar.specs.Image.{sequence, choice, star, not_predicate}
+use Rattle.grammar.specs.declared.node.Node.TheVariants.{Sequence, Choice, Star, NotPredicate}
 use Rattle.rows.specs.Window.{touches}
 use Rattle.rows.specs.Walk.{walked, stopped, Trail, trail, Walker, bind, after, after_look, part_v, joined, after_first, after_choice}
 use Rattle.rows.specs.Walk.{after_round, rounds_v, kind_v}
@@ -38,7 +38,7 @@ module _ (text : List ℕ) (room : ℕ) (ev : Walker) (short : length text ≤ 6
       pub sequence_first : x < 65536 → Found (length text) room at c l x l1 d (ev a at lo hi k c)
       sequence_first i = found (stays a at lo hi k c h few) g i
 
-      pub sequence_ends : 65536 ≤ x → Gives c l x l1 d (kind_v text ev called (sequence a b) at lo hi k c)
+      pub sequence_ends : 65536 ≤ x → Gives c l x l1 d (kind_v text ev called (Sequence a b) at lo hi k c)
       unfolding kind_v after_first
       sequence_ends i = go (ltb 65536 x) refl
         where
@@ -54,7 +54,7 @@ module _ (text : List ℕ) (room : ℕ) (ev : Walker) (short : length text ≤ 6
 
       pub sequence_second_ends :
           {y : ℕ} {l2 : List ℕ} {e : ℕ} → x < 65536 → Gives d l1 y l2 e (ev b (at + x) lo hi k d) → 65536 ≤ y
-          → Gives c l y l2 e (kind_v text ev called (sequence a b) at lo hi k c)
+          → Gives c l y l2 e (kind_v text ev called (Sequence a b) at lo hi k c)
       unfolding kind_v after_first joined
       sequence_second_ends {y} {l2} {e} i g2 j = go (ltb 65536 y) refl
         where
@@ -81,7 +81,7 @@ module _ (text : List ℕ) (room : ℕ) (ev : Walker) (short : length text ≤ 6
 
       pub sequence_both :
           {y : ℕ} {l2 : List ℕ} {e : ℕ} → x < 65536 → Gives d l1 y l2 e (ev b (at + x) lo hi k d) → y < 65536
-          → Gives c l (x + y) l2 e (kind_v text ev called (sequence a b) at lo hi k c)
+          → Gives c l (x + y) l2 e (kind_v text ev called (Sequence a b) at lo hi k c)
       unfolding kind_v after_first joined
       sequence_both {y} {l2} {e} i g2 j =
           let w = sequence_first i in
@@ -92,17 +92,17 @@ module _ (text : List ℕ) (room : ℕ) (ev : Walker) (short : length text ≤ 6
   module _ (called : Walker) (a at lo hi k : ℕ) (h : at ≤ length text) {c : ℕ} (few : c ≤ room) {l : List ℕ} {x : ℕ} {l1 : List ℕ} {d : ℕ}
       (g : Gives c l x l1 d (ev a at (length text + 1) 0 k c))
     where
-      pub not_stops : 65536 < x → Gives c l x l1 d (kind_v text ev called (not_predicate a) at lo hi k c)
+      pub not_stops : 65536 < x → Gives c l x l1 d (kind_v text ev called (NotPredicate a) at lo hi k c)
       unfolding kind_v
       not_stops i = and_stop (λ m l c. trail (walked (not m) 0 c) []) (halted short (stays a at (length text + 1) 0 k c h few) g i)
 
-      pub not_fails : x < 65536 → Gives c l 65536 l1 d (kind_v text ev called (not_predicate a) at lo hi k c)
+      pub not_fails : x < 65536 → Gives c l 65536 l1 d (kind_v text ev called (NotPredicate a) at lo hi k c)
       unfolding kind_v
       not_fails i =
           let w = found (stays a at (length text + 1) 0 k c h few) g i in
           and_then w.words (λ m l c. trail (walked (not m) 0 c) []) w.is w.written w.counted (at_once (walked false 0 d) refl refl)
 
-      pub not_matches : x ≡ 65536 → Gives c l 0 l1 d (kind_v text ev called (not_predicate a) at lo hi k c)
+      pub not_matches : x ≡ 65536 → Gives c l 0 l1 d (kind_v text ev called (NotPredicate a) at lo hi k c)
       unfolding kind_v
       not_matches i =
           let w = failed short (stays a at (length text + 1) 0 k c h few) g i in
@@ -144,7 +144,7 @@ module _ (text : List ℕ) (room : ℕ) (ev : Walker) (short : length text ≤ 6
   module _ (called : Walker) (a b at lo hi k : ℕ) (h : at ≤ length text) {c : ℕ} (few : c ≤ room) {l : List ℕ} {x : ℕ} {l1 : List ℕ} {d : ℕ}
       (g : Gives c l x l1 d (part_v (length text) ev a at lo hi k c))
     where
-      pub choice_first : (x ≡ 65536 → ⊥) → Gives c l x l1 d (kind_v text ev called (choice a b) at lo hi k c)
+      pub choice_first : (x ≡ 65536 → ⊥) → Gives c l x l1 d (kind_v text ev called (Choice a b) at lo hi k c)
       unfolding kind_v after_choice
       choice_first ne = go (ltb 65536 x) refl
         where
@@ -164,7 +164,7 @@ module _ (text : List ℕ) (room : ℕ) (ev : Walker) (short : length text ≤ 6
 
       pub choice_second :
           {y : ℕ} {l2 : List ℕ} {e : ℕ} → x ≡ 65536 → Gives d l1 y l2 e (ev b at lo hi k d)
-          → Gives c l y l2 e (kind_v text ev called (choice a b) at lo hi k c)
+          → Gives c l y l2 e (kind_v text ev called (Choice a b) at lo hi k c)
       unfolding kind_v after_choice
       choice_second i g2 =
           let w = failed short (part_bounded (length text) room ev stays a at lo hi k c h few) g i in
@@ -191,7 +191,7 @@ module _ (text : List ℕ) (room : ℕ) (ev : Walker) (short : length text ≤ 6
 
   module _ (a at lo hi k : ℕ) {c0 : ℕ} {l0 : List ℕ} where
     pub star_start :
-        (called : Walker) → at ≤ length text → c0 ≤ room → Rounds a at lo hi k c0 l0 (kind_v text ev called (star a) at lo hi k c0) 0 l0 c0
+        (called : Walker) → at ≤ length text → c0 ≤ room → Rounds a at lo hi k c0 l0 (kind_v text ev called (Star a) at lo hi k c0) 0 l0 c0
     unfolding kind_v
     star_start called h few =
         record {

@@ -8,8 +8,12 @@ use lib.ListN.{length, get_or, set}
 use lib.Dec.{leb}
 use borrow.Author.Tests.{le-leb, lt-leb, ltb-true, ltb-false}
 use lib.Dec.{ltb}
-use Rattle.grammar.specs.Image.{Node, terminal, Terminal, any, unlawful, fields_of, byte_range}
-use Rattle.grammar.specs.declared.NodeFields.{NodeFields}
+use Rattle.grammar.specs.declared.node.Node.{Node}
+use Rattle.grammar.specs.declared.node.Terminal.{Terminal}
+use Rattle.grammar.specs.declared.node.Node.TheVariants.{Text, Unlawful}
+use Rattle.grammar.specs.declared.node.Terminal.TheVariants.{Any}
+use Rattle.grammar.specs.Image.{fields_of, byte_range}
+use Rattle.grammar.specs.declared.node.NodeFields.{NodeFields}
 use Rattle.grammar.proofs.Nodes.{is_empty, is_any, is_range}
 use Rattle.image.specs.Fields.{SameFields}
 use Rattle.packrat.proofs.LoadedRuns.{word_is}
@@ -156,11 +160,11 @@ module _ (room : ℕ) (ws text table : List ℕ) (i at lo hi k c : ℕ) (l : Lis
   node_goes (suc n) ne {m} e {r} {d} {l1} g =
       just (node_is n e) (subst (λ (j : ℕ). Gives c l r l1 d (Kind j m)) (omega arith) g)
 
-  pub unlawful_goes : (left : ℕ) → Gives c l 65548 l c (Kind left unlawful)
+  pub unlawful_goes : (left : ℕ) → Gives c l 65548 l c (Kind left Unlawful)
   unfolding kind_v
   unlawful_goes left = at_once (stopped 12) refl refl
 
-  pub terminal_goes : (left : ℕ) (t : Terminal) {r : ℕ} → r ≡ told_length (terminal_at t text at) → Gives c l r l c (Kind left (terminal t))
+  pub terminal_goes : (left : ℕ) (t : Terminal) {r : ℕ} → r ≡ told_length (terminal_at t text at) → Gives c l r l c (Kind left (Text t))
   unfolding kind_v
   terminal_goes left t e = at_once (walked (terminal_at t text at).matched (terminal_at t text at).length c) refl e
 
@@ -172,7 +176,7 @@ module _ (room : ℕ) (ws text table : List ℕ) (i at lo hi k c : ℕ) (l : Lis
     where
       by_kind : (n : ℕ) → f.kind ≡ n → n < 3 → Gives c l r l c (node_v room ws text table left i at lo hi k c)
       by_kind zero e h = node_goes left ne (word_is (get_or ws i 0) s (is_empty f e)) (at_once (walked true 0 c) refl (q.of_empty e))
-      by_kind (suc zero) e h = node_goes left ne (word_is (get_or ws i 0) s (is_any f e)) (terminal_goes (left - 1) any (q.of_any e))
+      by_kind (suc zero) e h = node_goes left ne (word_is (get_or ws i 0) s (is_any f e)) (terminal_goes (left - 1) Any (q.of_any e))
       by_kind (suc (suc zero)) e h =
           node_goes left ne (word_is (get_or ws i 0) s (is_range f e)) (terminal_goes (left - 1) (byte_range f) (q.of_range e))
       by_kind (suc (suc (suc n))) e h = absurd (omega arith)

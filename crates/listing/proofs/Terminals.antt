@@ -3,7 +3,7 @@ use Prim.Native.Nat.{ℕ}
 use native.Mathlib.Omega.{arith}
 use mathlib.Core.Path.{◌≡◌}
 use mathlib.Core.List.{List}
-use Rattle.grammar.specs.Image.{Terminal}
+use Rattle.grammar.specs.declared.node.Terminal.{Terminal}
 use Rattle.grammar.specs.Terminal.{terminal_at}
 use Rattle.grammar.proofs.Terminals.{at_most_four}
 use Rattle.records.specs.Words.{value_of, word_of}

@@ -2,7 +2,8 @@
 use Rattle.std.specs.Prelude.{ℕ, ◌+◌, ◌≤◌, ◌≡◌, Bool, true, false, List, length}
 use Rattle.std.proofs.lemmas.List.Edits.{sets}
 use Rattle.grammar.specs.declared.Evaluation.{Evaluation}
-use Rattle.grammar.specs.Image.{any, range_by}
+use Rattle.grammar.specs.declared.node.Terminal.TheVariants.{Any}
+use Rattle.grammar.specs.Image.{range_by}
 use Rattle.grammar.specs.Terminal.{terminal_at}
 use Rattle.rows.specs.Walk.{Walked, walked, stopped, Trail, trail}
 
@@ -21,7 +22,7 @@ told_length x = length_or x.matched x.length
 -- What a kind with nothing inside tells: empty, any, and a byte range by its zero bits.
 pub record Leaf (text : List ℕ) (kind zero_bits from to at told : ℕ) : Type 0 where
   pub of_empty : kind ≡ 0 → told ≡ 0
-  pub of_any : kind ≡ 1 → told ≡ told_length (terminal_at any text at)
+  pub of_any : kind ≡ 1 → told ≡ told_length (terminal_at Any text at)
   pub of_range : kind ≡ 2 → told ≡ told_length (terminal_at (range_by zero_bits from to) text at)
 
 -- A walk that starts with c rows and the row slots `before`: what it leaves.

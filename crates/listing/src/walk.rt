@@ -3,7 +3,7 @@
 // a match, 65,536 for a failure, or 65,536 and the number of a refusal. Text and table are lent as references to their slices, as the
 // text is in the evaluator: a listing of nesting 4,096 fits in a thread of 2 MiB.
 ghost use Rattle.std.specs.Prelude.{◌+◌, ◌<◌, length};
-ghost use Rattle.grammar.specs.Image.{sequence, choice, star, not_predicate};
+ghost use Rattle.grammar.specs.declared.node.Node.TheVariants.{Sequence, Choice, Star, NotPredicate};
 ghost use Rattle.rows.specs.Walk.{part_v, node_v, rule_v, inside_v};
 ghost use Rattle.listing.specs.Gives.{Gives, Steady};
 
@@ -144,7 +144,7 @@ fn walk_sequence(
     left: usize,
 ) -> usize
     requires { Steady text.now.now room count.old at depth (left + 1) × (a < 4096) × (b < 4096) }
-    ensures { Gives count.old rows.old result rows.new count.new (inside_v room words.now text.now.now table.now.now left b (sequence a b) at lo hi depth count.old) }
+    ensures { Gives count.old rows.old result rows.new count.new (inside_v room words.now text.now.now table.now.now left b (Sequence a b) at lo hi depth count.old) }
 {
     let x = walk_node(
         words, text, table, rows, count, room, a, at, lo, hi, depth, left,
@@ -190,7 +190,7 @@ fn walk_choice(
     left: usize,
 ) -> usize
     requires { Steady text.now.now room count.old at depth (left + 1) × (a < 4096) × (b < 4096) }
-    ensures { Gives count.old rows.old result rows.new count.new (inside_v room words.now text.now.now table.now.now left b (choice a b) at lo hi depth count.old) }
+    ensures { Gives count.old rows.old result rows.new count.new (inside_v room words.now text.now.now table.now.now left b (Choice a b) at lo hi depth count.old) }
 {
     let x = walk_part(
         words, text, table, rows, count, room, a, at, lo, hi, depth, left,
@@ -218,7 +218,7 @@ fn walk_not(
     left: usize,
 ) -> usize
     requires { Steady text.now.now room count.old at depth (left + 1) × (a < 4096) }
-    ensures { Gives count.old rows.old result rows.new count.new (inside_v room words.now text.now.now table.now.now left 0 (not_predicate a) at 0 0 depth count.old) }
+    ensures { Gives count.old rows.old result rows.new count.new (inside_v room words.now text.now.now table.now.now left 0 (NotPredicate a) at 0 0 depth count.old) }
 {
     let x = walk_node(
         words,
@@ -260,7 +260,7 @@ fn walk_star(
     left: usize,
 ) -> usize
     requires { Steady text.now.now room count.old at depth (left + 1) × (a < 4096) }
-    ensures { Gives count.old rows.old result rows.new count.new (inside_v room words.now text.now.now table.now.now left 0 (star a) at lo hi depth count.old) }
+    ensures { Gives count.old rows.old result rows.new count.new (inside_v room words.now text.now.now table.now.now left 0 (Star a) at lo hi depth count.old) }
 {
     let mut before = 0usize;
     loop {

@@ -6,7 +6,8 @@ use mathlib.Core.List.{List, [], ◌∷◌}
 use mathlib.Core.Logic.{inr}
 use lib.ListN.{length}
 use Rattle.grammar.specs.declared.Evaluation.{Evaluation}
-use Rattle.grammar.specs.Image.{rules, start, root, rule_word, node_word, fields_at, node_of, body, any}
+use Rattle.grammar.specs.declared.node.Terminal.TheVariants.{Any}
+use Rattle.grammar.specs.Image.{rules, start, root, rule_word, node_word, fields_at, node_of, body}
 use Rattle.grammar.specs.Characters.{later_bytes}
 use Rattle.grammar.specs.Terminal.{accepts, later_of, taken, not_taken, terminal_at}
 use Rattle.grammar.specs.Evaluates.{Fresh, a_pair, ev_terminal, ev_body}
@@ -22,7 +23,7 @@ use Rattle.marked.specs.Cases.{Says, Hold, any_reads, complete, broken}
 use Rattle.marked.proofs.Images.{dot_accepted}
 
 -- A plain reading of `dot` reports what "any" does at the start.
-module _ (text : List ℕ) (short : length text ≤ 65535) (z : Evaluation) (is : z ≡ terminal_at any text 0) (flat : z.nesting ≡ 1) where
+module _ (text : List ℕ) (short : length text ≤ 65535) (z : Evaluation) (is : z ≡ terminal_at Any text 0) (flat : z.nesting ≡ 1) where
   start_value : Fresh dot text (a_pair (start dot)) 0 z
   unfolding dot rules start root rule_word fields_at node_word node_of body
   start_value = ev_body refl (ev_terminal is)
@@ -40,7 +41,7 @@ module _ (text : List ℕ) (short : length text ≤ 65535) (z : Evaluation) (is 
         values = record { value = z; evaluated = start_value; reports = reports };
       }
 
-module _ (text : List ℕ) (bytes looked : ℕ) (short : length text ≤ 65535) (is : taken bytes looked ≡ terminal_at any text 0) where
+module _ (text : List ℕ) (bytes looked : ℕ) (short : length text ≤ 65535) (is : taken bytes looked ≡ terminal_at Any text 0) where
   whole : bytes ≡ length text → Says (any_reads text Outcome.Whole bytes looked)
   whole all =
       reads text short (taken bytes looked) is refl (record { outcome_is = (refl, all); length_is = refl; examined_is = refl; nesting_is = refl })

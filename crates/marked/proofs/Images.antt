@@ -9,8 +9,10 @@ use mathlib.Core.Logic.{inl, inr}
 use lib.Dec.{eqb, lit<, lit≤}
 use borrow.Author.Tests.{eqb-true}
 use Rattle.grammar.specs.Image.{edition, rules, nodes, start, rule_zero, root, rule_word, node_word, fields_at}
-use Rattle.grammar.specs.Image.{node, node_of, body, Terminal}
-use Rattle.grammar.specs.Image.{Node, empty, terminal, sequence, choice, star, not_predicate, call, unlawful}
+use Rattle.grammar.specs.declared.node.Terminal.{Terminal}
+use Rattle.grammar.specs.Image.{node, node_of, body}
+use Rattle.grammar.specs.declared.node.Node.{Node}
+use Rattle.grammar.specs.declared.node.Node.TheVariants.{Empty, Text, Sequence, Choice, Star, NotPredicate, Call, Unlawful}
 use Rattle.grammar.specs.Outcomes.{Has, matches_empty, call_body, then_00, else_0, else_second, not_0, terminal_f}
 use Rattle.grammar.specs.WellFormed.{WellFormed, wf_empty, wf_terminal, wf_call, wf_then, wf_else, wf_star, wf_not}
 use Rattle.grammar.specs.Questions.{Question4, Question6, Question7, Lawful, Checked}
@@ -31,7 +33,7 @@ passes = ((refl, refl, refl), (refl, refl, refl), (refl, refl, refl), (refl, ref
 lawful : {img : List ℕ} → Passes img → Lawful img
 lawful {img} p = lawful_image img p.0 p.1 p.2
 
-terminal_lacks_0 : {img : List ℕ} {t : Terminal} → Has img (terminal t) matches_empty → ⊥
+terminal_lacks_0 : {img : List ℕ} {t : Terminal} → Has img (Text t) matches_empty → ⊥
 terminal_lacks_0 = elim [ ]
 
 -- D2: every node is well formed.
@@ -39,7 +41,7 @@ d2_formed : Question7 D2
 unfolding D2 rules nodes root rule_word fields_at node_word node_of body
 d2_formed = record { every_node = go }
   where
-    digit-consumes : Has D2 (call 1) matches_empty → ⊥
+    digit-consumes : Has D2 (Call 1) matches_empty → ⊥
     digit-consumes (call_body h) = terminal_lacks_0 h
 
     go : (n : ℕ) → n < 5 → WellFormed D2 (node D2 n)
@@ -58,33 +60,33 @@ parts_formed : Question7 parts
 unfolding parts rules nodes root rule_word fields_at node_word node_of body
 parts_formed = record { every_node = go }
   where
-    digit : WellFormed parts (call 2)
+    digit : WellFormed parts (Call 2)
     digit = wf_call wf_terminal
 
-    digit-consumes : Has parts (call 2) matches_empty → ⊥
+    digit-consumes : Has parts (Call 2) matches_empty → ⊥
     digit-consumes (call_body h) = terminal_lacks_0 h
 
-    marked-digit : WellFormed parts (sequence 4 5)
+    marked-digit : WellFormed parts (Sequence 4 5)
     marked-digit = wf_then digit (λ h. wf_terminal)
 
-    second-digit : WellFormed parts (sequence 7 10)
+    second-digit : WellFormed parts (Sequence 7 10)
     second-digit = wf_then (wf_not (wf_not digit)) (λ h. digit)
 
-    line : WellFormed parts (choice 3 6)
+    line : WellFormed parts (Choice 3 6)
     line = wf_else marked-digit second-digit
 
     -- Both choices consume a digit.
-    first-consumes : Has parts (sequence 4 5) matches_empty → ⊥
+    first-consumes : Has parts (Sequence 4 5) matches_empty → ⊥
     first-consumes (then_00 h k) = digit-consumes h
 
-    second-consumes : Has parts (sequence 7 10) matches_empty → ⊥
+    second-consumes : Has parts (Sequence 7 10) matches_empty → ⊥
     second-consumes (then_00 h k) = digit-consumes k
 
-    not-empty : Has parts (choice 3 6) matches_empty → ⊥
+    not-empty : Has parts (Choice 3 6) matches_empty → ⊥
     not-empty (else_0 h) = first-consumes h
     not-empty (else_second f h) = second-consumes h
 
-    line-consumes : Has parts (call 1) matches_empty → ⊥
+    line-consumes : Has parts (Call 1) matches_empty → ⊥
     line-consumes (call_body h) = not-empty h
 
     go : (n : ℕ) → n < 12 → WellFormed parts (node parts n)
@@ -107,14 +109,14 @@ parts_accepted = checked (record { lawful = lawful passes.4; well_formed = parts
 
 -- The nodes that M7 and M8 come back to without consuming: a node whose first child is node 1, and a call of rule 0.
 on_ring : Node → Bool
-on_ring empty = false
-on_ring (terminal t) = false
-on_ring (sequence a b) = eqb a 1
-on_ring (choice a b) = false
-on_ring (star a) = false
-on_ring (not_predicate a) = eqb a 1
-on_ring (call r) = eqb r 0
-on_ring unlawful = false
+on_ring Empty = false
+on_ring (Text t) = false
+on_ring (Sequence a b) = eqb a 1
+on_ring (Choice a b) = false
+on_ring (Star a) = false
+on_ring (NotPredicate a) = eqb a 1
+on_ring (Call r) = eqb r 0
+on_ring Unlawful = false
 
 -- Where node 1 and the body of rule 0 are such nodes, none of them is well formed: each asks for another one first.
 ring :
@@ -139,7 +141,7 @@ m7_stars : Question6 M7
 unfolding M7 rules nodes fields_at node_word node_of
 m7_stars = record { stars = go }
   where
-    go : (n a : ℕ) → n < 3 → node M7 n ≡ star a → Has M7 (node M7 a) matches_empty → ⊥
+    go : (n a : ℕ) → n < 3 → node M7 n ≡ Star a → Has M7 (node M7 a) matches_empty → ⊥
     go zero a l e h = let z : ◌≡◌ {A = ℕ} 0 1 = cc in omega arith
     go (suc zero) a l e h = let z : ◌≡◌ {A = ℕ} 0 1 = cc in omega arith
     go (suc (suc zero)) a l e h = let z : ◌≡◌ {A = ℕ} 0 1 = cc in omega arith
@@ -154,7 +156,7 @@ m8_stars : Question6 M8
 unfolding M8 rules nodes fields_at node_word node_of
 m8_stars = record { stars = go }
   where
-    go : (n a : ℕ) → n < 2 → node M8 n ≡ star a → Has M8 (node M8 a) matches_empty → ⊥
+    go : (n a : ℕ) → n < 2 → node M8 n ≡ Star a → Has M8 (node M8 a) matches_empty → ⊥
     go zero a l e h = let z : ◌≡◌ {A = ℕ} 0 1 = cc in omega arith
     go (suc zero) a l e h = let z : ◌≡◌ {A = ℕ} 0 1 = cc in omega arith
     go (suc (suc n)) a l e h = absurd (omega arith)
@@ -246,7 +248,7 @@ letters_formed : Question7 letters
 unfolding letters rules nodes root rule_word fields_at node_word node_of body
 letters_formed = record { every_node = go }
   where
-    letter-consumes : Has letters (call 1) matches_empty → ⊥
+    letter-consumes : Has letters (Call 1) matches_empty → ⊥
     letter-consumes (call_body h) = terminal_lacks_0 h
 
     go : (n : ℕ) → n < 3 → WellFormed letters (node letters n)

@@ -8,7 +8,10 @@ use mathlib.Core.Logic.{inl, inr}
 use lib.ListN.{length, length-replicate, get_or-replicate}
 use Rattle.grammar.specs.declared.Evaluation.{Evaluation}
 use Rattle.grammar.specs.Image.{edition, rules, nodes, start, rule_zero, root, rule_word, node_word, fields_at}
-use Rattle.grammar.specs.Image.{node, node_of, body, Terminal, range, terminal, byte_at}
+use Rattle.grammar.specs.declared.node.Terminal.{Terminal}
+use Rattle.grammar.specs.declared.node.Node.TheVariants.{Text}
+use Rattle.grammar.specs.declared.node.Terminal.TheVariants.{Range}
+use Rattle.grammar.specs.Image.{node, node_of, body, byte_at}
 use Rattle.grammar.specs.Outcomes.{Has, matches_empty}
 use Rattle.grammar.specs.WellFormed.{WellFormed, wf_empty, wf_terminal, wf_call, wf_then, wf_else}
 use Rattle.grammar.specs.Questions.{Question7, Checked, of_image, roots, children_below, occurrences}
@@ -36,7 +39,7 @@ unfolding M10 every header_test rule_test node_test words_test once_test edition
     node_word node_of roots children_below occurrences
 passes = (refl, refl, refl)
 
-terminal_lacks_0 : {img : List ℕ} {t : Terminal} → Has img (terminal t) matches_empty → ⊥
+terminal_lacks_0 : {img : List ℕ} {t : Terminal} → Has img (Text t) matches_empty → ⊥
 terminal_lacks_0 = elim [ ]
 
 formed : Question7 M10
@@ -59,21 +62,21 @@ long : (k : ℕ) → length (brackets k) ≡ k
 unfolding brackets
 long k = length-replicate k 0x28
 
-by_test : (k p : ℕ) {b : Bool} → has_at (accepts (range 0x28 0x28)) (brackets k) p ≡ b → cond b (taken 1 1) not_taken ≡ terminal_at (range 0x28 0x28) (brackets k) p
+by_test : (k p : ℕ) {b : Bool} → has_at (accepts (Range 0x28 0x28)) (brackets k) p ≡ b → cond b (taken 1 1) not_taken ≡ terminal_at (Range 0x28 0x28) (brackets k) p
 by_test k p e =
     sym
-    (by_byte (range 0x28 0x28) (brackets k) p (range_alone 0x28 0x28 (byte_at (brackets k) p))
+    (by_byte (Range 0x28 0x28) (brackets k) p (range_alone 0x28 0x28 (byte_at (brackets k) p))
     ∙ ap (λ (b : Bool). cond b (taken 1 1) not_taken) e)
 
-here : (k p : ℕ) → p < k → taken 1 1 ≡ terminal_at (range 0x28 0x28) (brackets k) p
+here : (k p : ℕ) → p < k → taken 1 1 ≡ terminal_at (Range 0x28 0x28) (brackets k) p
 unfolding accepts brackets
 here k p h =
     by_test k p
-    (has_there (accepts (range 0x28 0x28)) (brackets k) p (let l = long k in omega arith)
-    ∙ ap (accepts (range 0x28 0x28)) (get_or-replicate k p 0x28 0 h))
+    (has_there (accepts (Range 0x28 0x28)) (brackets k) p (let l = long k in omega arith)
+    ∙ ap (accepts (Range 0x28 0x28)) (get_or-replicate k p 0x28 0 h))
 
-at_end : (k : ℕ) → not_taken ≡ terminal_at (range 0x28 0x28) (brackets k) k
-at_end k = by_test k k (has_not (accepts (range 0x28 0x28)) (brackets k) k (let l = long k in omega arith))
+at_end : (k : ℕ) → not_taken ≡ terminal_at (Range 0x28 0x28) (brackets k) k
+at_end k = by_test k k (has_not (accepts (Range 0x28 0x28)) (brackets k) k (let l = long k in omega arith))
 
 -- The evaluation where j brackets are left.
 abbrev opening : ℕ → Evaluation
@@ -91,7 +94,7 @@ deeper j = omega arith
 bracketed : (k j p : ℕ) → p + j ≡ k → Fresh M10 (brackets k) (a_pair 0) p (opening j)
 unfolding M10 rules root rule_word fields_at node_word node_of body
 bracketed k zero p h =
-    let e = subst (λ (q : ℕ). not_taken ≡ terminal_at (range 0x28 0x28) (brackets k) q) (let d : k ≡ p = omega arith in d) (at_end k) in
+    let e = subst (λ (q : ℕ). not_taken ≡ terminal_at (Range 0x28 0x28) (brackets k) q) (let d : k ≡ p = omega arith in d) (at_end k) in
     ev_body refl (ev_else_second (ev_then_first_fails (ev_terminal e) refl refl) refl (ev_empty refl) refl)
 bracketed k (suc j) p h =
     let e = here k p (omega arith) in

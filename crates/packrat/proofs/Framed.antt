@@ -13,7 +13,8 @@ use lib.Seq.{get_or-set_other}
 use lib.Dec.{eqb, leb}
 use Rattle.grammar.specs.declared.Evaluation.{Evaluation}
 use Rattle.grammar.specs.Image.{rules, nodes, root, fields_at, node}
-use Rattle.grammar.specs.Image.{Node, empty, terminal, sequence, choice, star, not_predicate, call, unlawful}
+use Rattle.grammar.specs.declared.node.Node.{Node}
+use Rattle.grammar.specs.declared.node.Node.TheVariants.{Empty, Text, Sequence, Choice, Star, NotPredicate, Call, Unlawful}
 use Rattle.grammar.specs.Questions.{Question4}
 use Rattle.grammar.specs.Evaluates.{in_sequence, taken_over, second_choice, round_then, negated}
 use Rattle.grammar.proofs.Nodes.{kind_of_unlawful}
@@ -32,7 +33,7 @@ use Rattle.packrat.specs.Framed.{Fits, Framed}
 use Rattle.packrat.proofs.Rules.{possible_within}
 
 -- No node of a lawful image is unlawful.
-lawful_node : (img : List ℕ) → Question4 img → (n : ℕ) → n < nodes img → node img n ≡ unlawful → ⊥
+lawful_node : (img : List ℕ) → Question4 img → (n : ℕ) → n < nodes img → node img n ≡ Unlawful → ⊥
 lawful_node img words n l u = omega (arith, kind_of_unlawful (fields_at img n) u, (words.node_words n l).known_kind)
 
 module _ (img text : List ℕ) where
@@ -122,11 +123,11 @@ module _ (img text : List ℕ) where
         d)
 
     kind-framed :
-        {called : Evaluator} → All (rules img) called → (m : Node) → Refers img m → (m ≡ unlawful → ⊥)
+        {called : Evaluator} → All (rules img) called → (m : Node) → Refers img m → (m ≡ Unlawful → ⊥)
         → (p : ℕ) → p ≤ length text → (t : List ℕ) (c : ℕ) → Framed img text t p (kind_m text ev called m p t c)
     unfolding kind_m
-    kind-framed calls empty r n p h t c = still t p c _ (empty_within h)
-    kind-framed calls (terminal m) r n p h t c =
+    kind-framed calls Empty r n p h t c = still t p c _ (empty_within h)
+    kind-framed calls (Text m) r n p h t c =
         let s = shape m text p h in
         still t p c _
         (record {
@@ -136,17 +137,17 @@ module _ (img text : List ℕ) where
           failure = s.failure;
           nested = omega (arith, s.flat);
         })
-    kind-framed calls (sequence a b) r n p h t c =
+    kind-framed calls (Sequence a b) r n p h t c =
         next (all a p r.0 h t c) (λ x u d. after_first x.matched ev b p x u d)
         (λ x u d w. then-framed x.matched b p x r.1 w u d)
-    kind-framed calls (choice a b) r n p h t c =
+    kind-framed calls (Choice a b) r n p h t c =
         next (all a p r.0 h t c) (λ x u d. after_choice x.matched ev b p x u d)
         (λ x u d w. else-framed x.matched b p x r.1 h w u d)
-    kind-framed calls (star a) r n p h t c =
+    kind-framed calls (Star a) r n p h t c =
         remade (rounds-framed (suc (length text)) a p r h t c) taken_over (λ x w. taken_within w)
-    kind-framed calls (not_predicate a) r n p h t c = remade (all a p r h t c) negated (λ x w. negated_within w)
-    kind-framed calls (call s) r n p h t c = remade (calls s p r h t c) taken_over (λ x w. taken_within w)
-    kind-framed calls unlawful r n p h t c = absurd (n refl)
+    kind-framed calls (NotPredicate a) r n p h t c = remade (all a p r h t c) negated (λ x w. negated_within w)
+    kind-framed calls (Call s) r n p h t c = remade (calls s p r h t c) taken_over (λ x w. taken_within w)
+    kind-framed calls Unlawful r n p h t c = absurd (n refl)
 
   -- A word that is met.
   met_framed :

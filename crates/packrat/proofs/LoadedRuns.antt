@@ -5,8 +5,9 @@ use native.Mathlib.Omega.{arith}
 use mathlib.Core.Path.{◌≡◌, refl, sym, ap, ◌∙◌, subst}
 use mathlib.Core.List.{List}
 use lib.ListN.{length, get_or}
-use Rattle.grammar.specs.declared.NodeFields.{NodeFields}
-use Rattle.grammar.specs.Image.{Node, empty, terminal, sequence, choice, star, not_predicate, call, unlawful}
+use Rattle.grammar.specs.declared.node.NodeFields.{NodeFields}
+use Rattle.grammar.specs.declared.node.Node.{Node}
+use Rattle.grammar.specs.declared.node.Node.TheVariants.{Empty, Text, Sequence, Choice, Star, NotPredicate, Call, Unlawful}
 use Rattle.grammar.specs.Image.{fields_of, node_of, node, rules, root, start}
 use Rattle.image.specs.Fields.{SameFields}
 use Rattle.image.proofs.SameFields.{same_record}
@@ -25,19 +26,19 @@ word_is w s e = ap node_of (sym (same_record s)) ∙ e
 same_root :
     (R ρ : ℕ) (img text : List ℕ) (ev : Evaluator) (left : ℕ) (m : Node)
     → R ≡ rules img
-    → ((r : ℕ) → m ≡ call r → ρ ≡ root img r)
+    → ((r : ℕ) → m ≡ Call r → ρ ≡ root img r)
     → (at : ℕ) (t : List ℕ) (c : ℕ)
     → kind_m text ev (pair_m R ρ text ev left) m at t c ≡ kind_m text ev (rule_m img text ev left) m at t c
 unfolding kind_m
-same_root R ρ img text ev left empty e h at t c = refl
-same_root R ρ img text ev left (terminal x) e h at t c = refl
-same_root R ρ img text ev left (sequence a b) e h at t c = refl
-same_root R ρ img text ev left (choice a b) e h at t c = refl
-same_root R ρ img text ev left (star a) e h at t c = refl
-same_root R ρ img text ev left (not_predicate a) e h at t c = refl
-same_root R ρ img text ev left (call r) e h at t c =
-    λ i. kind_m text ev (λ s. pair_m (e i) (h r refl i) text ev left s) (call r) at t c
-same_root R ρ img text ev left unlawful e h at t c = refl
+same_root R ρ img text ev left Empty e h at t c = refl
+same_root R ρ img text ev left (Text x) e h at t c = refl
+same_root R ρ img text ev left (Sequence a b) e h at t c = refl
+same_root R ρ img text ev left (Choice a b) e h at t c = refl
+same_root R ρ img text ev left (Star a) e h at t c = refl
+same_root R ρ img text ev left (NotPredicate a) e h at t c = refl
+same_root R ρ img text ev left (Call r) e h at t c =
+    λ i. kind_m text ev (λ s. pair_m (e i) (h r refl i) text ev left s) (Call r) at t c
+same_root R ρ img text ev left Unlawful e h at t c = refl
 
 module _ (img text : List ℕ) {ws : List ℕ} (l : Loaded img ws) where
   pub loaded_run : (left i at : ℕ) (t : List ℕ) (c : ℕ) → node_w ws text left i at t c ≡ node_m img text left i at t c

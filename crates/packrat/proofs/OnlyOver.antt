@@ -10,7 +10,9 @@ use lib.ListN.{length, set}
 use lib.Dec.{eqb, leb}
 use borrow.Author.Tests.{le-leb}
 use Rattle.grammar.specs.declared.Evaluation.{Evaluation}
-use Rattle.grammar.specs.Image.{Node, empty, terminal, sequence, choice, star, not_predicate, call, unlawful, node, nodes, root, rules, body}
+use Rattle.grammar.specs.declared.node.Node.{Node}
+use Rattle.grammar.specs.declared.node.Node.TheVariants.{Empty, Text, Sequence, Choice, Star, NotPredicate, Call, Unlawful}
+use Rattle.grammar.specs.Image.{node, nodes, root, rules, body}
 use Rattle.grammar.specs.Questions.{Question4}
 use Rattle.grammar.specs.Evaluates.{Subject, by_body, by_record, a_node, a_pair, rounds_of}
 use Rattle.grammar.specs.Evaluates.{in_sequence, taken_over, second_choice, round_then, negated}
@@ -129,7 +131,7 @@ module _ (img text table : List ℕ) (words : Question4 img) (short : length tex
         → Over img text table (a_node (node img a)) p x
         → node_m img text l a p t c ≡ out (answered x) u d
         → (m : Bool) → x.matched ≡ m
-        → Told (after_first m (node_m img text l) b p x u d) (a_node (sequence a b)) p
+        → Told (after_first m (node_m img text l) b p x u d) (a_node (Sequence a b)) p
     unfolding after_first
     first-told a b p r s h t g c x u d v e false m = answers _ u d (ev_then_first_fails v m refl) refl
     first-told a b p r s h t g c x u d v e true m =
@@ -143,7 +145,7 @@ module _ (img text table : List ℕ) (words : Question4 img) (short : length tex
         → Over img text table (a_node (node img a)) p x
         → node_m img text l a p t c ≡ out (answered x) u d
         → (m : Bool) → x.matched ≡ m
-        → Told (after_choice m (node_m img text l) b p x u d) (a_node (choice a b)) p
+        → Told (after_choice m (node_m img text l) b p x u d) (a_node (Choice a b)) p
     unfolding after_choice
     choice-told a b p r s h t g c x u d v e true m = answers _ u d (ev_else_first v m refl) refl
     choice-told a b p r s h t g c x u d v e false m =
@@ -205,24 +207,24 @@ module _ (img text table : List ℕ) (words : Question4 img) (short : length tex
         (m : Node) (p : ℕ) → Refers img m → p ≤ length text → (t : List ℕ) → Grown img text table t → (c : ℕ)
         → Told (kind_m text (node_m img text l) (rule_m img text (node_m img text l) l) m p t c) (a_node m) p
     unfolding kind_m
-    kind-told empty p r h t g c = answers _ t c (ev_empty refl) refl
-    kind-told (terminal m) p r h t g c = answers _ t c (ev_terminal refl) refl
-    kind-told (sequence a b) p r h t g c =
+    kind-told Empty p r h t g c = answers _ t c (ev_empty refl) refl
+    kind-told (Text m) p r h t g c = answers _ t c (ev_terminal refl) refl
+    kind-told (Sequence a b) p r h t g c =
         and_then (λ x u d. after_first x.matched (node_m img text l) b p x u d) (ev a p r.0 h t g c)
         (λ x u d v e. first-told a b p r.0 r.1 h t g c x u d v e x.matched refl)
-    kind-told (choice a b) p r h t g c =
+    kind-told (Choice a b) p r h t g c =
         and_then (λ x u d. after_choice x.matched (node_m img text l) b p x u d) (ev a p r.0 h t g c)
         (λ x u d v e. choice-told a b p r.0 r.1 h t g c x u d v e x.matched refl)
-    kind-told (star a) p r h t g c =
+    kind-told (Star a) p r h t g c =
         and_then (λ x u d. out (answered (taken_over x)) u d) (rounds-told (suc (length text)) a p r h t g c)
         (λ x u d v e. answers (taken_over x) u d (ev_star v refl) refl)
-    kind-told (not_predicate a) p r h t g c =
+    kind-told (NotPredicate a) p r h t g c =
         and_then (λ x u d. out (answered (negated x)) u d) (ev a p r h t g c)
         (λ x u d v e. answers (negated x) u d (ev_not v refl) refl)
-    kind-told (call s) p r h t g c =
+    kind-told (Call s) p r h t g c =
         and_then (λ x u d. out (answered (taken_over x)) u d) (pair-told s p r h t g c)
         (λ x u d v e. answers (taken_over x) u d (ev_call v refl) refl)
-    kind-told unlawful p r h t g c = refuses 4 t c refl
+    kind-told Unlawful p r h t g c = refuses 4 t c refl
 
   nodes_told : (l : ℕ) → l ≤ 4096 → Nodes l
   unfolding node_m

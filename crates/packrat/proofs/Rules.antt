@@ -8,10 +8,11 @@ use mathlib.Core.List.{List}
 use lib.ListN.{length, get_or, set}
 use lib.Dec.{leb}
 use borrow.Author.Tests.{le-leb, lt-leb}
-use Rattle.grammar.specs.Image.{Node, call}
+use Rattle.grammar.specs.declared.node.Node.{Node}
+use Rattle.grammar.specs.declared.node.Node.TheVariants.{Call}
 use Rattle.evaluation.specs.Within.{Within}
 use Rattle.records.specs.declared.Record.{Record}
-use Rattle.records.specs.declared.Decoded.TheVariants.{Possible, Impossible}
+use Rattle.std.specs.Prelude.{Some, None}
 use Rattle.records.specs.Words.{is_held, possible, IsPossible, nesting_of, value_of, word_of, record_of, record_word}
 use Rattle.records.specs.Slots.{slot_of}
 use Rattle.records.proofs.Codec.{word_again}
@@ -22,11 +23,11 @@ use Rattle.packrat.specs.Gives.{Gives}
 use Rattle.packrat.proofs.Gives.{found, was_refused, gives_value, gives_refusal}
 
 -- What the decoder's answer says.
-pub was_possible : (r q : Record) (b : Bool) → Possible r ≡ cond b (Possible q) Impossible → (b ≡ true) × (r ≡ q)
+pub was_possible : (r q : Record) (b : Bool) → Some r ≡ cond b (Some q) None → (b ≡ true) × (r ≡ q)
 was_possible r q true e = (refl, cc)
 was_possible r q false e = absurd (let z : ◌≡◌ {A = ℕ} 0 1 = cc in omega arith)
 
-pub was_impossible : (q : Record) (b : Bool) → Impossible ≡ cond b (Possible q) Impossible → b ≡ false
+pub was_impossible : (q : Record) (b : Bool) → None ≡ cond b (Some q) None → b ≡ false
 was_impossible q true e = absurd (let z : ◌≡◌ {A = ℕ} 0 1 = cc in omega arith)
 was_impossible q false e = refl
 
@@ -154,11 +155,11 @@ module _ {n : ℕ} (ws text : List ℕ) (left : ℕ) where
       (w at : ℕ) (t : List ℕ) (c : ℕ) {root rule r d : ℕ} {u : List ℕ}
       → (left ≡ 0 → ⊥)
       → root ≡ word_b w
-      → word_node w ≡ call rule
-      → Gives n at (left - 1 + 1) (kind_w ws text (left - 1) root (call rule) at t c) r u d
+      → word_node w ≡ Call rule
+      → Gives n at (left - 1 + 1) (kind_w ws text (left - 1) root (Call rule) at t c) r u d
       → Gives n at left (word_m ws text (left - 1) w at t c) r u d
   call_goes w at t c {rule = rule} {r} {d} {u} ne b e g =
-      word_goes w at t c ne e (subst (λ (k : ℕ). Gives n at (left - 1 + 1) (kind_w ws text (left - 1) k (call rule) at t c) r u d) b g)
+      word_goes w at t c ne e (subst (λ (k : ℕ). Gives n at (left - 1 + 1) (kind_w ws text (left - 1) k (Call rule) at t c) r u d) b g)
 
 -- A kind that is none of 0 to 7.
 pub past_7 :

@@ -6,7 +6,7 @@ use mathlib.Core.Path.{◌≡◌, sym, ap, ◌∙◌, subst}
 use mathlib.Core.Bool.{Bool, true, false}
 use mathlib.Core.List.{List}
 use Rattle.grammar.specs.declared.Evaluation.{Evaluation}
-use Rattle.grammar.specs.Image.{sequence, choice, not_predicate, call}
+use Rattle.grammar.specs.declared.node.Node.TheVariants.{Sequence, Choice, NotPredicate, Call}
 use Rattle.grammar.specs.Evaluates.{first_failed, in_sequence, taken_over, second_choice, negated}
 use Rattle.evaluation.specs.Within.{Within}
 use Rattle.evaluation.proofs.Shape.{failed_within, taken_within, negated_within, second_within, then_within}
@@ -22,7 +22,7 @@ module _ {n at left : ℕ} (text : List ℕ) (nodes called : Evaluator) (t : Lis
       (a b : ℕ) {r d : ℕ} {u : List ℕ}
       → Gives n at left (nodes a at t c) r u d
       → r < 16
-      → Gives n at (left + 1) (kind_m text nodes called (sequence a b) at t c) r u d
+      → Gives n at (left + 1) (kind_m text nodes called (Sequence a b) at t c) r u d
   unfolding kind_m
   sequence_refused a b g h =
       let f = was_refused short (omega arith) g h in
@@ -34,7 +34,7 @@ module _ {n at left : ℕ} (text : List ℕ) (nodes called : Evaluator) (t : Lis
       → 16 ≤ r
       → matched_of r ≡ false
       → w ≡ word_of (first_failed (value_of r))
-      → Gives n at (left + 1) (kind_m text nodes called (sequence a b) at t c) w u d
+      → Gives n at (left + 1) (kind_m text nodes called (Sequence a b) at t c) w u d
   unfolding kind_m after_first
   sequence_failed a b {d = d} {u = u} g h m e =
       let f = found short (omega arith) g h in
@@ -48,7 +48,7 @@ module _ {n at left : ℕ} (text : List ℕ) (nodes called : Evaluator) (t : Lis
 
   -- What the first part leaves: its evaluation, its length as the word says it.
   module _ (a b : ℕ) {r d : ℕ} {u : List ℕ} (g : Gives n at left (nodes a at t c) r u d) (h : 16 ≤ r) (m : matched_of r ≡ true) where
-    then_runs : (o : Out) → nodes b (at + length_of r) u d ≡ o → kind_m text nodes called (sequence a b) at t c ≡ made (in_sequence (value_of r)) o
+    then_runs : (o : Out) → nodes b (at + length_of r) u d ≡ o → kind_m text nodes called (Sequence a b) at t c ≡ made (in_sequence (value_of r)) o
     unfolding kind_m after_first
     then_runs o e =
         let f = found short (omega arith) g h in
@@ -64,7 +64,7 @@ module _ {n at left : ℕ} (text : List ℕ) (nodes called : Evaluator) (t : Lis
         {s e : ℕ} {v : List ℕ}
         → Gives n (at + length_of r) left (nodes b (at + length_of r) u d) s v e
         → s < 16
-        → Gives n at (left + 1) (kind_m text nodes called (sequence a b) at t c) s v e
+        → Gives n at (left + 1) (kind_m text nodes called (Sequence a b) at t c) s v e
     sequence_second_refused g2 h2 =
         let f = was_refused short (omega arith) g2 h2 in
         gives_refusal (then_runs _ f.is) f.small
@@ -89,7 +89,7 @@ module _ {n at left : ℕ} (text : List ℕ) (nodes called : Evaluator) (t : Lis
         → Gives n (at + length_of r) left (nodes b (at + length_of r) u d) s v e
         → 16 ≤ s
         → w ≡ word_of (in_sequence (value_of r) (value_of s))
-        → Gives n at (left + 1) (kind_m text nodes called (sequence a b) at t c) w v e
+        → Gives n at (left + 1) (kind_m text nodes called (Sequence a b) at t c) w v e
     sequence_both {s} {e} {v = v} g2 h2 k =
         let x = found short (omega arith) g h in
         let y = found short (omega arith) g2 h2 in
@@ -107,7 +107,7 @@ module _ {n at left : ℕ} (text : List ℕ) (nodes called : Evaluator) (t : Lis
       (a b : ℕ) {r d : ℕ} {u : List ℕ}
       → Gives n at left (nodes a at t c) r u d
       → r < 16
-      → Gives n at (left + 1) (kind_m text nodes called (choice a b) at t c) r u d
+      → Gives n at (left + 1) (kind_m text nodes called (Choice a b) at t c) r u d
   unfolding kind_m
   choice_refused a b g h =
       let f = was_refused short (omega arith) g h in
@@ -119,7 +119,7 @@ module _ {n at left : ℕ} (text : List ℕ) (nodes called : Evaluator) (t : Lis
       → 16 ≤ r
       → matched_of r ≡ true
       → w ≡ word_of (taken_over (value_of r))
-      → Gives n at (left + 1) (kind_m text nodes called (choice a b) at t c) w u d
+      → Gives n at (left + 1) (kind_m text nodes called (Choice a b) at t c) w u d
   unfolding kind_m after_choice
   choice_first a b {d = d} {u = u} g h m e =
       let f = found short (omega arith) g h in
@@ -132,7 +132,7 @@ module _ {n at left : ℕ} (text : List ℕ) (nodes called : Evaluator) (t : Lis
       (omega (arith, f.bounds.allowed))
 
   module _ (a b : ℕ) {r d : ℕ} {u : List ℕ} (g : Gives n at left (nodes a at t c) r u d) (h : 16 ≤ r) (m : matched_of r ≡ false) where
-    else-runs : (o : Out) → nodes b at u d ≡ o → kind_m text nodes called (choice a b) at t c ≡ made (second_choice (value_of r)) o
+    else-runs : (o : Out) → nodes b at u d ≡ o → kind_m text nodes called (Choice a b) at t c ≡ made (second_choice (value_of r)) o
     unfolding kind_m after_choice
     else-runs o e =
         let f = found short (omega arith) g h in
@@ -146,7 +146,7 @@ module _ {n at left : ℕ} (text : List ℕ) (nodes called : Evaluator) (t : Lis
         {s e : ℕ} {v : List ℕ}
         → Gives n at left (nodes b at u d) s v e
         → s < 16
-        → Gives n at (left + 1) (kind_m text nodes called (choice a b) at t c) s v e
+        → Gives n at (left + 1) (kind_m text nodes called (Choice a b) at t c) s v e
     choice_second_refused g2 h2 =
         let f = was_refused short (omega arith) g2 h2 in
         gives_refusal (else-runs _ f.is) f.small
@@ -156,7 +156,7 @@ module _ {n at left : ℕ} (text : List ℕ) (nodes called : Evaluator) (t : Lis
         → Gives n at left (nodes b at u d) s v e
         → 16 ≤ s
         → w ≡ word_of (second_choice (value_of r) (value_of s))
-        → Gives n at (left + 1) (kind_m text nodes called (choice a b) at t c) w v e
+        → Gives n at (left + 1) (kind_m text nodes called (Choice a b) at t c) w v e
     choice_second {s} {e} {v = v} g2 h2 k =
         let x = found short (omega arith) g h in
         let y = found short (omega arith) g2 h2 in
@@ -173,7 +173,7 @@ module _ {n at left : ℕ} (text : List ℕ) (nodes called : Evaluator) (t : Lis
       (a : ℕ) {r d : ℕ} {u : List ℕ}
       → Gives n at left (nodes a at t c) r u d
       → r < 16
-      → Gives n at (left + 1) (kind_m text nodes called (not_predicate a) at t c) r u d
+      → Gives n at (left + 1) (kind_m text nodes called (NotPredicate a) at t c) r u d
   unfolding kind_m
   not_refused a g h =
       let f = was_refused short (omega arith) g h in
@@ -184,7 +184,7 @@ module _ {n at left : ℕ} (text : List ℕ) (nodes called : Evaluator) (t : Lis
       → Gives n at left (nodes a at t c) r u d
       → 16 ≤ r
       → w ≡ word_of (negated (value_of r))
-      → Gives n at (left + 1) (kind_m text nodes called (not_predicate a) at t c) w u d
+      → Gives n at (left + 1) (kind_m text nodes called (NotPredicate a) at t c) w u d
   unfolding kind_m
   not_answered a g h e =
       let f = found short (omega arith) g h in
@@ -199,7 +199,7 @@ module _ {n at left : ℕ} (text : List ℕ) (nodes called : Evaluator) (t : Lis
       (rule : ℕ) {r d : ℕ} {u : List ℕ}
       → Gives n at left (called rule at t c) r u d
       → r < 16
-      → Gives n at (left + 1) (kind_m text nodes called (call rule) at t c) r u d
+      → Gives n at (left + 1) (kind_m text nodes called (Call rule) at t c) r u d
   unfolding kind_m
   call_refused rule g h =
       let f = was_refused short (omega arith) g h in
@@ -210,7 +210,7 @@ module _ {n at left : ℕ} (text : List ℕ) (nodes called : Evaluator) (t : Lis
       → Gives n at left (called rule at t c) r u d
       → 16 ≤ r
       → w ≡ word_of (taken_over (value_of r))
-      → Gives n at (left + 1) (kind_m text nodes called (call rule) at t c) w u d
+      → Gives n at (left + 1) (kind_m text nodes called (Call rule) at t c) w u d
   unfolding kind_m
   call_answered rule g h e =
       let f = found short (omega arith) g h in

@@ -9,7 +9,7 @@ use lib.ListN.{length}
 use lib.Dec.{eqb}
 use borrow.Author.Tests.{eq-eqb, ne_eqb}
 use Rattle.grammar.specs.declared.Evaluation.{Evaluation}
-use Rattle.grammar.specs.Image.{star}
+use Rattle.grammar.specs.declared.node.Node.TheVariants.{Star}
 use Rattle.grammar.specs.Evaluates.{taken_over, last_round, round_then}
 use Rattle.records.specs.Words.{word_of, matched_of, length_of, examined_of, nesting_of}
 use Rattle.packrat.specs.Model.{answered, refused, Out, out, Evaluator, bind, made, after_round, rounds_m, kind_m}
@@ -165,7 +165,7 @@ module _ {n at left : ℕ} (nodes : Evaluator) (a : ℕ) {goal : Out} {t : List 
           → x ≡ max examined (consumed + examined_of r)
           → y ≡ max deepest (nesting_of r)
           → w ≡ word_of (record { matched = true; length = consumed; examined = x; nesting = 1 + y })
-          → Gives n at (left + 1) (kind_m text nodes called (star a) at t₀ c₀) w u d
+          → Gives n at (left + 1) (kind_m text nodes called (Star a) at t₀ c₀) w u d
       unfolding kind_m after_round
       round_fails text called t₀ c₀ {x = x} {y = y} eg m ex ey ew =
           let v = found short (omega arith) g h in

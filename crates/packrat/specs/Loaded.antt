@@ -2,7 +2,9 @@
 -- A loaded grammar has a word for each number that a field of 12 bits can have, and then the number of rules. The words are the
 -- linked words of the nodes: a call's field B, which is 0 in the image, is the root of the called rule.
 use Rattle.std.specs.Prelude.{ℕ, zero, suc, ◌≡◌, List, get_or}
-use Rattle.grammar.specs.Image.{Node, call, fields_of, node_of, node, rules, root}
+use Rattle.grammar.specs.declared.node.Node.{Node}
+use Rattle.grammar.specs.declared.node.Node.TheVariants.{Call}
+use Rattle.grammar.specs.Image.{fields_of, node_of, node, rules, root}
 pub use Rattle.image.specs.Linked.{linked_word}
 use Rattle.packrat.specs.Model.{Out, out, refused, Evaluator, pair_m, kind_m}
 
@@ -19,7 +21,7 @@ rules_in ws = get_or ws 4096 0
 -- The word of node i of the image, loaded.
 pub record LoadedWord (img : List ℕ) (i word : ℕ) : Type 0 where
   pub node_is : word_node word ≡ node img i
-  pub root_is : (r : ℕ) → node img i ≡ call r → word_b word ≡ root img r
+  pub root_is : (r : ℕ) → node img i ≡ Call r → word_b word ≡ root img r
 
 -- A loaded grammar is the image's. Past the last node the image reads as 0, and so does the loaded grammar.
 pub record Loaded (img ws : List ℕ) : Type 0 where

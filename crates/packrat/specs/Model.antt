@@ -3,7 +3,8 @@
 use Rattle.std.specs.Prelude.{ℕ, zero, suc, ◌+◌, ◌%◌, ◌^◌, Bool, true, false, List, length, get_or, set, leb, eqb}
 use Rattle.grammar.specs.declared.Evaluation.{Evaluation}
 use Rattle.grammar.specs.Image.{rules, root, node}
-use Rattle.grammar.specs.Image.{Node, empty, terminal, sequence, choice, star, not_predicate, call, unlawful}
+use Rattle.grammar.specs.declared.node.Node.{Node}
+use Rattle.grammar.specs.declared.node.Node.TheVariants.{Empty, Text, Sequence, Choice, Star, NotPredicate, Call, Unlawful}
 use Rattle.grammar.specs.Terminal.{terminal_at}
 use Rattle.grammar.specs.Evaluates.{empty_here, first_failed, in_sequence, taken_over, second_choice, last_round, round_then, negated}
 use Rattle.records.specs.Words.{is_held, possible, nesting_of, value_of, word_of}
@@ -73,14 +74,14 @@ rule_m img text ev left r = pair_m (rules img) (root img r) text ev left r
 
 -- A node, by what it is: `nodes` evaluates its children, `called` the rules that it calls.
 unfoldable pub kind_m : (text : List ℕ) → (nodes called : Evaluator) → Node → (at : ℕ) → List ℕ → ℕ → Out
-kind_m text nodes called empty at t c = out (answered empty_here) t c
-kind_m text nodes called (terminal m) at t c = out (answered (terminal_at m text at)) t c
-kind_m text nodes called (sequence a b) at t c = bind (nodes a at t c) (λ x u d. after_first x.matched nodes b at x u d)
-kind_m text nodes called (choice a b) at t c = bind (nodes a at t c) (λ x u d. after_choice x.matched nodes b at x u d)
-kind_m text nodes called (star a) at t c = made taken_over (rounds_m (suc (length text)) nodes a at t c)
-kind_m text nodes called (not_predicate a) at t c = made negated (nodes a at t c)
-kind_m text nodes called (call r) at t c = made taken_over (called r at t c)
-kind_m text nodes called unlawful at t c = out (refused 4) t c
+kind_m text nodes called Empty at t c = out (answered empty_here) t c
+kind_m text nodes called (Text m) at t c = out (answered (terminal_at m text at)) t c
+kind_m text nodes called (Sequence a b) at t c = bind (nodes a at t c) (λ x u d. after_first x.matched nodes b at x u d)
+kind_m text nodes called (Choice a b) at t c = bind (nodes a at t c) (λ x u d. after_choice x.matched nodes b at x u d)
+kind_m text nodes called (Star a) at t c = made taken_over (rounds_m (suc (length text)) nodes a at t c)
+kind_m text nodes called (NotPredicate a) at t c = made negated (nodes a at t c)
+kind_m text nodes called (Call r) at t c = made taken_over (called r at t c)
+kind_m text nodes called Unlawful at t c = out (refused 4) t c
 
 -- A node, with an allowance of nesting.
 unfoldable pub node_m : (img text : List ℕ) → (left : ℕ) → Evaluator

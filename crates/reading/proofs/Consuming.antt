@@ -1,7 +1,8 @@
 -- Question 13 never fails: under an accepted image every matched round of every star has length 1 or more. Assumes nothing.
 use Rattle.std.proofs.Common.{◌≡◌, ℕ, ◌<◌, Bool, true, List, subst}
 use Rattle.grammar.specs.declared.Evaluation.{Evaluation}
-use Rattle.grammar.specs.Image.{node, nodes, star}
+use Rattle.grammar.specs.declared.node.Node.TheVariants.{Star}
+use Rattle.grammar.specs.Image.{node, nodes}
 use Rattle.grammar.specs.Outcomes.{Has}
 use Rattle.grammar.specs.Questions.{Accepted}
 use Rattle.grammar.specs.Evaluates.{Fresh, a_node}
@@ -13,7 +14,7 @@ pub rounds_consume :
     (img text : List ℕ) (n a p : ℕ) {x : Evaluation}
     → Accepted img
     → n < nodes img
-    → node img n ≡ star a
+    → node img n ≡ Star a
     → Fresh img text (a_node (node img a)) p x
     → x.matched ≡ true
     → x.length ≡ 0

@@ -6,7 +6,7 @@ use borrow.Author.Tests.{leb-true, le-leb, eqb-true, eq-eqb}
 use lib.Dec.{eqb}
 use Rattle.grammar.proofs.Bools.{both, joined}
 use Rattle.records.specs.declared.Record.{Record}
-use Rattle.records.specs.declared.Decoded.TheVariants.{Possible, Impossible}
+use Rattle.std.specs.Prelude.{Some, None}
 use Rattle.records.specs.Words.{matched_of, spare_of, nesting_of, examined_of, length_of, IsPossible, possible, record_of, decoded}
 
 module _ (word at n : ℕ) where
@@ -55,8 +55,8 @@ module _ (word at n : ℕ) where
       go false e = e
 
   -- What the decoder answers of an impossible word, and of a possible one.
-  pub none_found : (IsPossible word at n → ⊥) → Impossible ≡ decoded word at n
-  none_found h = ap (λ (b : Bool). cond b (Possible (record_of word)) Impossible) (sym (fails_test h))
+  pub none_found : (IsPossible word at n → ⊥) → None ≡ decoded word at n
+  none_found h = ap (λ (b : Bool). cond b (Some (record_of word)) None) (sym (fails_test h))
 
-  pub found : (r : Record) → r ≡ record_of word → IsPossible word at n → Possible r ≡ decoded word at n
-  found r e h = ap Possible e ∙ ap (λ (b : Bool). cond b (Possible (record_of word)) Impossible) (sym (passes_test h))
+  pub found : (r : Record) → r ≡ record_of word → IsPossible word at n → Some r ≡ decoded word at n
+  found r e h = ap Some e ∙ ap (λ (b : Bool). cond b (Some (record_of word)) None) (sym (passes_test h))

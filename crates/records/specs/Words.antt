@@ -1,11 +1,9 @@
 -- The record word: which bits are which field, which evaluation a word says, and question 12.
-use Rattle.std.specs.Prelude.{ℕ, ◌+◌, ◌*◌, ◌%◌, ◌^◌, ◌≤◌, ◌≡◌, Bool, false, cond, ◌&&◌, ◌||◌, leb, eqb}
+use Rattle.std.specs.Prelude.{ℕ, ◌+◌, ◌*◌, ◌%◌, ◌^◌, ◌≤◌, ◌≡◌, Bool, false, cond, ◌&&◌, ◌||◌, leb, eqb, Option, Some, None}
 use mir.Val.{bool_byte}
 use Rattle.grammar.specs.Image.{field}
 use Rattle.grammar.specs.declared.Evaluation.{Evaluation}
 use Rattle.records.specs.declared.Record.{Record}
-use Rattle.records.specs.declared.Decoded.{Decoded}
-use Rattle.records.specs.declared.Decoded.TheVariants.{Possible, Impossible}
 
 -- "A record is a 64-bit word: held 1, matched 1, zero 16, nesting 13, examined 17, length 16."
 abbrev pub is_held : ℕ → Bool
@@ -85,5 +83,5 @@ pub record SaidBy (word : ℕ) (r : Record) : Type 0 where
   pub length_is : r.length ≡ length_of word
 
 -- What the decoder answers.
-abbrev pub decoded : (word at n : ℕ) → Decoded
-decoded word at n = cond (possible word at n) (Possible (record_of word)) Impossible
+abbrev pub decoded : (word at n : ℕ) → Option Record
+decoded word at n = cond (possible word at n) (Some (record_of word)) None

@@ -15,13 +15,6 @@ pub struct Record {
     pub length: usize,
 }
 
-// What the decoder answers: "is each record met possible?"
-#[derive(Clone, Copy)]
-pub enum Decoded {
-    Possible(Record),
-    Impossible,
-}
-
 // The bits of the word, from the top. A field has so many values, and 1 in it is so much of the word.
 // "held 1"
 pub const HELD: u64 = 1 << 63;
@@ -64,12 +57,6 @@ pub fn is_held(word: u64) -> bool
     HELD <= word
 }
 
-fn wide(word: u64) -> usize
-    ensures { result ≡ word }
-{
-    word as usize
-}
-
 // The fields of a word, held or not.
 pub fn matched_of(word: u64) -> bool
     ensures { result ≡ matched_of word }
@@ -80,25 +67,25 @@ pub fn matched_of(word: u64) -> bool
 pub fn spare_of(word: u64) -> usize
     ensures { (result ≡ spare_of word) × (result < 65536) }
 {
-    wide(word) / SPARE_UNIT % SPARE_VALUES
+    word as usize / SPARE_UNIT % SPARE_VALUES
 }
 
 pub fn nesting_of(word: u64) -> usize
     ensures { (result ≡ nesting_of word) × (result < 8192) }
 {
-    wide(word) / NESTING_UNIT % NESTING_VALUES
+    word as usize / NESTING_UNIT % NESTING_VALUES
 }
 
 pub fn examined_of(word: u64) -> usize
     ensures { (result ≡ examined_of word) × (result < 131072) }
 {
-    wide(word) / EXAMINED_UNIT % EXAMINED_VALUES
+    word as usize / EXAMINED_UNIT % EXAMINED_VALUES
 }
 
 pub fn length_of(word: u64) -> usize
     ensures { (result ≡ length_of word) × (result < 65536) }
 {
-    wide(word) % LENGTH_VALUES
+    word as usize % LENGTH_VALUES
 }
 
 impl Record {
@@ -120,50 +107,52 @@ impl Record {
         }
     }
 
-    // The record of a held word that position `at` of a text of n bytes can have.
-    pub fn from_word(word: u64, at: usize, n: usize) -> Decoded
+    // "is each record met possible?" The record of a held word that position `at` of a text of n bytes can have.
+    pub fn from_word(word: u64, at: usize, n: usize) -> Option<Record>
         ensures { result ≡ decoded word at n }
     {
         let said = Record::said_by(word);
         if said.nesting < 1 {
-            return Decoded::Impossible;
+            return None;
         }
         if Record::MAX_NESTING < said.nesting {
-            return Decoded::Impossible;
+            return None;
         }
         if said.examined < said.length {
-            return Decoded::Impossible;
+            return None;
         }
         if n < at {
-            return Decoded::Impossible;
+            return None;
         }
         if n - at < said.length {
-            return Decoded::Impossible;
+            return None;
         }
         if said.spare != 0 {
-            return Decoded::Impossible;
+            return None;
         }
         if n - at < said.examined {
             if n - at < said.examined - 1 {
-                return Decoded::Impossible;
+                return None;
             }
         }
         if !said.matched {
             if said.length != 0 {
-                return Decoded::Impossible;
+                return None;
             }
         }
-        Decoded::Possible(said)
+        Some(said)
     }
+}
 
-    // The record's word. A field that is too wide loses its upper bits.
-    pub fn word(self) -> u64
-        ensures { result ≡ record_word self }
-    {
-        let low = self.length % LENGTH_VALUES + self.examined % EXAMINED_VALUES * EXAMINED_UNIT;
-        let high = self.nesting % NESTING_VALUES * NESTING_UNIT
-            + self.spare % SPARE_VALUES * SPARE_UNIT;
-        if self.matched {
+// The record's word. A field that is too wide loses its upper bits.
+impl From<Record> for u64 {
+    ghost from_gives = { λ r w. w ≡ record_word r };
+
+    fn from(record: Record) -> u64 {
+        let low = record.length % LENGTH_VALUES + record.examined % EXAMINED_VALUES * EXAMINED_UNIT;
+        let high = record.nesting % NESTING_VALUES * NESTING_UNIT
+            + record.spare % SPARE_VALUES * SPARE_UNIT;
+        if record.matched {
             HELD_MATCHED + (high + low) as u64
         } else {
             HELD + (high + low) as u64

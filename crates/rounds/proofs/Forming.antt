@@ -11,7 +11,8 @@ use lib.ListN.{get_or}
 use borrow.Author.Tests.{not-true}
 use Rattle.grammar.proofs.Bools.{both, either}
 use Rattle.grammar.specs.Image.{nodes, root, node, body}
-use Rattle.grammar.specs.Image.{Node, empty, terminal, sequence, choice, star, not_predicate, call, unlawful}
+use Rattle.grammar.specs.declared.node.Node.{Node}
+use Rattle.grammar.specs.declared.node.Node.TheVariants.{Empty, Text, Sequence, Choice, Star, NotPredicate, Call, Unlawful}
 use Rattle.grammar.specs.Outcomes.{matches_empty, Has}
 use Rattle.grammar.specs.WellFormed.{WellFormed, wf_empty, wf_terminal, wf_call, wf_then, wf_else, wf_star, wf_not}
 use Rattle.grammar.specs.Questions.{Question4}
@@ -36,22 +37,22 @@ module _ (img known : List ℕ) (formed : List Bool) (sets : Outcomes img known)
   -- The references stay in range, so that the sets tell all outcomes of the child.
   pub formed_only : (n : Node) → Refers img n → formed_from img known formed n ≡ true → WellFormed img n
   unfolding formed_from body
-  formed_only empty r h = wf_empty
-  formed_only (terminal t) r h = wf_terminal
-  formed_only (sequence a b) r h =
+  formed_only Empty r h = wf_empty
+  formed_only (Text t) r h = wf_terminal
+  formed_only (Sequence a b) r h =
       let v = both _ _ h in
       wf_then (only a v.0)
       (λ has. ⊎_elim
       (λ w. absurd (lacks _ w (sets.all a matches_empty r.0 has)))
       (λ w. only b w)
       (either _ _ v.1))
-  formed_only (choice a b) r h = let v = both _ _ h in wf_else (only a v.0) (only b v.1)
-  formed_only (star a) r h =
+  formed_only (Choice a b) r h = let v = both _ _ h in wf_else (only a v.0) (only b v.1)
+  formed_only (Star a) r h =
       let v = both _ _ h in
       wf_star (only a v.0) (λ has. lacks _ v.1 (sets.all a matches_empty r has))
-  formed_only (not_predicate a) r h = wf_not (only a h)
-  formed_only (call rule) r h = wf_call (only (root img rule) h)
-  formed_only unlawful r h = absurd (true≢false (sym h))
+  formed_only (NotPredicate a) r h = wf_not (only a h)
+  formed_only (Call rule) r h = wf_call (only (root img rule) h)
+  formed_only Unlawful r h = absurd (true≢false (sym h))
 
 module _
     (img known : List ℕ)
@@ -62,7 +63,7 @@ module _
   where
     then-all :
         (a b : ℕ) → get_or formed a false ≡ true → (Has img (node img a) matches_empty → get_or formed b false ≡ true)
-        → formed_from img known formed (sequence a b) ≡ true
+        → formed_from img known formed (Sequence a b) ≡ true
     unfolding formed_from
     then-all a b p q = rw p (go (bit matches_empty (get_or known a 0)) refl)
       where
@@ -71,7 +72,7 @@ module _
         go false e = refl
 
     star-all :
-        (a : ℕ) → get_or formed a false ≡ true → (Has img (node img a) matches_empty → ⊥) → formed_from img known formed (star a) ≡ true
+        (a : ℕ) → get_or formed a false ≡ true → (Has img (node img a) matches_empty → ⊥) → formed_from img known formed (Star a) ≡ true
     unfolding formed_from
     star-all a p n = rw p (go (bit matches_empty (get_or known a 0)) refl)
       where

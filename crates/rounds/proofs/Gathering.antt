@@ -10,7 +10,8 @@ use mathlib.Core.List.{List}
 use lib.ListN.{get_or}
 use Rattle.grammar.proofs.Bools.{both, either}
 use Rattle.grammar.specs.Image.{nodes, root, node, body}
-use Rattle.grammar.specs.Image.{Node, empty, terminal, sequence, choice, star, not_predicate, call, unlawful}
+use Rattle.grammar.specs.declared.node.Node.{Node}
+use Rattle.grammar.specs.declared.node.Node.TheVariants.{Empty, Text, Sequence, Choice, Star, NotPredicate, Call, Unlawful}
 use Rattle.grammar.specs.Outcomes.{Outcome, matches_empty, consumes, fails, Has, empty_0, terminal_1, terminal_f, call_body}
 use Rattle.grammar.specs.Outcomes.{then_00, then_10, then_11, then_01, then_f, then_0f, then_1f, else_0, else_1, else_second}
 use Rattle.grammar.specs.Outcomes.{star_1, star_0, not_f0, not_f1, not_0}
@@ -29,7 +30,7 @@ abbrev pub Closed : (img known : List ℕ) → ℕ → Type 0
 Closed img known n = (o : Outcome) → bit o (gathered img known (node img n)) ≡ true → bit o (get_or known n 0) ≡ true
 
 module _ (img known : List ℕ) (only : Only img known) where
-  then_only : (a b : ℕ) (o : Outcome) → bit o (then_set (get_or known a 0) (get_or known b 0)) ≡ true → Has img (sequence a b) o
+  then_only : (a b : ℕ) (o : Outcome) → bit o (then_set (get_or known a 0) (get_or known b 0)) ≡ true → Has img (Sequence a b) o
   unfolding then_set
   then_only a b matches_empty h =
       let w = both _ _ (sym (bit-pack matches_empty _ _ _) ∙ h) in
@@ -51,7 +52,7 @@ module _ (img known : List ℕ) (only : Only img known) where
       (either _ _ v.0))
       (either _ _ (sym (bit-pack fails _ _ _) ∙ h))
 
-  else_only : (a b : ℕ) (o : Outcome) → bit o (else_set (get_or known a 0) (get_or known b 0)) ≡ true → Has img (choice a b) o
+  else_only : (a b : ℕ) (o : Outcome) → bit o (else_set (get_or known a 0) (get_or known b 0)) ≡ true → Has img (Choice a b) o
   unfolding else_set
   else_only a b matches_empty h =
       ⊎_elim
@@ -66,13 +67,13 @@ module _ (img known : List ℕ) (only : Only img known) where
   else_only a b fails h =
       let v = both _ _ (sym (bit-pack fails _ _ _) ∙ h) in else_second (only a fails v.0) (only b fails v.1)
 
-  star_only : (a : ℕ) (o : Outcome) → bit o (star_set (get_or known a 0)) ≡ true → Has img (star a) o
+  star_only : (a : ℕ) (o : Outcome) → bit o (star_set (get_or known a 0)) ≡ true → Has img (Star a) o
   unfolding star_set
   star_only a matches_empty h = star_0 (only a fails (sym (bit-pack matches_empty _ _ _) ∙ h))
   star_only a consumes h = star_1 (only a consumes (sym (bit-pack consumes _ _ _) ∙ h))
   star_only a fails h = absurd (true≢false (sym h ∙ bit-pack fails _ _ _))
 
-  not_only : (a : ℕ) (o : Outcome) → bit o (not_set (get_or known a 0)) ≡ true → Has img (not_predicate a) o
+  not_only : (a : ℕ) (o : Outcome) → bit o (not_set (get_or known a 0)) ≡ true → Has img (NotPredicate a) o
   unfolding not_set
   not_only a matches_empty h = not_0 (only a fails (sym (bit-pack matches_empty _ _ _) ∙ h))
   not_only a consumes h = absurd (true≢false (sym h ∙ bit-pack consumes _ _ _))
@@ -84,20 +85,20 @@ module _ (img known : List ℕ) (only : Only img known) where
 
   pub gathered_only : (n : Node) (o : Outcome) → bit o (gathered img known n) ≡ true → Has img n o
   unfolding gathered bit body
-  gathered_only empty matches_empty h = empty_0
-  gathered_only empty consumes h = absurd (true≢false (sym h))
-  gathered_only empty fails h = absurd (true≢false (sym h))
-  gathered_only (terminal t) matches_empty h = absurd (true≢false (sym h))
-  gathered_only (terminal t) consumes h = terminal_1
-  gathered_only (terminal t) fails h = terminal_f
-  gathered_only (sequence a b) o h = then_only a b o h
-  gathered_only (choice a b) o h = else_only a b o h
-  gathered_only (star a) o h = star_only a o h
-  gathered_only (not_predicate a) o h = not_only a o h
-  gathered_only (call r) o h = call_body (only (root img r) o h)
-  gathered_only unlawful matches_empty h = absurd (true≢false (sym h))
-  gathered_only unlawful consumes h = absurd (true≢false (sym h))
-  gathered_only unlawful fails h = absurd (true≢false (sym h))
+  gathered_only Empty matches_empty h = empty_0
+  gathered_only Empty consumes h = absurd (true≢false (sym h))
+  gathered_only Empty fails h = absurd (true≢false (sym h))
+  gathered_only (Text t) matches_empty h = absurd (true≢false (sym h))
+  gathered_only (Text t) consumes h = terminal_1
+  gathered_only (Text t) fails h = terminal_f
+  gathered_only (Sequence a b) o h = then_only a b o h
+  gathered_only (Choice a b) o h = else_only a b o h
+  gathered_only (Star a) o h = star_only a o h
+  gathered_only (NotPredicate a) o h = not_only a o h
+  gathered_only (Call r) o h = call_body (only (root img r) o h)
+  gathered_only Unlawful matches_empty h = absurd (true≢false (sym h))
+  gathered_only Unlawful consumes h = absurd (true≢false (sym h))
+  gathered_only Unlawful fails h = absurd (true≢false (sym h))
 
 second_of : (o : Outcome) (x y : ℕ) → bit fails x ≡ true → bit o y ≡ true → bit o (else_set x y) ≡ true
 unfolding else_set

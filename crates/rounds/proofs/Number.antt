@@ -7,7 +7,9 @@ use mathlib.Core.List.{List, [], ◌∷◌}
 use mathlib.Core.Logic.{inl, inr}
 use lib.ListN.{get_or}
 use borrow.Author.Tests.{not-true}
-use Rattle.grammar.specs.Image.{Node, empty, terminal, sequence, choice, star, not_predicate, call, unlawful, node, nodes}
+use Rattle.grammar.specs.declared.node.Node.{Node}
+use Rattle.grammar.specs.declared.node.Node.TheVariants.{Empty, Text, Sequence, Choice, Star, NotPredicate, Call, Unlawful}
+use Rattle.grammar.specs.Image.{node, nodes}
 use Rattle.grammar.specs.Outcomes.{Has, matches_empty}
 use Rattle.grammar.specs.Questions.{Question, First, of_image, Checked, Question1, Question2, Question3, Question4, Question5, Question6, Question7}
 use Rattle.grammar.specs.Tests.{every, edition_test, counts_test, size_test, words_test, once_test}
@@ -36,10 +38,10 @@ module _ (img : List ℕ) (counts : Question2 img) (words : Question4 img) where
   unfolding stars_test star_test
   stars_asked e = record { stars = go }
     where
-      go : (n a : ℕ) → n < nodes img → node img n ≡ star a → Has img (node img a) matches_empty → ⊥
+      go : (n a : ℕ) → n < nodes img → node img n ≡ Star a → Has img (node img a) matches_empty → ⊥
       go n a l s h =
           let lacks = below (nodes img) (λ n. star_test (sets_of img) (node img n)) e n l in
-          let in-nodes : Refers img (star a) = rw s at (refers img words n l) in
+          let in-nodes : Refers img (Star a) = rw s at (refers img words n l) in
           let has_not = not-true (bit matches_empty (get_or (sets_of img) a 0)) (sym (ap (star_test (sets_of img)) s) ∙ lacks) in
           true≢false (sym (least_sets.all a matches_empty in-nodes h) ∙ has_not)
 
@@ -47,19 +49,19 @@ module _ (img : List ℕ) (counts : Question2 img) (words : Question4 img) where
   unfolding stars_test star_test
   stars_passes q = all_below (nodes img) (λ n. star_test (sets_of img) (node img n)) (λ n l. by-node n l (node img n) refl)
     where
-      lacking : (n a : ℕ) → n < nodes img → node img n ≡ star a → (b : Bool) → bit matches_empty (get_or (sets_of img) a 0) ≡ b → not b ≡ true
+      lacking : (n a : ℕ) → n < nodes img → node img n ≡ Star a → (b : Bool) → bit matches_empty (get_or (sets_of img) a 0) ≡ b → not b ≡ true
       lacking n a l e true h = absurd (q.stars n a l e (least_sets.only a matches_empty h))
       lacking n a l e false h = refl
 
       by-node : (n : ℕ) → n < nodes img → (m : Node) → node img n ≡ m → star_test (sets_of img) m ≡ true
-      by-node n l empty e = refl
-      by-node n l (terminal t) e = refl
-      by-node n l (sequence a b) e = refl
-      by-node n l (choice a b) e = refl
-      by-node n l (star a) e = lacking n a l e (bit matches_empty (get_or (sets_of img) a 0)) refl
-      by-node n l (not_predicate a) e = refl
-      by-node n l (call r) e = refl
-      by-node n l unlawful e = refl
+      by-node n l Empty e = refl
+      by-node n l (Text t) e = refl
+      by-node n l (Sequence a b) e = refl
+      by-node n l (Choice a b) e = refl
+      by-node n l (Star a) e = lacking n a l e (bit matches_empty (get_or (sets_of img) a 0)) refl
+      by-node n l (NotPredicate a) e = refl
+      by-node n l (Call r) e = refl
+      by-node n l Unlawful e = refl
 
   formed_asked : formed_test img ≡ true → Question7 img
   unfolding formed_test

@@ -1,7 +1,9 @@
 -- The number of an image as a function: questions 1 to 7 as tests, asked in their order. That it is the number of the first question
 -- that fails is a theorem (proofs/Number.antt), so that every byte string has its number.
 use Rattle.std.specs.Prelude.{ℕ, Bool, true, false, not, List, [], ◌∷◌, ◌++◌, get_or}
-use Rattle.grammar.specs.Image.{Node, empty, terminal, sequence, choice, star, not_predicate, call, unlawful, node, nodes}
+use Rattle.grammar.specs.declared.node.Node.{Node}
+use Rattle.grammar.specs.declared.node.Node.TheVariants.{Empty, Text, Sequence, Choice, Star, NotPredicate, Call, Unlawful}
+use Rattle.grammar.specs.Image.{node, nodes}
 use Rattle.grammar.specs.Outcomes.{matches_empty}
 use Rattle.grammar.specs.Questions.{Question, Question6, of_lawful}
 use Rattle.grammar.specs.Tests.{every, edition_test, counts_test, size_test, words_test, once_test}
@@ -22,14 +24,14 @@ formed_of img = formed_nodes img (sets_of img) (descending (nodes img))
 
 -- "6. Does every star's body lack outcome 0?"
 unfoldable pub star_test : (known : List ℕ) → Node → Bool
-star_test known empty = true
-star_test known (terminal t) = true
-star_test known (sequence a b) = true
-star_test known (choice a b) = true
-star_test known (star a) = not (bit matches_empty (get_or known a 0))
-star_test known (not_predicate a) = true
-star_test known (call r) = true
-star_test known unlawful = true
+star_test known Empty = true
+star_test known (Text t) = true
+star_test known (Sequence a b) = true
+star_test known (Choice a b) = true
+star_test known (Star a) = not (bit matches_empty (get_or known a 0))
+star_test known (NotPredicate a) = true
+star_test known (Call r) = true
+star_test known Unlawful = true
 
 unfoldable pub stars_test : List ℕ → Bool
 stars_test img = every (nodes img) (λ n. star_test (sets_of img) (node img n))

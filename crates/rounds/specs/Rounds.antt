@@ -1,6 +1,7 @@
 -- Rounds over the nodes in an order, and what they leave: the outcome sets and the well-formed set, as functions of the order.
 use Rattle.std.specs.Prelude.{ℕ, zero, suc, ◌*◌, ◌≤◌, ◌<◌, ◌≡◌, Bool, true, false, List, [], ◌∷◌, length, get_or, replicate}
-use Rattle.grammar.specs.Image.{star, node, nodes}
+use Rattle.grammar.specs.declared.node.Node.TheVariants.{Star}
+use Rattle.grammar.specs.Image.{node, nodes}
 use Rattle.grammar.specs.Outcomes.{Outcome, matches_empty, Has}
 use Rattle.grammar.specs.WellFormed.{WellFormed}
 use Rattle.rounds.specs.Sets.{bit}
@@ -69,4 +70,4 @@ pub record Formed (img : List ℕ) (formed : List Bool) : Type 0 where
 
 -- Question 6 of one node.
 pub record StarConsumes (img : List ℕ) (n : ℕ) : Type 0 where
-  pub lacks_0 : (a : ℕ) → node img n ≡ star a → Has img (node img a) matches_empty → ⊥
+  pub lacks_0 : (a : ℕ) → node img n ≡ Star a → Has img (node img a) matches_empty → ⊥

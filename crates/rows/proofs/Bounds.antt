@@ -10,7 +10,8 @@ use lib.ListN.{length, get_or, length-append}
 use lib.Dec.{leb, eqb}
 use borrow.Author.Tests.{leb-false}
 use Rattle.grammar.proofs.Bools.{both}
-use Rattle.grammar.specs.Image.{Node, empty, terminal, sequence, choice, star, not_predicate, call, unlawful}
+use Rattle.grammar.specs.declared.node.Node.{Node}
+use Rattle.grammar.specs.declared.node.Node.TheVariants.{Empty, Text, Sequence, Choice, Star, NotPredicate, Call, Unlawful}
 use Rattle.grammar.proofs.Terminals.{shape}
 use Rattle.records.specs.Words.{is_held, possible, matched_of, length_of}
 use Rattle.records.specs.Slots.{slot_of}
@@ -196,21 +197,21 @@ module _ (room : ℕ) (text : List ℕ) (ev called : Walker) (stays : Stays (len
     pub kind_bounded :
         (m : Node) (at lo hi k c : ℕ) → at ≤ length text → c ≤ room → Bounded (length text) room at c (kind_v text ev called m at lo hi k c)
     unfolding kind_v
-    kind_bounded empty at lo hi k c h few = answers (omega arith) few
-    kind_bounded (terminal m) at lo hi k c h few = answers (shape m text at h).in_text few
-    kind_bounded (sequence a b) at lo hi k c h few =
+    kind_bounded Empty at lo hi k c h few = answers (omega arith) few
+    kind_bounded (Text m) at lo hi k c h few = answers (shape m text at h).in_text few
+    kind_bounded (Sequence a b) at lo hi k c h few =
         next (stays a at lo hi k c h few) (λ m l c. after_first m l (ev b (at + l) lo hi k) c)
         (λ m l d j few'. first-bounded m b at l lo hi k d j few')
-    kind_bounded (choice a b) at lo hi k c h few =
+    kind_bounded (Choice a b) at lo hi k c h few =
         next (part_bounded (length text) room ev stays a at lo hi k c h few) (λ m l c. after_choice m l (ev b at lo hi k) c)
         (λ m l d j few'. choice-bounded m b at l lo hi k d h j few')
-    kind_bounded (star a) at lo hi k c h few =
+    kind_bounded (Star a) at lo hi k c h few =
         rounds_bounded (length text) room ev stays (suc (length text)) a at lo hi k 0 c (omega arith) few
-    kind_bounded (not_predicate a) at lo hi k c h few =
+    kind_bounded (NotPredicate a) at lo hi k c h few =
         next (stays a at (length text + 1) 0 k c h few) (λ m l c. trail (walked (not m) 0 c) [])
         (λ m l d j few'. answers (omega arith) few')
-    kind_bounded (call r) at lo hi k c h few = calls r at lo hi k c h few
-    kind_bounded unlawful at lo hi k c h few = refuses impossible few
+    kind_bounded (Call r) at lo hi k c h few = calls r at lo hi k c h few
+    kind_bounded Unlawful at lo hi k c h few = refuses impossible few
 
 pub node_bounded : (room : ℕ) (ws text table : List ℕ) (left : ℕ) → Stays (length text) room (node_v room ws text table left)
 unfolding node_v

@@ -10,7 +10,8 @@ use lib.ListN.{length, get_or}
 use lib.Dec.{leb, eqb}
 use borrow.Author.Tests.{ne_eqb, leb-true, leb-false}
 use Rattle.grammar.specs.declared.Evaluation.{Evaluation}
-use Rattle.grammar.specs.Image.{call, rules, root, node, body}
+use Rattle.grammar.specs.declared.node.Node.TheVariants.{Call}
+use Rattle.grammar.specs.Image.{rules, root, node, body}
 use Rattle.grammar.specs.Questions.{Question4}
 use Rattle.grammar.specs.Evaluates.{Fresh, Subject, bodies_only, a_node, a_pair, rounds_of, length_if}
 use Rattle.grammar.specs.Evaluates.{ev_empty, ev_terminal, ev_then_first_fails, ev_then, ev_else_first, ev_else_second}
@@ -41,7 +42,7 @@ module _ (img text table : List ℕ) (words : Question4 img) (narrow : rules img
   where
     abbrev Lists : Subject → ℕ → Evaluation → (ℕ → List Row) → Type 0
     Lists (a_node m) p z rows =
-        (ρ : ℕ) → ((r : ℕ) → m ≡ call r → ρ ≡ root img r) → (left : ℕ) → z.nesting ≤ suc left → (lo hi k c : ℕ) → c ≤ room
+        (ρ : ℕ) → ((r : ℕ) → m ≡ Call r → ρ ≡ root img r) → (left : ℕ) → z.nesting ≤ suc left → (lo hi k c : ℕ) → c ≤ room
         → Fits room c true z.length (shown lo hi (rows k))
         (kind_v text (node_v room ws text table left) (pair_v (rules_in ws) ρ room text table (node_v room ws text table left)) m p lo hi k c)
     Lists (a_pair r) p z rows =

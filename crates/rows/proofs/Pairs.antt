@@ -11,7 +11,8 @@ use lib.ListN.{length, get_or}
 use lib.Dec.{leb}
 use Rattle.grammar.proofs.Bools.{joined}
 use Rattle.grammar.specs.declared.Evaluation.{Evaluation}
-use Rattle.grammar.specs.Image.{Node, rules, node}
+use Rattle.grammar.specs.declared.node.Node.{Node}
+use Rattle.grammar.specs.Image.{rules, node}
 use Rattle.grammar.specs.Evaluates.{Fresh, Subject, bodies_only, a_node, a_pair, rounds_of}
 use Rattle.grammar.proofs.Determinism.{one}
 use Rattle.evaluation.specs.Calls.{Pair, In}

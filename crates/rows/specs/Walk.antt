@@ -3,7 +3,9 @@
 -- A walk has a window: it lists the rows that the window touches and enters no other call. In the window (n + 1, 0), which touches
 -- nothing, it only tells whether a node matches, and how long, from the records.
 use Rattle.std.specs.Prelude.{ℕ, zero, suc, ◌+◌, ◌%◌, Bool, true, false, not, ◌&&◌, List, [], ◌∷◌, ◌++◌, length, get_or, leb, eqb}
-use Rattle.grammar.specs.Image.{start, root, Node, empty, terminal, sequence, choice, star, not_predicate, call, unlawful}
+use Rattle.grammar.specs.declared.node.Node.{Node}
+use Rattle.grammar.specs.declared.node.Node.TheVariants.{Empty, Text, Sequence, Choice, Star, NotPredicate, Call, Unlawful}
+use Rattle.grammar.specs.Image.{start, root}
 use Rattle.grammar.specs.Terminal.{terminal_at}
 use Rattle.records.specs.Slots.{slot_of}
 use Rattle.records.specs.Words.{is_held, possible, matched_of, length_of}
@@ -91,18 +93,18 @@ pair_v rules root room text table ev r at lo hi k c =
 
 -- A node, by its kind.
 unfoldable pub kind_v : (text : List ℕ) → (nodes called : Walker) → Node → (at lo hi around count : ℕ) → Trail
-kind_v text nodes called empty at lo hi k c = trail (walked true 0 c) []
-kind_v text nodes called (terminal m) at lo hi k c =
+kind_v text nodes called Empty at lo hi k c = trail (walked true 0 c) []
+kind_v text nodes called (Text m) at lo hi k c =
     trail (walked (terminal_at m text at).matched (terminal_at m text at).length c) []
-kind_v text nodes called (sequence a b) at lo hi k c =
+kind_v text nodes called (Sequence a b) at lo hi k c =
     bind (nodes a at lo hi k c) (λ m l c. after_first m l (nodes b (at + l) lo hi k) c)
-kind_v text nodes called (choice a b) at lo hi k c =
+kind_v text nodes called (Choice a b) at lo hi k c =
     bind (part_v (length text) nodes a at lo hi k c) (λ m l c. after_choice m l (nodes b at lo hi k) c)
-kind_v text nodes called (star a) at lo hi k c = rounds_v (suc (length text)) (length text) nodes a at lo hi k 0 c
-kind_v text nodes called (not_predicate a) at lo hi k c =
+kind_v text nodes called (Star a) at lo hi k c = rounds_v (suc (length text)) (length text) nodes a at lo hi k 0 c
+kind_v text nodes called (NotPredicate a) at lo hi k c =
     bind (nodes a at (length text + 1) 0 k c) (λ m l c. trail (walked (not m) 0 c) [])
-kind_v text nodes called (call r) at lo hi k c = called r at lo hi k c
-kind_v text nodes called unlawful at lo hi k c = trail (stopped 12) []
+kind_v text nodes called (Call r) at lo hi k c = called r at lo hi k c
+kind_v text nodes called Unlawful at lo hi k c = trail (stopped 12) []
 
 -- A node, with an allowance of nesting.
 unfoldable pub node_v : (room : ℕ) → (ws text table : List ℕ) → (left : ℕ) → Walker

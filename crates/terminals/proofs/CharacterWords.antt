@@ -6,7 +6,8 @@ use mathlib.Core.Bool.{Bool, true, false, cond}
 use mathlib.Core.List.{List, [], ◌∷◌}
 use lib.ListN.{length, replicate}
 use Rattle.grammar.specs.declared.Evaluation.{Evaluation}
-use Rattle.grammar.specs.Image.{byte_at, any}
+use Rattle.grammar.specs.declared.node.Terminal.TheVariants.{Any}
+use Rattle.grammar.specs.Image.{byte_at}
 use Rattle.grammar.specs.Characters.{Octets, ◌to◌, is_in, tail, later_bytes}
 use Rattle.grammar.specs.Terminal.{accepts, later_of, has_at, taken, alone, continued, terminal_at}
 use Rattle.grammar.proofs.Between.{bounds}
@@ -80,12 +81,12 @@ module _ (text : List ℕ) (p later : ℕ) (second : Octets) where
   four_bytes l e f g = sym (ap word_of (after_second l e ∙ goes_on text p 2 tail (tail ∷ []) f ∙ goes_on text p 3 tail [] g))
 
 -- "any" takes the first byte, whatever it is, and goes on by its later bytes.
-pub goes_by_first : (text : List ℕ) (p : ℕ) → p < length text → terminal_at any text p ≡ continued (later_bytes (byte_at text p)) text p 1
+pub goes_by_first : (text : List ℕ) (p : ℕ) → p < length text → terminal_at Any text p ≡ continued (later_bytes (byte_at text p)) text p 1
 unfolding accepts later_of
-goes_by_first text p h = by_first_test any text p (has_there (accepts any) text p h)
+goes_by_first text p h = by_first_test Any text p (has_there (accepts Any) text p h)
 
 -- An ASCII byte is a character of one byte.
-pub ascii_taken : (text : List ℕ) (p : ℕ) → has_at (is_in (0x00 to 0x7F)) text p ≡ true → terminal_at any text p ≡ taken 1 1
+pub ascii_taken : (text : List ℕ) (p : ℕ) → has_at (is_in (0x00 to 0x7F)) text p ≡ true → terminal_at Any text p ≡ taken 1 1
 ascii_taken text p e =
     let h = has_in_text (is_in (0x00 to 0x7F)) text p e in
     let byte = byte_at text p in
@@ -94,6 +95,6 @@ ascii_taken text p e =
     (below_C2 byte (omega (arith, bounds 0x00 0x7F byte (sym (has_there (is_in (0x00 to 0x7F)) text p h) ∙ e))))
 
 pub ascii_word :
-    (text : List ℕ) (p : ℕ) → has_at (is_in (0x00 to 0x7F)) text p ≡ true → 0xC000_0002_0001_0001 ≡ word_of (terminal_at any text p)
+    (text : List ℕ) (p : ℕ) → has_at (is_in (0x00 to 0x7F)) text p ≡ true → 0xC000_0002_0001_0001 ≡ word_of (terminal_at Any text p)
 unfolding word_of
 ascii_word text p e = sym (ap word_of (ascii_taken text p e))

@@ -6,7 +6,9 @@ use mathlib.Core.Bool.{Bool, true, false, ◌&&◌, ◌||◌, cond, and-false}
 use mathlib.Core.List.{List, []}
 use lib.ListN.{length}
 use lib.Dec.{ltb}
-use Rattle.grammar.specs.Image.{byte_at, Terminal, range, folded}
+use Rattle.grammar.specs.declared.node.Terminal.{Terminal}
+use Rattle.grammar.specs.declared.node.Terminal.TheVariants.{Range, Folded}
+use Rattle.grammar.specs.Image.{byte_at}
 use Rattle.grammar.specs.Between.{between}
 use Rattle.grammar.specs.Terminal.{other_case, accepts, later_of, has_at, taken, continued, not_taken, terminal_at}
 use Rattle.grammar.proofs.Between as bytes
@@ -36,19 +38,19 @@ module _ (t : Terminal) (text : List ℕ) (p : ℕ) where
 
 -- What a byte range takes, and what is below it or above it.
 module _ (from to byte : ℕ) where
-  pub inside : from ≤ byte → byte ≤ to → accepts (range from to) byte ≡ true
+  pub inside : from ≤ byte → byte ≤ to → accepts (Range from to) byte ≡ true
   unfolding accepts
   inside h k = bytes.inside from to byte h k
 
-  pub below : byte < from → accepts (range from to) byte ≡ false
+  pub below : byte < from → accepts (Range from to) byte ≡ false
   unfolding accepts
   below h = bytes.outside from to byte (λ a b. omega arith)
 
-  pub above : to < byte → accepts (range from to) byte ≡ false
+  pub above : to < byte → accepts (Range from to) byte ≡ false
   unfolding accepts
   above h = bytes.outside from to byte (λ a b. omega arith)
 
   -- The test of a folded range, of the byte and of its other case.
-  pub folds : {b : Bool} → (between from to byte || between from to (other_case byte)) ≡ b → accepts (folded from to) byte ≡ b
+  pub folds : {b : Bool} → (between from to byte || between from to (other_case byte)) ≡ b → accepts (Folded from to) byte ≡ b
   unfolding accepts
   folds e = e

@@ -1,6 +1,6 @@
 // Kind 1: one character as RFC 3629 defines it (02, R-5).
 ghost use Rattle.std.specs.Prelude.{◌-◌, ◌≤◌, ◌<◌, ◌≡◌, ◌∷◌, length, replicate};
-ghost use Rattle.grammar.specs.Image.{any};
+ghost use Rattle.grammar.specs.declared.node.Terminal.TheVariants.{Any};
 ghost use Rattle.grammar.specs.Characters.{◌to◌, is_in, tail, later_bytes};
 ghost use Rattle.grammar.specs.Terminal.{has_at, continued, terminal_at};
 ghost use Rattle.records.specs.Words.{word_of};
@@ -81,7 +81,7 @@ pub fn is_ascii(text: &[u8], at: usize) -> bool
 // "Kind 1 now matches one character as RFC 3629 defines it" (02, R-5). The text is lent as evaluator and walk have it: a slice would be
 // copied for the call.
 pub fn any_character(text: &&[u8], at: usize) -> u64
-    ensures { result ≡ word_of (terminal_at any text.now.now at) }
+    ensures { result ≡ word_of (terminal_at Any text.now.now at) }
 {
     if crate::end_of(*text) <= at {
         return crate::NO_BYTE;

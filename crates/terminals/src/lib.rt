@@ -4,7 +4,8 @@
 pub mod characters;
 
 ghost use Rattle.std.specs.Prelude.{◌<◌, ◌≡◌, length};
-ghost use Rattle.grammar.specs.Image.{byte_at, range, folded, range_by};
+ghost use Rattle.grammar.specs.declared.node.Terminal.TheVariants.{Range, Folded};
+ghost use Rattle.grammar.specs.Image.{byte_at, range_by};
 ghost use Rattle.grammar.specs.Between.{between};
 ghost use Rattle.grammar.specs.Terminal.{other_case, terminal_at};
 ghost use Rattle.records.specs.Words.{word_of};
@@ -38,7 +39,7 @@ fn byte_at(text: &[u8], at: usize) -> usize
 
 // "2 byte from A to B inclusive", without the fold bit.
 pub fn byte_between(text: &[u8], from: usize, to: usize, at: usize) -> u64
-    ensures { result ≡ word_of (terminal_at (range from to) text.now at) }
+    ensures { result ≡ word_of (terminal_at (Range from to) text.now at) }
 {
     if end_of(text) <= at {
         return NO_BYTE;
@@ -74,7 +75,7 @@ fn other_case(byte: usize) -> usize
 
 // Kind 2 with the fold bit: "a byte matches if it or its other ASCII case is between A and B" (02, R-1).
 pub fn byte_folded(text: &[u8], from: usize, to: usize, at: usize) -> u64
-    ensures { result ≡ word_of (terminal_at (folded from to) text.now at) }
+    ensures { result ≡ word_of (terminal_at (Folded from to) text.now at) }
 {
     if end_of(text) <= at {
         return NO_BYTE;

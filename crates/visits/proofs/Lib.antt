@@ -2,3 +2,4 @@
 pub mod Tables
 pub mod Links
 pub mod ByKind
+pub mod Unions

@@ -3,7 +3,7 @@ use Prim.Native.Nat.{ℕ, zero, suc, ◌≤◌, ◌<◌}
 use native.Mathlib.Omega.{arith}
 use mathlib.Core.Path.{◌≡◌, refl}
 use mathlib.Core.List.{List}
-use Rattle.grammar.specs.declared.NodeFields.{NodeFields}
+use Rattle.grammar.specs.declared.node.NodeFields.{NodeFields}
 use Rattle.grammar.specs.Image.{nodes, kind, field_b}
 use Rattle.grammar.specs.Questions.{Question2, Question4, LawfulNode}
 use Rattle.lawful.proofs.InRange.{a_below, b_below, called_below}

@@ -12,7 +12,7 @@ module _ {A : Type 0} where
   listed zero g = []
   listed (suc n) g = g 0 ∷ listed n (λ k. g (suc k))
 
-  in_list : (n : ℕ) (g : ℕ → A) (d : A) (k : ℕ) → k < n → get_or (listed n g) k d ≡ g k
+  pub in_list : (n : ℕ) (g : ℕ → A) (d : A) (k : ℕ) → k < n → get_or (listed n g) k d ≡ g k
   in_list zero g d k l = absurd (omega arith)
   in_list (suc n) g d zero l = refl
   in_list (suc n) g d (suc k) l = in_list n (λ k. g (suc k)) d k (omega arith)

@@ -2,7 +2,8 @@
 // `checker` makes the rounds of visits.
 #![tactic(auto)]
 
-pub mod nodes;
+mod nodes;
 pub mod sets;
 pub mod table;
-pub mod visit;
+
+pub use nodes::Nodes;

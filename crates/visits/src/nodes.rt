@@ -1,30 +1,72 @@
-// The nodes' words, read once: a round reads a word of them with no test of the image's size, and finds a call's root in it.
-ghost use Rattle.std.specs.Prelude.{◌<◌};
-ghost use Rattle.grammar.specs.Image.{nodes};
-ghost use Rattle.grammar.specs.Questions.{Question2};
-ghost use Rattle.image.specs.Linked.{Linked};
-ghost use Rattle.visits.specs.Nodes.{NodeWords};
+// The nodes of a lawful image, read once for all rounds.
+ghost use Rattle.std.specs.Prelude.{◌<◌, ◌≡◌};
+ghost use Rattle.grammar.specs.Image.{node, nodes};
+ghost use Rattle.grammar.specs.Questions.{Lawful};
+ghost use Rattle.image.specs.Linked.{LinkedWords, Linked};
+ghost use Rattle.rounds.specs.Visits.{gathered, formed_from};
+ghost use Rattle.visits.specs.Sets.{SetTable, OnlySets};
 
-use grammar::NodeFields;
+use crate::{sets, table};
+use grammar::{Node, NodeFields};
 
-// The words of all nodes.
-pub fn node_words(image: &[u8]) -> [u32; 1024]
-    requires { Question2 image.now }
-    ensures { NodeWords image.now result }
-{
-    let header = image::header_of(image);
-    let count = header.nodes;
-    let mut words = [0u32; 1024];
-    for n in 0..count {
-        words[n] = image::linked_word(image, image::node_word(image, n));
-    }
-    words
+// The image with its nodes' words, in which a call's B is the root of its rule, and the outcome sets by kind.
+#[derive(Drop)]
+pub struct Nodes<'a> {
+    pub image: &'a [u8],
+    pub count: usize,
+    words: [u32; 1024],
+    table: &'a [[[u8; 8]; 8]; 8],
+    ghost lawful: { Lawful image.now },
+    ghost counted: { count ≡ nodes image.now },
+    ghost tabled: { SetTable table.now },
+    ghost linked: { LinkedWords image.now words },
 }
 
-// The fields of node n; B of a call is the root of its rule. The image is named by the contract only.
-pub fn node_in(image: &[u8], words: &[u32; 1024], n: usize) -> NodeFields
-    requires { NodeWords image.now words.now × (n < nodes image.now) × (n < 1024) }
-    ensures { Linked image.now n result }
-{
-    image::node_of(words[n])
+impl<'a> Nodes<'a> {
+    pub fn of(image: &'a [u8], table: &'a [[[u8; 8]; 8]; 8]) -> Nodes<'a>
+        requires { Lawful image.now × SetTable table.now }
+        ensures { result.image.now ≡ image.now }
+    {
+        let header = image::header_of(image);
+        Nodes {
+            image,
+            count: header.nodes,
+            words: image::linked_words(image),
+            table,
+        }
+    }
+
+    // The fields of node n; B of a call is the root of its rule.
+    fn fields(&self, n: usize) -> NodeFields
+        requires { n < nodes self.now.image.now }
+        ensures { Linked self.now.image.now n result }
+    {
+        image::node_of(self.words[n])
+    }
+
+    // The outcomes of node n, from the sets known so far.
+    pub fn outcomes(&self, known: &[u8; 1024], n: usize) -> u8
+        requires { (n < nodes self.now.image.now) × OnlySets known.now }
+        ensures { result ≡ gathered self.now.image.now known.now (node self.now.image.now n) }
+    {
+        let fields = self.fields(n);
+        table::set_of_kind(self.table, fields.kind, known[fields.a], known[fields.b])
+    }
+
+    // Whether node n joins the well-formed set, given its outcome sets and the nodes found well formed so far.
+    pub fn joins(&self, known: &[u8; 1024], formed: &[bool; 1024], n: usize) -> bool
+        requires { n < nodes self.now.image.now }
+        ensures { result ≡ formed_from self.now.image.now known.now formed.now (node self.now.image.now n) }
+    {
+        let fields = self.fields(n);
+        match Node::from(fields) {
+            Node::Empty | Node::Text(_) => true,
+            Node::Sequence(a, b) => formed[a] & (!sets::has_empty(known[a]) | formed[b]),
+            Node::Choice(a, b) => formed[a] & formed[b],
+            Node::Star(a) => formed[a] & !sets::has_empty(known[a]),
+            Node::NotPredicate(a) => formed[a],
+            Node::Call(_) => formed[fields.b],
+            Node::Unlawful => false,
+        }
+    }
 }

@@ -1,40 +1,18 @@
 // Outcome sets as numbers: 1 for "matches nothing long", 2 for "consumes", 4 for "fails", added up.
 ghost use Rattle.std.specs.Prelude.{◌<◌, ◌≡◌};
-ghost use Rattle.grammar.specs.Outcomes.{matches_empty, consumes, fails};
-ghost use Rattle.rounds.specs.Sets.{bit, pack, union};
+ghost use Rattle.grammar.specs.Outcomes.{matches_empty};
+ghost use Rattle.rounds.specs.Sets.{bit, union};
 
-// Whether a set has the outcome 0, 1 or f.
+// Whether a set has the outcome 0.
 pub fn has_empty(set: u8) -> bool
     ensures { result ≡ bit matches_empty set }
 {
     set % 2 == 1
 }
 
-pub fn has_consumes(set: u8) -> bool
-    ensures { result ≡ bit consumes set }
-{
-    set / 2 % 2 == 1
-}
-
-pub fn has_fails(set: u8) -> bool
-    ensures { result ≡ bit fails set }
-{
-    set / 4 % 2 == 1
-}
-
-fn set_of(stay: bool, consume: bool, fail: bool) -> u8
-    ensures { (result ≡ pack stay consume fail) × (result < 8) }
-{
-    stay as u8 + 2 * (consume as u8) + 4 * (fail as u8)
-}
-
 // The outcomes of either set.
 pub fn join(a: u8, b: u8) -> u8
     ensures { (result ≡ union a b) × (result < 8) }
 {
-    set_of(
-        has_empty(a) | has_empty(b),
-        has_consumes(a) | has_consumes(b),
-        has_fails(a) | has_fails(b),
-    )
+    a % 8 | b % 8
 }

@@ -49,18 +49,10 @@ pub fn set_table() -> [[[u8; 8]; 8]; 8]
     [EMPTY, BYTE, BYTE, THEN, ELSE, STAR, NOT, CALL]
 }
 
-fn wide(set: u8) -> usize
-    ensures { result ≡ set }
-{
-    set as usize
-}
-
 // The set of a node of a kind whose A and B have these sets.
 pub fn set_of_kind(table: &[[[u8; 8]; 8]; 8], kind: usize, a: u8, b: u8) -> u8
     requires { SetTable table.now × (kind < 8) × (a < 8) × (b < 8) }
     ensures { result ≡ set_of_kind kind a b }
 {
-    let row = wide(b);
-    let column = wide(a);
-    table[kind][row][column]
+    table[kind][usize::from(b)][usize::from(a)]
 }

@@ -1,27 +1,31 @@
 use Prim.Native.Nat.{◌<◌}
 use native.Mathlib.Omega.{arith}
-use mathlib.Core.Path.{ap, ◌∙◌}
-use Rattle.grammar.specs.Image.{root}
+use mathlib.Core.Path.{◌≡◌, sym, ap, ◌∙◌}
+use Rattle.grammar.specs.Image.{root, node_of, fields_of}
+use Rattle.grammar.specs.declared.node.Node.TheVariants.{Call}
+use Rattle.grammar.proofs.Nodes.{is_call, kind_of_call, rule_of_call}
+use Rattle.image.proofs.SameFields.{same_record}
 use Rattle.image.proofs.Linked.{root_small, own_word, call_word}
 use Rattle.image.proofs.linked_word.Goals as goal
 
-pub returns-then-fields-ne7 : goal.returns-then-fields-ne7
-returns-then-fields-ne7 c =
-    own_word c.args.image.now c.args.word (λ e. c.if-fields-ne7.true (c.node_of-fields.ensures.its_kind ∙ e))
+pub returns-in_default : goal.returns-in_default
+returns-in_default c =
+    let same = same_record c.node_of-fields.ensures in
+    own_word c.args.image.now c.args.word (λ e. c.in_default.not-Call _ (c.from.ensures ∙ ap node_of same ∙ is_call (fields_of c.args.word) e))
 
 pub overflow_add-result : goal.overflow_add-result
 overflow_add-result c =
-    let small : c.rule_at-rule.result.root < 4096 = rw c.rule_at-rule.ensures.its_root (root_small _ _) in
+    let small : c.rule_at-body.result.root < 4096 = rw c.rule_at-body.ensures.its_root (root_small _ _) in
     omega arith
 
-pub overflow_cast-result : goal.overflow_cast-result
-overflow_cast-result c =
-    let small : c.rule_at-rule.result.root < 4096 = rw c.rule_at-rule.ensures.its_root (root_small _ _) in
+pub overflow_cast-result-2 : goal.overflow_cast-result-2
+overflow_cast-result-2 c =
+    let small : c.rule_at-body.result.root < 4096 = rw c.rule_at-body.ensures.its_root (root_small _ _) in
     omega arith
 
 pub returns : goal.returns
 returns c =
-    let fields = c.node_of-fields.ensures in
-    let img = c.args.image.now in
-    let its_root = c.rule_at-rule.ensures.its_root ∙ ap (root img) fields.its_a in
-    omega (arith, its_root, c.wide_word.ensures, call_word img c.args.word (omega (arith, fields.its_kind, c.if-fields-ne7.false)))
+    let same = same_record c.node_of-fields.ensures in
+    let calls : node_of (fields_of c.args.word) ≡ Call c.in-Call.rule = sym (c.in-Call.ensures ∙ ap node_of same) in
+    let its_root = c.rule_at-body.ensures.its_root ∙ ap (root c.args.image.now) (sym (rule_of_call (fields_of c.args.word) calls)) in
+    omega (arith, its_root, call_word c.args.image.now c.args.word (kind_of_call (fields_of c.args.word) calls))

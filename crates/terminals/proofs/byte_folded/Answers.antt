@@ -1,6 +1,7 @@
 use Rattle.terminals.proofs.TerminalWords.{match_word, failure_word, end_word, folds}
 use Rattle.grammar.proofs.Terminals.{folded_alone}
-use Rattle.grammar.specs.Image.{byte_at, folded}
+use Rattle.grammar.specs.declared.node.Terminal.TheVariants.{Folded}
+use Rattle.grammar.specs.Image.{byte_at}
 use Rattle.grammar.specs.Between.{between}
 use Rattle.grammar.specs.Terminal.{other_case, accepts}
 use Prim.Native.Nat.{ℕ}
@@ -12,7 +13,7 @@ use Rattle.terminals.proofs.byte_folded.Goals as goal
 pub returns-then-end_of-at : goal.returns-then-end_of-at
 returns-then-end_of-at c =
     let a = c.args in
-    end_word (folded a.from a.to) a.text.now a.at (omega (arith, c.end_of.ensures, c.if-end_of-at.true))
+    end_word (Folded a.from a.to) a.text.now a.at (omega (arith, c.end_of.ensures, c.if-end_of-at.true))
 
 pub byte_at-byte-requires : goal.byte_at-byte-requires
 byte_at-byte-requires c =
@@ -26,7 +27,7 @@ tested-so :
     → other ≡ other_case read
     → others ≡ between from to other
     → (own || others) ≡ b
-    → accepts (folded from to) byte ≡ b
+    → accepts (Folded from to) byte ≡ b
 tested-so from to {read} {byte} {other} {own} e f g h t =
     folds from to byte
     (sym (ap (λ (x : ℕ). between from to x || between from to (other_case x)) e)
@@ -37,7 +38,7 @@ tested-so from to {read} {byte} {other} {own} e f g h t =
 pub returns-then-is_between : goal.returns-then-is_between
 returns-then-is_between c =
     let a = c.args in
-    match_word (folded a.from a.to) a.text.now a.at (omega (arith, c.end_of.ensures, c.if-end_of-at.false))
+    match_word (Folded a.from a.to) a.text.now a.at (omega (arith, c.end_of.ensures, c.if-end_of-at.false))
     (tested-so a.from a.to c.byte_at-byte.ensures c.is_between.ensures c.other_case.ensures
     c.is_between-2.ensures c.if-is_between.true)
     (folded_alone a.from a.to (byte_at a.text.now a.at))
@@ -45,6 +46,6 @@ returns-then-is_between c =
 pub returns : goal.returns
 returns c =
     let a = c.args in
-    failure_word (folded a.from a.to) a.text.now a.at
+    failure_word (Folded a.from a.to) a.text.now a.at
     (tested-so a.from a.to c.byte_at-byte.ensures c.is_between.ensures c.other_case.ensures
     c.is_between-2.ensures c.if-is_between.false)

@@ -1,5 +1,5 @@
 use Rattle.grammar.proofs.Nodes.{with_bit, without_bit}
-use Rattle.grammar.specs.Image.{Terminal}
+use Rattle.grammar.specs.declared.node.Terminal.{Terminal}
 use Rattle.grammar.specs.Terminal.{terminal_at}
 use Rattle.records.specs.Words.{word_of}
 use native.Mathlib.Omega.{arith}

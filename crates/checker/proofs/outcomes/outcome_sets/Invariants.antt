@@ -3,12 +3,11 @@ use Rattle.rounds.specs.Rounds.{no_outcomes, Sound}
 use Rattle.grammar.specs.Image.{nodes}
 use Rattle.rounds.proofs.OutcomeRounds.{weight}
 use Rattle.rounds.proofs.Turns.{Reached}
-use lib.ListN.{take}
 use Prim.Native.Nat.{◌*◌, ◌-◌}
 use Rattle.checker.proofs.outcomes.outcome_sets.Given as goal
 
 abbrev pub invariant-rounds : goal.invariant-rounds
-invariant-rounds l = Sound l.image l.known × Reached (gather_at l.image) (take (nodes l.image) l.order) no_outcomes l.known
+invariant-rounds l = Sound l.all.image.now l.known × Reached (gather_at l.all.image.now) l.order no_outcomes l.known
 
 abbrev pub decreases-rounds : goal.decreases-rounds
-decreases-rounds l = 3 * nodes l.image - weight l.known
+decreases-rounds l = 3 * nodes l.all.image.now - weight l.known

@@ -1,39 +1,49 @@
-use Rattle.rounds.specs.Sets.{bit}
-use lib.ListN.{get_or}
-use mathlib.Core.Bool.{false}
-use Rattle.grammar.proofs.Nodes.{kind_of_star, is_star}
+use mathlib.Core.Bool.{Bool, true, false, not, true≢false}
+use mathlib.Core.Path.{◌≡◌, refl, sym, ap, ◌∙◌}
+use mathlib.Core.Logic.{inl}
+use Prim.Native.Nat.{ℕ}
+use Rattle.grammar.proofs.References.{refers}
 use Rattle.grammar.specs.Outcomes.{matches_empty}
-use Rattle.grammar.specs.Image.{fields_at, field_a}
-use mathlib.Core.Bool.{true≢false}
-use mathlib.Core.Path.{◌≡◌, sym, ◌∙◌}
-use Rattle.lawful.proofs.InRange.{a_below}
-use Rattle.lawful.proofs.Told.{so, not_so}
-use native.Mathlib.Omega.{arith}
+use Rattle.lawful.proofs.InRange.{one_below}
+use Rattle.rounds.specs.Rounds.{StarConsumes}
+use Rattle.std.proofs.Common.{IsTrue}
+use Rattle.grammar.specs.Image.{node}
+use Rattle.grammar.specs.declared.node.Node.{Node}
+use Rattle.grammar.specs.declared.node.Node.TheVariants.{Empty, Text, Sequence, Choice, Star, NotPredicate, Call, Unlawful}
 use Rattle.checker.proofs.outcomes.star_consumes.Goals as goal
-
-pub returns-then-kind-ne5 : goal.returns-then-kind-ne5
-returns-then-kind-ne5 c =
-    so (record { lacks_0 = λ a e h. c.if-kind-ne5.true (c.node_at-word.ensures.its_kind ∙ kind_of_star (fields_at c.args.image.now c.args.n) e) })
 
 pub bounds-known-a : goal.bounds-known-a
 bounds-known-a c =
-    omega (arith, a_below c.args.image.now c.requires.0.counts c.requires.0.words c.args.n c.requires.2 (omega arith) (omega arith))
+    let all = c.args.all.now in
+    one_below all.image.now all.lawful.counts all.lawful.words c.args.n c.requires.1 (inl (rw c.node.ensures at c.in-Star.is))
 
-pub returns-then-has_empty : goal.returns-then-has_empty
-returns-then-has_empty c =
-    let e = is_star (fields_at c.args.image.now c.args.n) (omega arith) in
-    not_so (λ h. h.lacks_0 (field_a c.args.image.now c.args.n) e (c.requires.1.only (field_a c.args.image.now c.args.n) matches_empty (cc (c.has_empty.ensures, c.if-has_empty.true, c.node_at-word.ensures.its_a))))
+-- The child of a star, read back from it.
+abbrev child_of : Node → ℕ
+child_of Empty = 0
+child_of (Text t) = 0
+child_of (Sequence a b) = 0
+child_of (Choice a b) = 0
+child_of (Star a) = a
+child_of (NotPredicate a) = 0
+child_of (Call r) = 0
+child_of Unlawful = 0
 
-pub returns : goal.returns
-returns c =
-    let img = c.args.image.now in
-    let n = c.args.n in
-    let e = is_star (fields_at img n) (omega arith) in
-    let child = (c.requires.0.words.node_words n c.requires.2).child_A (omega arith) (omega arith) in
-    let told : bit matches_empty (get_or c.args.known.now (field_a img n) 0) ≡ false = cc in
-    so
-    (record {
-      lacks_0 = λ a f h.
-          let same : a ≡ field_a img n = cc in
-          true≢false (sym (c.requires.1.all (field_a img n) matches_empty child.1 (rw same at h)) ∙ told);
-    })
+-- A star's body lacks outcome 0 exactly where its set does.
+pub returns-in-Star : goal.returns-in-Star
+returns-in-Star c = (yes, no c.has_empty.result refl)
+  where
+    is : node c.args.all.now.image.now c.args.n ≡ Star c.in-Star.a
+    is = rw c.node.ensures at c.in-Star.is
+
+    yes : IsTrue (not c.has_empty.result) → StarConsumes c.args.all.now.image.now c.args.n
+    yes t =
+        record {
+          lacks_0 = λ b e h.
+              let child = rw is at (refers c.args.all.now.image.now c.args.all.now.lawful.words c.args.n c.requires.1) in
+              let has = c.has_empty.ensures ∙ c.requires.0.all c.in-Star.a matches_empty child (rw (ap child_of (sym e ∙ is)) at h) in
+              true≢false (sym (rw has at t));
+        }
+
+    no : (b : Bool) → c.has_empty.result ≡ b → StarConsumes c.args.all.now.image.now c.args.n → IsTrue (not c.has_empty.result)
+    no false e s = ap not e
+    no true e s = absurd (s.lacks_0 c.in-Star.a is (c.requires.0.only c.in-Star.a matches_empty (sym c.has_empty.ensures ∙ e)))

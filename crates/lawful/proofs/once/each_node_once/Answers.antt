@@ -1,34 +1,16 @@
+use Rattle.std.proofs.Common.{◌≡◌, ◌<◌, ◌≤◌, arith, rules}
+use Rattle.grammar.specs.Image.{nodes}
+use Rattle.lawful.proofs.All.{told_front}
 use Rattle.lawful.proofs.Tallies.{once_of_count, count_of_once}
-use Rattle.lawful.proofs.Told.{so, not_so}
-use borrow.Author.Count.{below_none, below_more}
-use native.Mathlib.Omega.{arith}
-use mathlib.Core.Path.{refl}
-use borrow.Author.Rules.{rules}
 use Rattle.lawful.proofs.once.each_node_once.Goals as goal
-
-pub tally_roots-requires : goal.tally_roots-requires
-tally_roots-requires c =
-    (c.requires.0, c.requires.1, refl)
-
-pub tally_children-requires : goal.tally_children-requires
-tally_children-requires c =
-    (c.requires.0, c.requires.1, omega (arith, c.tally_roots.ensures.all_rules.as_long))
-
-pub loop-n-init : goal.loop-n-init
-loop-n-init c = (search rules, below_none _)
-
-pub bounds-counts-n : goal.bounds-counts-n
-bounds-counts-n c =
-    omega (arith, c.requires.0.few_nodes)
-
-pub returns-then-counts-n-ne1 : goal.returns-then-counts-n-ne1
-returns-then-counts-n-ne1 c =
-    not_so (λ h. c.if-counts-n-ne1.true (count_of_once c.args.image.now _ _ 1024 c.loop-n.n c.tally_roots.ensures.all_rules c.tally_children.ensures.all_nodes (h.once c.loop-n.n (omega (arith, c.header_of-header.ensures.its_nodes)))))
-
-pub loop-n-preserved : goal.loop-n-preserved
-loop-n-preserved c =
-    (search rules, below_more _ _ c.loop-n.invariant.1 c.if-counts-n-ne1.false)
 
 pub returns : goal.returns
 returns c =
-    so (record { once = λ n l. once_of_count c.args.image.now _ _ 1024 n c.tally_roots.ensures.all_rules c.tally_children.ensures.all_nodes (c.loop-n.invariant.1 n (omega (arith, c.header_of-header.ensures.its_nodes))) })
+    let img = c.args.image.now in
+    let few = c.requires.0.few_nodes in
+    let is = c.header_of-header.ensures.its_nodes in
+    let roots = c.tally_roots.ensures.all_rules in
+    let all = c.tally_children.ensures.all_nodes in
+    let t = told_front _ _ _ (nodes img) _ 0 (λ k. k ≡ 1) (omega (arith, few, c.tally_children.array_long)) (rw is at c.iter.ensures.rest) c.all.ensures.ran (λ x b q k. search rules) in
+    ((λ yes. record { once = λ n l. once_of_count img _ _ 1024 n roots all (t.0 yes n l) }),
+    (λ q. t.1 (λ n l. count_of_once img _ _ 1024 n roots all (q.once n l))))

@@ -11,7 +11,7 @@ unfolding children_below
 loop-n-init c = (search rules, tallied_none c.args.counts.now)
 
 pub tally_children_of-requires : goal.tally_children_of-requires
-tally_children_of-requires c = (c.requires.0, c.requires.1, omega arith, omega (arith, c.loop-n.invariant.1.as_long, c.requires.2))
+tally_children_of-requires c = (c.requires.0, c.requires.1, omega arith)
 
 pub loop-n-preserved : goal.loop-n-preserved
 loop-n-preserved c = (search rules, rw (children_step c.args.image.now c.loop-n.n) (tallied_more c.loop-n.invariant.1 c.tally_children_of.ensures))

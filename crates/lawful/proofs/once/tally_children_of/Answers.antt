@@ -1,34 +1,29 @@
-use Rattle.lawful.proofs.InRange.{children_3_4, children_5_6, childless_below_3, childless_from_7}
-use Rattle.lawful.proofs.Tallies.{tallied_none, tallied_more}
-use mathlib.Core.Path.{sym}
-use Rattle.lawful.proofs.InRange.{a_below, b_below}
+use mathlib.Core.Path.{◌∙◌}
 use native.Mathlib.Omega.{arith}
+use Rattle.lawful.proofs.InRange.{two_below, one_below, two_children, one_child, no_child}
+use Rattle.lawful.proofs.Tallies.{tallied_none, tallied_more}
 use Rattle.lawful.proofs.once.tally_children_of.Goals as goal
 
 pub tally-requires : goal.tally-requires
 tally-requires c =
-    (omega (arith, b_below c.args.image.now c.requires.0 c.requires.1 c.args.n c.requires.2 (omega arith) (omega arith)), c.requires.3)
+    one_below c.args.image.now c.requires.0 c.requires.1 c.args.n c.requires.2 (rw c.node.ensures at c.in-Star.is)
 
-pub tally-requires-in-3 : goal.tally-requires-in-3
-tally-requires-in-3 c =
-    (omega (arith, a_below c.args.image.now c.requires.0 c.requires.1 c.args.n c.requires.2 (omega arith) (omega arith)), omega (arith, c.tally.ensures.as_long, c.requires.3))
+pub tally-requires-in-Sequence : goal.tally-requires-in-Sequence
+tally-requires-in-Sequence c =
+    (two_below c.args.image.now c.requires.0 c.requires.1 c.args.n c.requires.2 (rw c.node.ensures at c.in-Sequence.is)).1
 
-pub tally-requires-in-5 : goal.tally-requires-in-5
-tally-requires-in-5 c =
-    (omega (arith, a_below c.args.image.now c.requires.0 c.requires.1 c.args.n c.requires.2 (omega arith) (omega arith)), c.requires.3)
+pub tally-requires-in-Sequence-2 : goal.tally-requires-in-Sequence-2
+tally-requires-in-Sequence-2 c =
+    (two_below c.args.image.now c.requires.0 c.requires.1 c.args.n c.requires.2 (rw c.node.ensures at c.in-Sequence.is)).0
 
-pub returns-then-kind-lt3 : goal.returns-then-kind-lt3
-returns-then-kind-lt3 c =
-    rw (childless_below_3 c.args.image.now c.args.n (omega arith)) (tallied_none c.args.counts.now)
+pub returns-in_default : goal.returns-in_default
+returns-in_default c =
+    let d = c.in_default in
+    rw (no_child _ (rw c.node.ensures at d.not-Sequence) (rw c.node.ensures at d.not-Choice) (rw c.node.ensures at d.not-Star) (rw c.node.ensures at d.not-NotPredicate)) (tallied_none c.args.counts.now)
 
-pub returns-in-3 : goal.returns-in-3
-returns-in-3 c =
-    rw (children_3_4 c.args.image.now c.args.n (omega arith) (omega arith), sym c.node_at-word.ensures.its_a, sym c.node_at-word.ensures.its_b) (tallied_more c.tally.ensures c.tally-in-3.ensures)
+pub returns-in-Sequence : goal.returns-in-Sequence
+returns-in-Sequence c =
+    rw (two_children (rw c.node.ensures at c.in-Sequence.is)) (tallied_more c.tally-in-Sequence.ensures c.tally-in-Sequence-2.ensures)
 
-pub returns-in-5 : goal.returns-in-5
-returns-in-5 c =
-    rw (children_5_6 c.args.image.now c.args.n (omega arith) (omega arith), sym c.node_at-word.ensures.its_a) c.tally-in-5.ensures
-
-pub returns-else-kind-lt7 : goal.returns-else-kind-lt7
-returns-else-kind-lt7 c =
-    rw (childless_from_7 c.args.image.now c.args.n (omega arith) (c.requires.1.node_words c.args.n c.requires.2).known_kind) (tallied_none c.args.counts.now)
+pub returns-in-Star : goal.returns-in-Star
+returns-in-Star c = rw (one_child (rw c.node.ensures at c.in-Star.is)) c.tally.ensures

@@ -11,7 +11,7 @@ unfolding roots
 loop-r-init c = (omega arith, tallied_none c.args.counts.now)
 
 pub tally-requires : goal.tally-requires
-tally-requires c = (omega (arith, c.rule_at-word.ensures.its_root, root_below c.args.image.now c.requires.0 c.requires.1 c.loop-r.r (omega arith)), omega (arith, c.loop-r.invariant.1.as_long, c.requires.2))
+tally-requires c = omega (arith, c.rule_at-word.ensures.its_root, root_below c.args.image.now c.requires.0 c.requires.1 c.loop-r.r (omega arith))
 
 pub loop-r-preserved : goal.loop-r-preserved
 loop-r-preserved c = (omega arith, rw (roots_step c.args.image.now c.loop-r.r) (rw c.rule_at-word.ensures.its_root at (tallied_more c.loop-r.invariant.1 c.tally.ensures)))

@@ -2,7 +2,8 @@ use Rattle.terminals.proofs.CharacterWords.{ascii_taken}
 use Prim.Native.Nat.{ℕ}
 use native.Mathlib.Omega.{arith}
 use mathlib.Core.Path.{sym, ap, ◌∙◌}
-use Rattle.grammar.specs.Image.{any, range_by}
+use Rattle.grammar.specs.declared.node.Terminal.TheVariants.{Any}
+use Rattle.grammar.specs.Image.{range_by}
 use Rattle.records.specs.Words.{value_of}
 use Rattle.listing.specs.Gives.{told_length}
 use Rattle.listing.proofs.Terminals.{says_terminal}
@@ -34,6 +35,6 @@ returns-then-kind-eq1 c =
     let one = c.if-kind-eq1.true in
     record {
       of_empty = λ e. absurd (omega arith);
-      of_any = λ e. c.told-then-kind-eq1.ensures ∙ ap (λ (w : ℕ). told_length (value_of w)) c.any_character.ensures ∙ ap told_length (says_terminal any a.text.now.now a.at);
+      of_any = λ e. c.told-then-kind-eq1.ensures ∙ ap (λ (w : ℕ). told_length (value_of w)) c.any_character.ensures ∙ ap told_length (says_terminal Any a.text.now.now a.at);
       of_range = λ e. absurd (omega arith);
     }

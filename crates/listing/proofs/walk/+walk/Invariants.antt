@@ -4,7 +4,7 @@ use Rattle.listing.proofs.Paths.{Rounds}
 use Rattle.packrat.specs.Loaded.{rules_in}
 use Rattle.rows.specs.Walk.{node_v, pair_v, kind_v}
 use Rattle.rows.proofs.Bounds.{node_bounded}
-use Rattle.grammar.specs.Image.{star}
+use Rattle.grammar.specs.declared.node.Node.TheVariants.{Star}
 use Rattle.std.proofs.Common.{◌≡◌, ◌+◌, ◌-◌, ◌*◌, ◌≤◌, length}
 use Rattle.listing.proofs.walk.+walk.Given as goal
 
@@ -31,7 +31,7 @@ decreases-walk_star l = 3 * l.left + 2
 
 abbrev pub invariant-walk_star-loop-room : goal.invariant-walk_star-loop-room
 invariant-walk_star-loop-room l =
-    (length l.rows ≡ length l.initial.rows) × ((short : length l.text.now ≤ 65535) → Rounds l.text.now l.room (node_v l.room l.words l.text.now l.table.now l.left) short (node_bounded l.room l.words l.text.now l.table.now l.left) l.a l.at l.lo l.hi l.depth l.initial.count l.initial.rows (kind_v l.text.now (node_v l.room l.words l.text.now l.table.now l.left) (pair_v (rules_in l.words) 0 l.room l.text.now l.table.now (node_v l.room l.words l.text.now l.table.now l.left)) (star l.a) l.at l.lo l.hi l.depth l.initial.count) l.before l.rows l.count)
+    (length l.rows ≡ length l.initial.rows) × ((short : length l.text.now ≤ 65535) → Rounds l.text.now l.room (node_v l.room l.words l.text.now l.table.now l.left) short (node_bounded l.room l.words l.text.now l.table.now l.left) l.a l.at l.lo l.hi l.depth l.initial.count l.initial.rows (kind_v l.text.now (node_v l.room l.words l.text.now l.table.now l.left) (pair_v (rules_in l.words) 0 l.room l.text.now l.table.now (node_v l.room l.words l.text.now l.table.now l.left)) (Star l.a) l.at l.lo l.hi l.depth l.initial.count) l.before l.rows l.count)
 
 abbrev pub decreases-walk_star-loop-room : goal.decreases-walk_star-loop-room
 decreases-walk_star-loop-room l =

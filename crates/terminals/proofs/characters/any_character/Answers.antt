@@ -1,5 +1,5 @@
 use Prim.Native.Nat.{ℕ}
-use Rattle.grammar.specs.Image.{any}
+use Rattle.grammar.specs.declared.node.Terminal.TheVariants.{Any}
 use Rattle.grammar.specs.Characters.{later_bytes}
 use Rattle.grammar.specs.Terminal.{continued}
 use Rattle.records.specs.Words.{word_of}
@@ -12,7 +12,7 @@ use Rattle.terminals.proofs.characters.any_character.Goals as goal
 pub returns-then-end_of-at : goal.returns-then-end_of-at
 returns-then-end_of-at c =
     let a = c.args in
-    end_word any a.text.now.now a.at (omega (arith, c.end_of.ensures, c.if-end_of-at.true))
+    end_word Any a.text.now.now a.at (omega (arith, c.end_of.ensures, c.if-end_of-at.true))
 
 pub byte_at-requires : goal.byte_at-requires
 byte_at-requires c =
