@@ -1,15 +1,16 @@
 -- The fields determine the answer, where a refusal has a number above 0, as each promise says. Assumes nothing.
+use Rattle.std.specs.Prelude.{Ok, Err}
 use Prim.Native.Nat.{ℕ, ◌≤◌}
 use native.Mathlib.Omega.{arith}
 use mathlib.Core.Path.{◌≡◌, refl, ap}
 use Rattle.reading.specs.declared.plain.Outcome.{Outcome}
 use Rattle.reading.specs.declared.plain.Outcome.TheVariants.{Whole, Part, Nothing}
-use Rattle.promises.specs.declared.OpenAnswer.{OpenAnswer}
-use Rattle.promises.specs.declared.EditAnswer.{EditAnswer}
-use Rattle.promises.specs.declared.ReadAnswer.{ReadAnswer}
+use Rattle.promises.specs.Answers.{OpenAnswer}
+use Rattle.promises.specs.Answers.{EditAnswer}
+use Rattle.promises.specs.Answers.{ReadAnswer}
 use Rattle.promises.specs.declared.SheetReading.{SheetReading}
-use Rattle.promises.specs.declared.LookUpAnswer.{LookUpAnswer}
-use Rattle.promises.specs.declared.ListAnswer.{ListAnswer}
+use Rattle.promises.specs.Answers.{LookUpAnswer}
+use Rattle.promises.specs.Answers.{ListAnswer}
 use Rattle.bannelgo.specs.declared.fields.Fields.{Fields}
 use Rattle.bannelgo.specs.Fields.{open_fields, edit_fields, reading_fields, read_fields, look_up_fields, list_fields, outcome_number}
 
@@ -18,35 +19,35 @@ same_number : {a b : Fields} → a ≡ b → a.number ≡ b.number
 same_number e = ap (λ (f : Fields). f.number) e
 
 abbrev pub OpenNumbered : OpenAnswer → Type 0
-OpenNumbered (OpenAnswer.Opened n) = Unit {0}
-OpenNumbered (OpenAnswer.Refused k) = 1 ≤ k
+OpenNumbered (Ok n) = Unit {0}
+OpenNumbered (Err k) = 1 ≤ k
 
 pub open_once : (a b : OpenAnswer) → OpenNumbered a → OpenNumbered b → open_fields a ≡ open_fields b → a ≡ b
-open_once (OpenAnswer.Opened n) (OpenAnswer.Opened m) h k e = ap (λ (f : Fields). OpenAnswer.Opened f.length) e
-open_once (OpenAnswer.Opened n) (OpenAnswer.Refused j) h k e = absurd (let d = same_number e in omega arith)
-open_once (OpenAnswer.Refused i) (OpenAnswer.Opened m) h k e = absurd (let d = same_number e in omega arith)
-open_once (OpenAnswer.Refused i) (OpenAnswer.Refused j) h k e = ap OpenAnswer.Refused (same_number e)
+open_once (Ok n) (Ok m) h k e = ap (λ (f : Fields). Ok f.length) e
+open_once (Ok n) (Err j) h k e = absurd (let d = same_number e in omega arith)
+open_once (Err i) (Ok m) h k e = absurd (let d = same_number e in omega arith)
+open_once (Err i) (Err j) h k e = ap OpenAnswer.Refused (same_number e)
 
 abbrev pub EditNumbered : EditAnswer → Type 0
-EditNumbered (EditAnswer.Edited x) = Unit {0}
-EditNumbered (EditAnswer.Refused k) = 1 ≤ k
+EditNumbered (Ok x) = Unit {0}
+EditNumbered (Err k) = 1 ≤ k
 
 pub edit_once : (a b : EditAnswer) → EditNumbered a → EditNumbered b → edit_fields a ≡ edit_fields b → a ≡ b
-edit_once (EditAnswer.Edited x) (EditAnswer.Edited y) h k e =
-    λ i. EditAnswer.Edited (record { length = (e i).length; standing = (e i).value })
-edit_once (EditAnswer.Edited x) (EditAnswer.Refused j) h k e = absurd (let d = same_number e in omega arith)
-edit_once (EditAnswer.Refused i) (EditAnswer.Edited y) h k e = absurd (let d = same_number e in omega arith)
-edit_once (EditAnswer.Refused i) (EditAnswer.Refused j) h k e = ap EditAnswer.Refused (same_number e)
+edit_once (Ok x) (Ok y) h k e =
+    λ i. Ok (record { length = (e i).length; standing = (e i).value })
+edit_once (Ok x) (Err j) h k e = absurd (let d = same_number e in omega arith)
+edit_once (Err i) (Ok y) h k e = absurd (let d = same_number e in omega arith)
+edit_once (Err i) (Err j) h k e = ap EditAnswer.Refused (same_number e)
 
 abbrev pub LookUpNumbered : LookUpAnswer → Type 0
-LookUpNumbered (LookUpAnswer.Word w) = Unit {0}
-LookUpNumbered (LookUpAnswer.Refused k) = 1 ≤ k
+LookUpNumbered (Ok w) = Unit {0}
+LookUpNumbered (Err k) = 1 ≤ k
 
 pub look_up_once : (a b : LookUpAnswer) → LookUpNumbered a → LookUpNumbered b → look_up_fields a ≡ look_up_fields b → a ≡ b
-look_up_once (LookUpAnswer.Word v) (LookUpAnswer.Word w) h k e = ap (λ (f : Fields). LookUpAnswer.Word f.value) e
-look_up_once (LookUpAnswer.Word v) (LookUpAnswer.Refused j) h k e = absurd (let d = same_number e in omega arith)
-look_up_once (LookUpAnswer.Refused i) (LookUpAnswer.Word w) h k e = absurd (let d = same_number e in omega arith)
-look_up_once (LookUpAnswer.Refused i) (LookUpAnswer.Refused j) h k e = ap LookUpAnswer.Refused (same_number e)
+look_up_once (Ok v) (Ok w) h k e = ap (λ (f : Fields). Ok f.value) e
+look_up_once (Ok v) (Err j) h k e = absurd (let d = same_number e in omega arith)
+look_up_once (Err i) (Ok w) h k e = absurd (let d = same_number e in omega arith)
+look_up_once (Err i) (Err j) h k e = ap LookUpAnswer.Refused (same_number e)
 
 outcome_once : (x y : Outcome) → outcome_number x ≡ outcome_number y → x ≡ y
 outcome_once Whole Whole e = refl
@@ -60,8 +61,8 @@ outcome_once Nothing Part e = absurd (omega arith)
 outcome_once Nothing Nothing e = refl
 
 abbrev pub ReadNumbered : ReadAnswer → Type 0
-ReadNumbered (ReadAnswer.Read x) = Unit {0}
-ReadNumbered (ReadAnswer.Refused k) = 1 ≤ k
+ReadNumbered (Ok x) = Unit {0}
+ReadNumbered (Err k) = 1 ≤ k
 
 reading_once : (x y : SheetReading) (v w : ℕ) → reading_fields x v ≡ reading_fields y w → x ≡ y
 reading_once x y v w e =
@@ -76,19 +77,19 @@ reading_once x y v w e =
     }
 
 pub read_once : (a b : ReadAnswer) → ReadNumbered a → ReadNumbered b → read_fields a ≡ read_fields b → a ≡ b
-read_once (ReadAnswer.Read x) (ReadAnswer.Read y) h k e = ap ReadAnswer.Read (reading_once x y 0 0 e)
-read_once (ReadAnswer.Read x) (ReadAnswer.Refused j) h k e = absurd (let d = same_number e in omega arith)
-read_once (ReadAnswer.Refused i) (ReadAnswer.Read y) h k e = absurd (let d = same_number e in omega arith)
-read_once (ReadAnswer.Refused i) (ReadAnswer.Refused j) h k e = ap ReadAnswer.Refused (same_number e)
+read_once (Ok x) (Ok y) h k e = ap Ok (reading_once x y 0 0 e)
+read_once (Ok x) (Err j) h k e = absurd (let d = same_number e in omega arith)
+read_once (Err i) (Ok y) h k e = absurd (let d = same_number e in omega arith)
+read_once (Err i) (Err j) h k e = ap ReadAnswer.Refused (same_number e)
 
 abbrev pub ListNumbered : ListAnswer → Type 0
-ListNumbered (ListAnswer.Listed x) = Unit {0}
-ListNumbered (ListAnswer.Refused k) = 1 ≤ k
+ListNumbered (Ok x) = Unit {0}
+ListNumbered (Err k) = 1 ≤ k
 
 pub list_once : (a b : ListAnswer) → ListNumbered a → ListNumbered b → list_fields a ≡ list_fields b → a ≡ b
-list_once (ListAnswer.Listed x) (ListAnswer.Listed y) h k e =
+list_once (Ok x) (Ok y) h k e =
     let r = reading_once x.reading y.reading x.rows y.rows e in
-    λ i. ListAnswer.Listed (record { reading = r i; rows = (e i).value })
-list_once (ListAnswer.Listed x) (ListAnswer.Refused j) h k e = absurd (let d = same_number e in omega arith)
-list_once (ListAnswer.Refused i) (ListAnswer.Listed y) h k e = absurd (let d = same_number e in omega arith)
-list_once (ListAnswer.Refused i) (ListAnswer.Refused j) h k e = ap ListAnswer.Refused (same_number e)
+    λ i. Ok (record { reading = r i; rows = (e i).value })
+list_once (Ok x) (Err j) h k e = absurd (let d = same_number e in omega arith)
+list_once (Err i) (Ok y) h k e = absurd (let d = same_number e in omega arith)
+list_once (Err i) (Err j) h k e = ap ListAnswer.Refused (same_number e)

@@ -3,6 +3,8 @@
 --     only_these_numbers    1 to 8, 12 and 13 never occur
 --     as_plain              a reading answers what the plain reading answers, with the number of pairs reached and not held
 --     lists_as_plain        a listing answers that too, with the text's rows, or 15 exactly where they do not fit
+use Rattle.std.specs.Prelude.{Ok, Err}
+use Rattle.grammar.specs.declared.refusal.Refusal.TheVariants.{Nesting}
 use Prim.Native.Nat.{ℕ, ◌≤◌, ◌<◌}
 use native.Mathlib.Omega.{arith}
 use mathlib.Core.Path.{◌≡◌, refl, sym, ap, ◌∙◌, subst}
@@ -20,11 +22,11 @@ use Rattle.grammar.proofs.Determinism.{one}
 use Rattle.grammar.proofs.Acceptance.{checked}
 use Rattle.reading.specs.declared.plain.Outcome.{Outcome}
 use Rattle.reading.specs.declared.plain.Reading.{Reading}
-use Rattle.reading.specs.declared.plain.PlainAnswer.{PlainAnswer}
+use Rattle.reading.specs.Plain.{PlainAnswer}
 use Rattle.reading.specs.Plain.{Says, Reports, ShortText, DepthAllowed, of_plain, PlainRead, outcome_of}
 use Rattle.editing.specs.Table.{table_size}
-use Rattle.promises.specs.declared.ReadAnswer.{ReadAnswer}
-use Rattle.promises.specs.declared.ListAnswer.{ListAnswer}
+use Rattle.promises.specs.Answers.{ReadAnswer}
+use Rattle.promises.specs.Answers.{ListAnswer}
 use Rattle.promises.specs.declared.SheetReading.{SheetReading}
 use Rattle.promises.specs.Answers.{sheet_reading, read_number, list_number}
 use Rattle.promises.specs.Reading.{ReadPromise}
@@ -80,9 +82,9 @@ only_these_numbers img text B₀ W₀ B W n p calls answers img' B' W' n' t =
 
 -- The answer of a listing's reply, and its rows.
 abbrev listing_in : Reply → ListAnswer
-listing_in (edits a) = ListAnswer.Refused 0
-listing_in (reads a) = ListAnswer.Refused 0
-listing_in (finds a) = ListAnswer.Refused 0
+listing_in (edits a) = Err 0
+listing_in (reads a) = Err 0
+listing_in (finds a) = Err 0
 listing_in (lists a rows) = a
 
 abbrev rows_of_reply : Reply → List ℕ
@@ -100,8 +102,8 @@ outcome_is Outcome.Nothing n z m = sym (λ i. outcome_of (m i) (eqb z.length n))
 
 -- The answer by whether the nesting of the start pair's evaluation is allowed.
 abbrev Answered : (n : ℕ) → Evaluation → Bool → PlainAnswer → ℕ → Type 0
-Answered n z true x count = ReadAnswer.Read (sheet_reading n z count) ≡ in_session x count
-Answered n z false x count = ReadAnswer.Refused 14 ≡ in_session x count
+Answered n z true x count = Ok (sheet_reading n z count) ≡ in_session x count
+Answered n z false x count = Err Nesting ≡ in_session x count
 
 -- A plain reading of a short text by an accepted image answers the start pair's evaluation, or 14.
 module _ (img text : List ℕ) (accepted : Accepted img) (short : length text ≤ 65535) (z : Evaluation)
@@ -127,12 +129,12 @@ module _ (img text : List ℕ) (accepted : Accepted img) (short : length text �
 
     reported :
         (y : Reading) (v : Evaluation) (count : ℕ) → v ≡ z → Reports (length text) v y
-        → ReadAnswer.Read (sheet_reading (length text) z count) ≡ in_session (PlainAnswer.Read y) count
+        → Ok (sheet_reading (length text) z count) ≡ in_session (Ok y) count
     reported y v count f r =
-        ap (λ (x : Evaluation). ReadAnswer.Read (sheet_reading (length text) x count)) (sym f)
+        ap (λ (x : Evaluation). Ok (sheet_reading (length text) x count)) (sym f)
         ∙ sym
         (λ i.
-        ReadAnswer.Read
+        Ok
         (record {
           outcome = outcome_is y.outcome (length text) v r.outcome_is i;
           length = r.length_is i;
@@ -142,28 +144,28 @@ module _ (img text : List ℕ) (accepted : Accepted img) (short : length text �
         }))
 
     plain-answer : (x : PlainAnswer) (count : ℕ) → PlainRead img text x → Answered (length text) z (leb z.nesting 4096) x count
-    plain-answer (PlainAnswer.Read y) count p =
-        subst (λ (b : Bool). Answered (length text) z b (PlainAnswer.Read y) count)
+    plain-answer (Ok y) count p =
+        subst (λ (b : Bool). Answered (length text) z b (Ok y) count)
         (sym (le-leb z.nesting 4096 (allowed 0 (own 0 p.first) refl)))
         (reported y p.values.value count (one img text bodies_only p.values.evaluated e) p.values.reports)
-    plain-answer (PlainAnswer.Refused k) count p =
+    plain-answer (Err k) count p =
         let n = is-14 k (own k p.first) p.values.0 in
         let d = p.values.1 n in
         let same = ap (λ (x : Evaluation). x.nesting) (one img text bodies_only d.evaluated e) in
         let deep : 4096 < z.nesting = omega (arith, d.above) in
-        subst (λ (b : Bool). Answered (length text) z b (PlainAnswer.Refused k) count)
+        subst (λ (b : Bool). Answered (length text) z b (Err k) count)
         (sym (lt-leb z.nesting 4096 deep)) (ap ReadAnswer.Refused (sym n))
 
 -- The reading of an answer that has one.
 abbrev reading_or : ReadAnswer → SheetReading
-reading_or (ReadAnswer.Read x) = x
-reading_or (ReadAnswer.Refused k) = record { outcome = Outcome.Nothing; length = 0; examined = 0; nesting = 0; evaluations = 0 }
+reading_or (Ok x) = x
+reading_or (Err k) = record { outcome = Outcome.Nothing; length = 0; examined = 0; nesting = 0; evaluations = 0 }
 
 abbrev is_read : ReadAnswer → Bool
-is_read (ReadAnswer.Read x) = true
-is_read (ReadAnswer.Refused k) = false
+is_read (Ok x) = true
+is_read (Err k) = false
 
-refused_not_read : {x : SheetReading} {k : ℕ} → ReadAnswer.Read x ≡ ReadAnswer.Refused k → ⊥
+refused_not_read : {x : SheetReading} {k : ℕ} → Ok x ≡ Err k → ⊥
 refused_not_read e = true≢false (ap is_read e)
 
 -- The plain reading of the ledger's text.
@@ -202,14 +204,14 @@ module _ {ev : Evaluations} {cap : ℕ} {rest : List ℕ} {l : Ledger} {B : List
         (slots : ℕ) (b c : Bool) → passes15 ev l slots ≡ c → (y : PlainAnswer)
         → Answered (length l.text) (value_in ev l (start l.image) 0) b y (new_pairs ev l)
         → listing_in (list_turn ev b c l).reply ≡ in_listing y (new_pairs ev l) slots (rows_in ev l)
-    by-questions slots false c e (PlainAnswer.Read y) f = absurd (let z : ◌≡◌ {A = ℕ} 14 0 = ap read_number f in omega arith)
-    by-questions slots false c e (PlainAnswer.Refused k) f = ap ListAnswer.Refused (ap read_number f)
-    by-questions slots true c e (PlainAnswer.Refused k) f = absurd (refused_not_read f)
-    by-questions slots true true e (PlainAnswer.Read y) f =
-        ap (λ (r : ReadAnswer). ListAnswer.Listed (record { reading = reading_or r; rows = length (rows_in ev l) })) f
-        ∙ ap (λ (b : Bool). rows_if b (reading_or (in_session (PlainAnswer.Read y) (new_pairs ev l))) (rows_in ev l)) (sym e)
-    by-questions slots true false e (PlainAnswer.Read y) f =
-        ap (λ (b : Bool). rows_if b (reading_or (in_session (PlainAnswer.Read y) (new_pairs ev l))) (rows_in ev l)) (sym e)
+    by-questions slots false c e (Ok y) f = absurd (let z : ◌≡◌ {A = ℕ} 14 0 = ap read_number f in omega arith)
+    by-questions slots false c e (Err k) f = ap ListAnswer.Refused (ap read_number f)
+    by-questions slots true c e (Err k) f = absurd (refused_not_read f)
+    by-questions slots true true e (Ok y) f =
+        ap (λ (r : ReadAnswer). Ok (record { reading = reading_or r; rows = length (rows_in ev l) })) f
+        ∙ ap (λ (b : Bool). rows_if b (reading_or (in_session (Ok y) (new_pairs ev l))) (rows_in ev l)) (sym e)
+    by-questions slots true false e (Ok y) f =
+        ap (λ (b : Bool). rows_if b (reading_or (in_session (Ok y) (new_pairs ev l))) (rows_in ev l)) (sym e)
 
     -- An answered listing's reply has the ledger's rows.
     by_number : (b c : Bool) → list_number (listing_in (list_turn ev b c l).reply) ≡ 0 → rows_of_reply (list_turn ev b c l).reply ≡ rows_in ev l

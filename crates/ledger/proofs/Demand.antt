@@ -2,6 +2,7 @@
 -- Assumes nothing.
 --     opened_image    an accepted opening has an accepted image
 --     demand_3        the claim
+use Rattle.std.specs.Prelude.{Ok}
 use Prim.Native.Nat.{ℕ}
 use mathlib.Core.Path.{◌≡◌, refl, subst}
 use mathlib.Core.Bool.{Bool, true, false}
@@ -10,7 +11,7 @@ use lib.ListN.{length, drop}
 use Rattle.grammar.specs.Image.{rules}
 use Rattle.grammar.specs.Questions.{Accepted}
 use Rattle.editing.specs.Table.{table_size}
-use Rattle.promises.specs.declared.OpenAnswer.{OpenAnswer}
+use Rattle.promises.specs.Answers.{OpenAnswer}
 use Rattle.promises.specs.Questions.{Question8}
 use Rattle.promises.specs.Promises.{OpenPromise}
 use Rattle.ledger.specs.Ledger.{Evaluations, Call, edit, reading, look_up, listing, Reply, Ledger, opened_ledger, turn, replies, left_by}
@@ -24,14 +25,14 @@ use Rattle.ledger.proofs.StepEdit.{edit_step}
 use Rattle.ledger.proofs.StepLookUp.{look_up_step}
 
 pub opened_image :
-    {img text B W B' W' : List ℕ} {n : ℕ} → OpenPromise img text B W (OpenAnswer.Opened n) B' W'
+    {img text B W B' W' : List ℕ} {n : ℕ} → OpenPromise img text B W (Ok n) B' W'
     → Accepted img × Question8 img (length B) (length text) (length W)
 opened_image {img} {text} {B} {W} p = sheet_passed img (length B) (length text) (length W) p.first
 
 -- What an accepted opening leaves.
 pub opening :
     (ev : Evaluations) {img text B W B' W' : List ℕ} {n : ℕ} (accepted : Accepted img)
-    → OpenPromise img text B W (OpenAnswer.Opened n) B' W'
+    → OpenPromise img text B W (Ok n) B' W'
     → Inv ev (length B) (drop (table_size (rules img) (length B)) W) (opened_ledger img accepted text) B' n W'
 opening ev {img} {text} {B} {W} accepted p =
     let q = (opened_image p).1 in

@@ -1,6 +1,7 @@
 -- A listing as a function of what it is lent, where questions 1 to 8 hold: it keeps its promise. Assumes nothing.
 --     list_reply, list_words    its reply, and the words that it leaves
 --     list_linked             a link of a list of calls, for every number of row slots
+use Rattle.std.specs.Prelude.{Ok, Err}
 use Prim.Native.Nat.{ℕ, ◌≤◌}
 use native.Mathlib.Omega.{arith}
 use mathlib.Core.Path.{◌≡◌, refl, sym, subst}
@@ -18,7 +19,7 @@ use Rattle.rows.specs.Walk.{Walked, walked, stopped, Trail, trail, node_v, start
 use Rattle.rows.specs.Bounds.{Bounded, May}
 use Rattle.rows.proofs.Bounds.{node_bounded, pair_bounded}
 use Rattle.editing.specs.Table.{cleared_table}
-use Rattle.promises.specs.declared.ListAnswer.{ListAnswer}
+use Rattle.promises.specs.Answers.{ListAnswer}
 use Rattle.promises.specs.declared.SheetReading.{SheetReading}
 use Rattle.promises.specs.Answers.{sheet_reading}
 use Rattle.promises.specs.Questions.{Question8, of_sheet}
@@ -35,8 +36,8 @@ abbrev pub walk_over : (slots : ℕ) (img text words : List ℕ) → Trail
 walk_over slots img text words = start_v slots img (loaded_words img) text words 0 (length text)
 
 abbrev pub walk_reply : SheetReading → Trail → Reply
-walk_reply x (trail (walked m l c) rows) = lists (ListAnswer.Listed (record { reading = x; rows = length rows })) rows
-walk_reply x (trail (stopped k) rows) = lists (ListAnswer.Refused k) []
+walk_reply x (trail (walked m l c) rows) = lists (Ok (record { reading = x; rows = length rows })) rows
+walk_reply x (trail (stopped k) rows) = lists (Err k) []
 
 abbrev pub walk_words : (img : List ℕ) (cap : ℕ) (words : List ℕ) → Trail → List ℕ
 walk_words img cap words (trail (walked m l c) rows) = words
@@ -44,7 +45,7 @@ walk_words img cap words (trail (stopped k) rows) = stopped_words (eqb k 15) img
 
 abbrev pub list_reply : (n slots : ℕ) (img text : List ℕ) → Out → Reply
 list_reply n slots img text (out (answered z) words count) = walk_reply (sheet_reading n z count) (walk_over slots img text words)
-list_reply n slots img text (out (refused k) words count) = lists (ListAnswer.Refused k) []
+list_reply n slots img text (out (refused k) words count) = lists (Err k) []
 
 abbrev pub list_words : (cap slots : ℕ) (img text : List ℕ) → Out → List ℕ
 list_words cap slots img text (out (answered z) words count) = walk_words img cap words (walk_over slots img text words)
@@ -87,12 +88,12 @@ module _ (img B : List ℕ) (n : ℕ) (W : List ℕ) (good : First (of_sheet img
         go (walked m len c) w k =
             subst
             (λ (rows : List ℕ).
-            ALink (lists (ListAnswer.Listed (record { reading = sheet_reading n z count; rows = length b.words })) rows) words)
+            ALink (lists (Ok (record { reading = sheet_reading n z count; rows = length b.words })) rows) words)
             (take_at b.words (drop (length b.words) R) (length b.words) refl)
             (subst
             (λ (i : ℕ).
             ALink
-            (lists (ListAnswer.Listed (record { reading = sheet_reading i z count; rows = length b.words }))
+            (lists (Ok (record { reading = sheet_reading i z count; rows = length b.words }))
             (take (length b.words) (b.words ++ drop (length b.words) R)))
             words)
             long

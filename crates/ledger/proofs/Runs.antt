@@ -3,6 +3,8 @@
 --     an_opening       an opening that keeps its promise
 --     a_run            a run of every list of calls, with the replies and the loan that the functions give
 --     ledger_replies   the ledger's replies are those of the functions, whatever gives it its evaluations
+use Rattle.std.specs.Prelude.{Ok, Err}
+use Rattle.grammar.specs.declared.refusal.Refusal.TheVariants.{EditRange, EditRoom, Pair}
 use Prim.Native.Nat.{ℕ}
 use native.Mathlib.Omega.{arith}
 use mathlib.Core.Path.{◌≡◌, refl, sym, ◌∙◌}
@@ -17,9 +19,9 @@ use Rattle.packrat.specs.Over.{word_at}
 use Rattle.packrat.specs.Session.{start_run}
 use Rattle.editing.specs.Text.{new_length, text_after, opened}
 use Rattle.editing.specs.Table.{words_after, table_after, cleared_table, held_in, table_size}
-use Rattle.promises.specs.declared.OpenAnswer.{OpenAnswer}
-use Rattle.promises.specs.declared.EditAnswer.{EditAnswer}
-use Rattle.promises.specs.declared.LookUpAnswer.{LookUpAnswer}
+use Rattle.promises.specs.Answers.{OpenAnswer}
+use Rattle.promises.specs.Answers.{EditAnswer}
+use Rattle.promises.specs.Answers.{LookUpAnswer}
 use Rattle.promises.specs.Questions.{Question8, Question9, of_sheet}
 use Rattle.promises.specs.Promises.{OpenPromise, EditPromise, LookUpPromise}
 use Rattle.promises.specs.Run.{answer_of, words_of}
@@ -37,15 +39,15 @@ use Rattle.ledger.proofs.Demand.{opened_image, opening, Holds, holds, one_call, 
 -- An opening is accepted where questions 1 to 8 hold.
 pub an_opening :
     (img text B W : List ℕ) → Accepted img → Question8 img (length B) (length text) (length W)
-    → OpenPromise img text B W (OpenAnswer.Opened (length text)) (opened (length B) text) (cleared_table (rules img) (length B) W)
+    → OpenPromise img text B W (Ok (length text)) (opened (length B) text) (cleared_table (rules img) (length B) W)
 an_opening img text B W accepted q = open_done img text B W (sheet_first img (length B) (length text) (length W) accepted q) refl refl
 
 -- An edit, by the answers to questions 9 and 10.
 abbrev pub edit_answer : (passes9 passes10 : Bool) (img B : List ℕ) (n : ℕ) (W : List ℕ) (s e : ℕ) (r : List ℕ) → EditAnswer
-edit_answer false b img B n W s e r = EditAnswer.Refused 9
-edit_answer true false img B n W s e r = EditAnswer.Refused 10
+edit_answer false b img B n W s e r = Err EditRange
+edit_answer true false img B n W s e r = Err EditRoom
 edit_answer true true img B n W s e r =
-    EditAnswer.Edited
+    Ok
     (record {
       length = new_length n s e (length r);
       standing = held_in (words_after (rules img) (length B) n s e (length r) W);
@@ -62,8 +64,8 @@ edit_words true false img cap n W s e k = W
 edit_words true true img cap n W s e k = table_after (rules img) cap n s e k W
 
 abbrev pub look_up_answer : (passes11 : Bool) (img W : List ℕ) (rule position : ℕ) → LookUpAnswer
-look_up_answer false img W rule position = LookUpAnswer.Refused 11
-look_up_answer true img W rule position = LookUpAnswer.Word (word_at img W rule position)
+look_up_answer false img W rule position = Err Pair
+look_up_answer true img W rule position = Ok (word_at img W rule position)
 
 -- The questions on the lent lengths.
 abbrev pub asks9 : (n s e : ℕ) → Bool
@@ -155,7 +157,7 @@ module _ (ev : Evaluations) (cap : ℕ) (rest : List ℕ) where
 
 -- From every accepted opening there is a run of every list of calls.
 pub a_run :
-    {img text B₀ W₀ B W : List ℕ} {n : ℕ} → OpenPromise img text B₀ W₀ (OpenAnswer.Opened n) B W
+    {img text B₀ W₀ B W : List ℕ} {n : ℕ} → OpenPromise img text B₀ W₀ (Ok n) B W
     → (calls : List Call)
     → Trace (loan img B n W) calls (replies_of (loan img B n W) calls) (end_of (loan img B n W) calls)
 a_run {img} {text} {B₀} {W₀} p calls =
@@ -172,7 +174,7 @@ runs_exist = (
 
 -- Whatever functions give the ledger its evaluations, and however it is known that the image is accepted, its replies are those.
 pub ledger_replies :
-    {img text B₀ W₀ B W : List ℕ} {n : ℕ} → OpenPromise img text B₀ W₀ (OpenAnswer.Opened n) B W
+    {img text B₀ W₀ B W : List ℕ} {n : ℕ} → OpenPromise img text B₀ W₀ (Ok n) B W
     → (accepted : Accepted img) (ev : Evaluations) (calls : List Call)
     → replies_of (loan img B n W) calls ≡ replies ev (length B₀) (opened_ledger img accepted text) calls
 ledger_replies {img} {text} {B₀} {W₀} p accepted ev calls =

@@ -1,5 +1,7 @@
 -- A session's line by computation: where the calls as functions give these replies, the ledger and every run do. And one of a text that is
 -- nested too deeply to compute. Assumes nothing.
+use Rattle.std.specs.Prelude.{Ok, Err}
+use Rattle.grammar.specs.declared.refusal.Refusal.TheVariants.{Nesting}
 use Prim.Native.Nat.{ℕ, ◌≤◌}
 use native.Mathlib.Omega.{arith}
 use mathlib.Core.Path.{◌≡◌, sym, ap, ◌∙◌}
@@ -15,9 +17,9 @@ use Rattle.grammar.proofs.Determinism.{one}
 use Rattle.reading.specs.Plain.{TooDeep}
 use Rattle.editing.specs.Text.{opened}
 use Rattle.editing.specs.Table.{table_size, cleared_table}
-use Rattle.promises.specs.declared.OpenAnswer.{OpenAnswer}
-use Rattle.promises.specs.declared.ReadAnswer.{ReadAnswer}
-use Rattle.promises.specs.declared.ListAnswer.{ListAnswer}
+use Rattle.promises.specs.Answers.{OpenAnswer}
+use Rattle.promises.specs.Answers.{ReadAnswer}
+use Rattle.promises.specs.Answers.{ListAnswer}
 use Rattle.promises.specs.Promises.{OpenPromise}
 use Rattle.ledger.specs.Ledger.{Evaluations, Call, reading, listing, Reply, reads, lists, opened_ledger, replies, turn}
 use Rattle.ledger.specs.Ledger.{passes14, passes15, read_turn, list_turn}
@@ -38,7 +40,7 @@ module _ (img text : List ℕ) (cap : ℕ) (accepted : Accepted img) (small : ca
 
   -- An opening over a buffer and a table of zeros.
   an_opened :
-      OpenPromise img text (replicate cap 0) (replicate (table_size (rules img) cap) 0) (OpenAnswer.Opened (length text)) (opened cap text)
+      OpenPromise img text (replicate cap 0) (replicate (table_size (rules img) cap) 0) (Ok (length text)) (opened cap text)
       (replicate (table_size (rules img) cap) 0)
   an_opened =
       let long = length-replicate {A = ℕ} cap 0 in
@@ -82,9 +84,9 @@ module _ (img text : List ℕ) (cap : ℕ) (accepted : Accepted img) (small : ca
   -- Where the start pair's nesting is above 4,096.
   pub session_deep :
       TooDeep img text → (slots : ℕ)
-      → SessionSays img text cap (reading ∷ listing slots ∷ []) (reads (ReadAnswer.Refused 14) ∷ lists (ListAnswer.Refused 14) [] ∷ [])
+      → SessionSays img text cap (reading ∷ listing slots ∷ []) (reads (Err Nesting) ∷ lists (Err Nesting) [] ∷ [])
   unfolding replies turn
-  session_deep deep slots = by_ledger (reading ∷ listing slots ∷ []) (reads (ReadAnswer.Refused 14) ∷ lists (ListAnswer.Refused 14) [] ∷ []) given
+  session_deep deep slots = by_ledger (reading ∷ listing slots ∷ []) (reads (Err Nesting) ∷ lists (Err Nesting) [] ∷ []) given
     where
       fails : (ev : Evaluations) → passes14 ev (opened_ledger img accepted text) ≡ false
       fails ev =
@@ -95,8 +97,8 @@ module _ (img text : List ℕ) (cap : ℕ) (accepted : Accepted img) (small : ca
       given :
           (ev : Evaluations)
           → replies ev cap (opened_ledger img accepted text) (reading ∷ listing slots ∷ [])
-          ≡ reads (ReadAnswer.Refused 14) ∷ lists (ListAnswer.Refused 14) [] ∷ []
+          ≡ reads (Err Nesting) ∷ lists (Err Nesting) [] ∷ []
       given ev =
           let l = opened_ledger img accepted text in
           ap (λ (b : Bool). (read_turn ev b l).reply ∷ (list_turn ev (passes14 ev (read_turn ev b l).left) (passes15 ev (read_turn ev b l).left slots) (read_turn ev b l).left).reply ∷ []) (fails ev)
-          ∙ ap (λ (b : Bool). reads (ReadAnswer.Refused 14) ∷ (list_turn ev b (passes15 ev l slots) l).reply ∷ []) (fails ev)
+          ∙ ap (λ (b : Bool). reads (Err Nesting) ∷ (list_turn ev b (passes15 ev l slots) l).reply ∷ []) (fails ev)

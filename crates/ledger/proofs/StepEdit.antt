@@ -1,5 +1,6 @@
 -- An edit of demand 3: from the invariant and the edit's promise, the reply is the ledger's and the invariant holds again.
 -- Assumes nothing.
+use Rattle.std.specs.Prelude.{Ok, Err}
 use Prim.Native.Nat.{ℕ, ◌+◌, ◌-◌, ◌≤◌, ◌<◌}
 use native.Mathlib.Omega.{arith}
 use mathlib.Core.Path.{◌≡◌, refl, sym, ap, ◌∙◌, subst}
@@ -25,7 +26,7 @@ use Rattle.editing.specs.Text.{EditFits, new_length, text_after}
 use Rattle.editing.specs.Table.{table_size, words_after, table_after, held_in}
 use Rattle.editing.proofs.Ledger.{ledger_after}
 use Rattle.editing.proofs.Loans.{edited_long, edit_opened, after_long, after_tail}
-use Rattle.promises.specs.declared.EditAnswer.{EditAnswer}
+use Rattle.promises.specs.Answers.{EditAnswer}
 use Rattle.promises.specs.Answers.{edit_number}
 use Rattle.promises.specs.Questions.{of_edit}
 use Rattle.promises.specs.Promises.{EditValues, EditPromise}
@@ -227,8 +228,8 @@ module _ {ev : Evaluations} {cap : ℕ} {rest : List ℕ} {l : Ledger} {B : List
     edit_done :
         {B' W' : List ℕ} (a : EditAnswer) → edit_number a ≡ 0 → EditValues l.image B n W s e r a B' W'
         → (edits a ≡ (edit_turn ev true true l s e r).reply) × Inv ev cap rest now B' (next_length n a) W'
-    edit_done (EditAnswer.Refused k) f p = absurd (omega (arith, p.numbered))
-    edit_done {W' = W'} (EditAnswer.Edited x) f p =
+    edit_done (Err k) f p = absurd (omega (arith, p.numbered))
+    edit_done {W' = W'} (Ok x) f p =
         let lent = lent_table cap W l.accepted v.small v.whole in
         let count : x.standing ≡ pairs_of l.image (edited_text l s e r) (standing ev l s e r) =
         p.standing_are
@@ -241,7 +242,7 @@ module _ {ev : Evaluations} {cap : ℕ} {rest : List ℕ} {l : Ledger} {B : List
         p.words_are
         ∙ ap (λ (c : ℕ). table_after (rules l.image) c n s e (length r) W) (cap_is v)
         ∙ ap (λ (m : ℕ). table_after (rules l.image) cap m s e (length r) W) v.length_is in (
-          (λ i. edits (EditAnswer.Edited (record { length = new i; standing = count i }))),
+          (λ i. edits (Ok (record { length = new i; standing = count i }))),
           rw (p.bytes_are, words, p.length_is)
               (inv-edit (table_after (rules l.image) cap (length l.text) s e (length r) W)
               (rw (after_long lent (length l.text) s e (length r)) v.whole) word_after
@@ -253,10 +254,10 @@ edit_refused :
     {ev : Evaluations} {cap : ℕ} {rest : List ℕ} {l : Ledger} {B : List ℕ} {n : ℕ} {W : List ℕ} → Inv ev cap rest l B n W
     → (s e : ℕ) (r : List ℕ) {B' W' : List ℕ} (a : EditAnswer) (k : ℕ) → 1 ≤ k → edit_number a ≡ k
     → EditValues l.image B n W s e r a B' W'
-    → (edits a ≡ edits (EditAnswer.Refused k)) × Inv ev cap rest l B' (next_length n a) W'
-edit_refused v s e r (EditAnswer.Edited x) k h f p = absurd (omega arith)
-edit_refused v s e r (EditAnswer.Refused j) k h f p =
-    (ap (λ (i : ℕ). edits (EditAnswer.Refused i)) f, rw (p.same_bytes, p.same_words) v)
+    → (edits a ≡ edits (Err k)) × Inv ev cap rest l B' (next_length n a) W'
+edit_refused v s e r (Ok x) k h f p = absurd (omega arith)
+edit_refused v s e r (Err j) k h f p =
+    (ap (λ (i : ℕ). edits (Err i)) f, rw (p.same_bytes, p.same_words) v)
 
 module _ {ev : Evaluations} {cap : ℕ} {rest : List ℕ} {l : Ledger} {B : List ℕ} {n : ℕ} {W : List ℕ} (v : Inv ev cap rest l B n W)
     (s e : ℕ) (r : List ℕ) {a : EditAnswer} {B' W' : List ℕ} (p : EditPromise l.image B n W s e r a B' W')

@@ -1,6 +1,8 @@
 -- A listing of demand 3: from the invariant and the listing's promise, the reply is the ledger's, rows included, and the invariant holds
 -- again, as after a reading. Assumes nothing.
 --     list_step
+use Rattle.std.specs.Prelude.{Ok, Err}
+use Rattle.grammar.specs.declared.refusal.Refusal.TheVariants.{Nesting}
 use Prim.Native.Nat.{ℕ}
 use native.Mathlib.Omega.{arith}
 use mathlib.Core.Path.{◌≡◌, refl, sym, ap, ◌∙◌, subst}
@@ -12,8 +14,8 @@ use borrow.Author.Tests.{leb-true, leb-false}
 use Rattle.grammar.specs.Image.{start}
 use Rattle.grammar.specs.Evaluates.{Fresh, a_pair}
 use Rattle.rows.specs.Rows.{rows_of, row_words}
-use Rattle.promises.specs.declared.ReadAnswer.{ReadAnswer}
-use Rattle.promises.specs.declared.ListAnswer.{ListAnswer}
+use Rattle.promises.specs.Answers.{ReadAnswer}
+use Rattle.promises.specs.Answers.{ListAnswer}
 use Rattle.promises.specs.declared.SheetReading.{SheetReading}
 use Rattle.promises.specs.Listing.{GivesRows, ListedAfter, RefusedAlso, ThenListed, SheetListed, ListPromise}
 use Rattle.ledger.specs.Ledger.{Evaluations, Ledger, Turn, Reply, listing, edits, reads, finds, lists, value_in, rows_in}
@@ -26,18 +28,18 @@ use Rattle.ledger.proofs.StepRead.{sheet_step}
 -- The answer of a reading's reply.
 abbrev answer_in : Reply → ReadAnswer
 answer_in (reads a) = a
-answer_in (edits a) = ReadAnswer.Refused 0
-answer_in (finds a) = ReadAnswer.Refused 0
-answer_in (lists a rows) = ReadAnswer.Refused 0
+answer_in (edits a) = Err 0
+answer_in (finds a) = Err 0
+answer_in (lists a rows) = Err 0
 
 -- A listing that wrote these rows gave them.
 rows_given_lem :
     (x : SheetReading) (rows R R' : List ℕ) → R' ≡ rows ++ drop (length rows) R
-    → lists (ListAnswer.Listed (record { reading = x; rows = length rows }))
-    (rows_given (ListAnswer.Listed (record { reading = x; rows = length rows })) R')
-    ≡ lists (ListAnswer.Listed (record { reading = x; rows = length rows })) rows
+    → lists (Ok (record { reading = x; rows = length rows }))
+    (rows_given (Ok (record { reading = x; rows = length rows })) R')
+    ≡ lists (Ok (record { reading = x; rows = length rows })) rows
 rows_given_lem x rows R R' e =
-    ap (lists (ListAnswer.Listed (record { reading = x; rows = length rows })))
+    ap (lists (Ok (record { reading = x; rows = length rows })))
     (ap (take (length rows)) e ∙ take_at rows (drop (length rows) R) (length rows) refl)
 
 module _ {ev : Evaluations} {cap : ℕ} {rest : List ℕ} {l : Ledger} {B : List ℕ} {n : ℕ} {W : List ℕ} (v : Inv ev cap rest l B n W)
@@ -61,7 +63,7 @@ module _ {ev : Evaluations} {cap : ℕ} {rest : List ℕ} {l : Ledger} {B : List
         (reads s.reading ≡ (read_turn ev false l).reply) × Inv ev cap rest (read_turn ev false l).left B n s.words
         → Listed (list_turn ev false (passes15 ev l (length R)) l)
     deep f =
-        let e : s.reading ≡ ReadAnswer.Refused 14 = ap answer_in f.0 in
+        let e : s.reading ≡ Err Nesting = ap answer_in f.0 in
         let t : RefusedAlso 14 s.words R a W' R' =
         subst (λ (x : ReadAnswer). ThenListed l.image l.text cap W x s.words R a W' R') e s.then in (
           ap (λ (x : ListAnswer). lists x (rows_given x R')) t.answer_is,

@@ -1,4 +1,5 @@
 -- A look-up of demand 3: from the invariant and the look-up's promise, the reply is the ledger's. Assumes nothing.
+use Rattle.std.specs.Prelude.{Ok, Err}
 use Prim.Native.Nat.{ℕ, ◌≤◌}
 use native.Mathlib.Omega.{arith}
 use mathlib.Core.Path.{◌≡◌, refl, ap, ◌∙◌}
@@ -6,7 +7,7 @@ use mathlib.Core.Bool.{Bool, true, false}
 use mathlib.Core.List.{List}
 use lib.ListN.{length}
 use Rattle.packrat.specs.Over.{word_at}
-use Rattle.promises.specs.declared.LookUpAnswer.{LookUpAnswer}
+use Rattle.promises.specs.Answers.{LookUpAnswer}
 use Rattle.promises.specs.Answers.{look_up_number}
 use Rattle.promises.specs.Promises.{LookUpPromise, LookUpValues}
 use Rattle.ledger.specs.Ledger.{Evaluations, Ledger, look_up, finds, passes11, look_up_turn, turn}
@@ -17,13 +18,13 @@ use Rattle.ledger.proofs.Inv.{Inv}
 -- An answer by its number.
 found :
     (img W : List ℕ) (rule q : ℕ) (a : LookUpAnswer) → look_up_number a ≡ 0 → LookUpValues img W rule q a
-    → a ≡ LookUpAnswer.Word (word_at img W rule q)
-found img W rule q (LookUpAnswer.Word w) e h = ap LookUpAnswer.Word h
-found img W rule q (LookUpAnswer.Refused k) e h = absurd (omega arith)
+    → a ≡ Ok (word_at img W rule q)
+found img W rule q (Ok w) e h = ap Ok h
+found img W rule q (Err k) e h = absurd (omega arith)
 
-refused : (a : LookUpAnswer) (k : ℕ) → 1 ≤ k → look_up_number a ≡ k → a ≡ LookUpAnswer.Refused k
-refused (LookUpAnswer.Word w) k h e = absurd (omega arith)
-refused (LookUpAnswer.Refused j) k h e = ap LookUpAnswer.Refused e
+refused : (a : LookUpAnswer) (k : ℕ) → 1 ≤ k → look_up_number a ≡ k → a ≡ Err k
+refused (Ok w) k h e = absurd (omega arith)
+refused (Err j) k h e = ap Err e
 
 module _ {ev : Evaluations} {cap : ℕ} {rest : List ℕ} {l : Ledger} {B : List ℕ} {n : ℕ} {W : List ℕ} (v : Inv ev cap rest l B n W)
     (rule q : ℕ) {a : LookUpAnswer} (p : LookUpPromise l.image B n W rule q a)
@@ -36,7 +37,7 @@ module _ {ev : Evaluations} {cap : ℕ} {rest : List ℕ} {l : Ledger} {B : List
         (look_up_0 l.image (length B) n (length W) (good v) rule q x) in
         ap finds
         (found l.image W rule q a none p.values
-        ∙ ap LookUpAnswer.Word (v.words_are rule q x.rule_in (omega (arith, x.position_in, v.length_is, v.text_fits))))
+        ∙ ap Ok (v.words_are rule q x.rule_in (omega (arith, x.position_in, v.length_is, v.text_fits))))
     step false t =
         let number =
         look_up_one l.image (length B) n (length W) rule q (look_up_number a) 11 p.first

@@ -1,12 +1,14 @@
 -- What follows from demand 3, for every list of calls from an accepted opening: which numbers occur, and what a reading or a listing
 -- answers beside the plain reading of the same text.
+use Rattle.std.specs.Prelude.{Ok, Err}
+use Rattle.grammar.specs.declared.refusal.Refusal.TheVariants.{Rows}
 use Rattle.std.specs.Prelude.{ℕ, ◌≡◌, Bool, true, false, List, [], ◌∷◌, ◌⊎◌, length, take, leb}
 use Rattle.grammar.specs.Questions.{Accepted}
-use Rattle.reading.specs.declared.plain.PlainAnswer.{PlainAnswer}
+use Rattle.reading.specs.Plain.{PlainAnswer}
 use Rattle.reading.specs.Plain.{PlainRead}
-use Rattle.promises.specs.declared.OpenAnswer.{OpenAnswer}
-use Rattle.promises.specs.declared.ReadAnswer.{ReadAnswer}
-use Rattle.promises.specs.declared.ListAnswer.{ListAnswer}
+use Rattle.promises.specs.Answers.{OpenAnswer}
+use Rattle.promises.specs.Answers.{ReadAnswer}
+use Rattle.promises.specs.Answers.{ListAnswer}
 use Rattle.promises.specs.declared.SheetReading.{SheetReading}
 use Rattle.promises.specs.Answers.{edit_number, read_number, look_up_number, list_number}
 use Rattle.promises.specs.Promises.{OpenPromise}
@@ -29,24 +31,24 @@ All P (x ∷ xs) = P x × All P xs
 abbrev pub OnlyTheseNumbers : Type 0
 OnlyTheseNumbers =
     (img text B₀ W₀ B W : List ℕ) (n : ℕ)
-    → OpenPromise img text B₀ W₀ (OpenAnswer.Opened n) B W
+    → OpenPromise img text B₀ W₀ (Ok n) B W
     → (calls : List Call) (answers : List Reply) (img' B' W' : List ℕ) (n' : ℕ)
     → Trace (loan img B n W) calls answers (loan img' B' n' W')
     → All LedgersNumber answers
 
 -- The answer of a plain reading as one of a session that evaluated so many pairs.
 abbrev pub in_session : PlainAnswer → (evaluations : ℕ) → ReadAnswer
-in_session (PlainAnswer.Read x) count =
-    ReadAnswer.Read
+in_session (Ok x) count =
+    Ok
     (record { outcome = x.outcome; length = x.length; examined = x.examined; nesting = x.nesting; evaluations = count })
-in_session (PlainAnswer.Refused k) count = ReadAnswer.Refused k
+in_session (Err k) count = Err k
 
 -- A reading after any list of calls, and the plain reading of the text that it was lent: both are refused with 14 or none is, and otherwise
 -- outcome, length, examined and nesting are the same; evaluations are the pairs that a fresh reading reaches and that were not held.
 abbrev pub AsPlain : Type 0
 AsPlain =
     (img text B₀ W₀ B W : List ℕ) (n : ℕ)
-    → OpenPromise img text B₀ W₀ (OpenAnswer.Opened n) B W
+    → OpenPromise img text B₀ W₀ (Ok n) B W
     → (accepted : Accepted img) (ev : Evaluations)
     → (calls : List Call) (answers : List Reply) (img' B' W' : List ℕ) (n' : ℕ)
     → Trace (loan img B n W) calls answers (loan img' B' n' W')
@@ -61,22 +63,22 @@ AsPlain =
 -- The answer of a plain reading as that of a listing in a session that evaluated so many pairs, of a text with rows of these words, where
 -- so many row slots are lent.
 abbrev pub rows_if : (fit : Bool) → SheetReading → (rows : List ℕ) → ListAnswer
-rows_if true x rows = ListAnswer.Listed (record { reading = x; rows = length rows })
-rows_if false x rows = ListAnswer.Refused 15
+rows_if true x rows = Ok (record { reading = x; rows = length rows })
+rows_if false x rows = Err Rows
 
 abbrev pub in_listing : PlainAnswer → (evaluations slots : ℕ) (rows : List ℕ) → ListAnswer
-in_listing (PlainAnswer.Read x) count slots rows =
+in_listing (Ok x) count slots rows =
     rows_if (leb (length rows) slots)
     (record { outcome = x.outcome; length = x.length; examined = x.examined; nesting = x.nesting; evaluations = count })
     rows
-in_listing (PlainAnswer.Refused k) count slots rows = ListAnswer.Refused k
+in_listing (Err k) count slots rows = Err k
 
 -- "To it a listing is a reading": a listing after any list of calls is refused with 14 where the plain reading is; otherwise it answers what
 -- the plain reading answers, with the number of the text's rows, which are in the row slots then, or 15 exactly where they do not fit.
 abbrev pub ListsAsPlain : Type 0
 ListsAsPlain =
     (img text B₀ W₀ B W : List ℕ) (n : ℕ)
-    → OpenPromise img text B₀ W₀ (OpenAnswer.Opened n) B W
+    → OpenPromise img text B₀ W₀ (Ok n) B W
     → (accepted : Accepted img) (ev : Evaluations)
     → (calls : List Call) (answers : List Reply) (img' B' W' : List ℕ) (n' : ℕ)
     → Trace (loan img B n W) calls answers (loan img' B' n' W')

@@ -1,5 +1,6 @@
 -- Demand 3: "a single claim about the whole list and not one for each call." Each link of a list is a promise that a call's contract
 -- cites.
+use Rattle.std.specs.Prelude.{Ok, Err}
 use Rattle.std.specs.Prelude.{ℕ, ◌≤◌, ◌<◌, ◌≡◌, true, cond, List, [], ◌∷◌, length, take, drop}
 use Rattle.grammar.specs.Image.{rules}
 use Rattle.grammar.specs.Questions.{Accepted}
@@ -8,11 +9,11 @@ use Rattle.packrat.specs.Over.{word_at}
 use Rattle.packrat.specs.True.{IsTrue}
 use Rattle.editing.specs.Text.{opened}
 use Rattle.editing.specs.Table.{table_size}
-use Rattle.promises.specs.declared.OpenAnswer.{OpenAnswer}
-use Rattle.promises.specs.declared.EditAnswer.{EditAnswer}
-use Rattle.promises.specs.declared.LookUpAnswer.{LookUpAnswer}
-use Rattle.promises.specs.declared.ReadAnswer.{ReadAnswer}
-use Rattle.promises.specs.declared.ListAnswer.{ListAnswer}
+use Rattle.promises.specs.Answers.{OpenAnswer}
+use Rattle.promises.specs.Answers.{EditAnswer}
+use Rattle.promises.specs.Answers.{LookUpAnswer}
+use Rattle.promises.specs.Answers.{ReadAnswer}
+use Rattle.promises.specs.Answers.{ListAnswer}
 use Rattle.promises.specs.Promises.{OpenPromise, EditPromise, LookUpPromise}
 use Rattle.promises.specs.Reading.{ReadPromise}
 use Rattle.promises.specs.Listing.{ListPromise}
@@ -26,13 +27,13 @@ pub data Loan : Type 0 where
 
 -- "Later calls are lent the length that open or the last accepted edit gave."
 abbrev pub next_length : ℕ → EditAnswer → ℕ
-next_length n (EditAnswer.Edited x) = x.length
-next_length n (EditAnswer.Refused k) = n
+next_length n (Ok x) = x.length
+next_length n (Err k) = n
 
 -- The rows that an answered listing gave: the first of the row slots that it left.
 abbrev pub rows_given : ListAnswer → List ℕ → List ℕ
-rows_given (ListAnswer.Listed x) R = take x.rows R
-rows_given (ListAnswer.Refused k) R = []
+rows_given (Ok x) R = take x.rows R
+rows_given (Err k) R = []
 
 -- A call that kept its promise: what it was lent, what it brought, what it answered, and what it left.
 pub data Link : Loan → Call → Reply → Loan → Type 0 where
@@ -82,7 +83,7 @@ pub record Agrees (ev : Evaluations) (cap : ℕ) (rest : List ℕ) (l : Ledger) 
 abbrev pub Demand3 : Type 0
 Demand3 =
     (img text B₀ W₀ B W : List ℕ) (n : ℕ)
-    → OpenPromise img text B₀ W₀ (OpenAnswer.Opened n) B W
+    → OpenPromise img text B₀ W₀ (Ok n) B W
     → (accepted : Accepted img) (ev : Evaluations)
     → (calls : List Call) (answers : List Reply) (img' B' W' : List ℕ) (n' : ℕ)
     → Trace (loan img B n W) calls answers (loan img' B' n' W')
@@ -96,7 +97,7 @@ Demand3 =
 pub record AnOpening (img text B W : List ℕ) : Type 0 where
   pub bytes : List ℕ
   pub words : List ℕ
-  pub opens : OpenPromise img text B W (OpenAnswer.Opened (length text)) bytes words
+  pub opens : OpenPromise img text B W (Ok (length text)) bytes words
 
 -- and from every accepted opening every list of calls has a run.
 pub record ARun (from : Loan) (calls : List Call) : Type 0 where
@@ -109,5 +110,5 @@ RunsExist =
     Evaluations
     × ((img text B W : List ℕ) → Accepted img → Question8 img (length B) (length text) (length W) → AnOpening img text B W)
     × ((img text B₀ W₀ B W : List ℕ) (n : ℕ)
-    → OpenPromise img text B₀ W₀ (OpenAnswer.Opened n) B W
+    → OpenPromise img text B₀ W₀ (Ok n) B W
     → (calls : List Call) → ARun (loan img B n W) calls)

@@ -1,5 +1,7 @@
 -- The plain ledger: "a text and a set of pairs, the ones held. It is fed the image, cap and what each call itself brings [..], and nothing
 -- that the program keeps or answers." Its state has the image too, which these calls do not change.
+use Rattle.std.specs.Prelude.{Ok, Err}
+use Rattle.grammar.specs.declared.refusal.Refusal.TheVariants.{EditRange, EditRoom, Nesting, Pair, Rows}
 use Rattle.std.specs.Prelude.{ℕ, ◌+◌, ◌≤◌, ◌<◌, ◌≡◌, Bool, true, false, cond, not, ◌&&◌, ◌||◌, List, [], ◌∷◌, ◌↔◌, length, leb, ltb}
 use Rattle.grammar.specs.declared.Evaluation.{Evaluation}
 use Rattle.grammar.specs.Image.{rules, start}
@@ -11,10 +13,10 @@ use Rattle.records.specs.Words.{word_of}
 use Rattle.rows.specs.Rows.{Row, rows_of, row_words}
 use Rattle.editing.specs.Text.{new_length, edited}
 use Rattle.editing.specs.Pairs.{stands_after}
-use Rattle.promises.specs.declared.EditAnswer.{EditAnswer}
-use Rattle.promises.specs.declared.LookUpAnswer.{LookUpAnswer}
-use Rattle.promises.specs.declared.ReadAnswer.{ReadAnswer}
-use Rattle.promises.specs.declared.ListAnswer.{ListAnswer}
+use Rattle.promises.specs.Answers.{EditAnswer}
+use Rattle.promises.specs.Answers.{LookUpAnswer}
+use Rattle.promises.specs.Answers.{ReadAnswer}
+use Rattle.promises.specs.Answers.{ListAnswer}
 use Rattle.promises.specs.declared.SheetReading.{SheetReading}
 use Rattle.promises.specs.Answers.{sheet_reading}
 
@@ -113,13 +115,13 @@ module _ (ev : Evaluations) where
 
   -- "a call that fails one gets that number", and "changes nothing". "The answer gives the new length and the number of pairs standing."
   abbrev pub edit_turn : (passes9 passes10 : Bool) → Ledger → (s e : ℕ) → List ℕ → Turn
-  edit_turn false b l s e r = record { reply = edits (EditAnswer.Refused 9); left = l }
-  edit_turn true false l s e r = record { reply = edits (EditAnswer.Refused 10); left = l }
+  edit_turn false b l s e r = record { reply = edits (Err EditRange); left = l }
+  edit_turn true false l s e r = record { reply = edits (Err EditRoom); left = l }
   edit_turn true true l s e r =
       record {
         reply =
             edits
-            (EditAnswer.Edited
+            (Ok
             (record {
               length = length (edited_text l s e r);
               standing = pairs_of l.image (edited_text l s e r) (standing l s e r);
@@ -142,27 +144,27 @@ module _ (ev : Evaluations) where
       }
 
   abbrev pub read_turn : (passes14 : Bool) → Ledger → Turn
-  read_turn false l = record { reply = reads (ReadAnswer.Refused 14); left = opened_ledger l.image l.accepted l.text }
-  read_turn true l = record { reply = reads (ReadAnswer.Read (read_answer l)); left = read_left l }
+  read_turn false l = record { reply = reads (Err Nesting); left = opened_ledger l.image l.accepted l.text }
+  read_turn true l = record { reply = reads (Ok (read_answer l)); left = read_left l }
 
   -- "To it a listing is a reading, also one refused with 15." "a listing's rows are those of the ledger's text".
   abbrev pub list_turn : (passes14 passes15 : Bool) → Ledger → Turn
-  list_turn false b l = record { reply = lists (ListAnswer.Refused 14) []; left = (read_turn false l).left }
-  list_turn true false l = record { reply = lists (ListAnswer.Refused 15) []; left = (read_turn true l).left }
+  list_turn false b l = record { reply = lists (Err Nesting) []; left = (read_turn false l).left }
+  list_turn true false l = record { reply = lists (Err Rows) []; left = (read_turn true l).left }
   list_turn true true l =
       record {
-        reply = lists (ListAnswer.Listed (record { reading = read_answer l; rows = length (rows_in ev l) })) (rows_in ev l);
+        reply = lists (Ok (record { reading = read_answer l; rows = length (rows_in ev l) })) (rows_in ev l);
         left = (read_turn true l).left;
       }
 
   -- "Look-up: gives the true word of a held pair, else 0."
   abbrev pub look_up_turn : (passes11 : Bool) → Ledger → (rule position : ℕ) → Turn
-  look_up_turn false l rule position = record { reply = finds (LookUpAnswer.Refused 11); left = l }
+  look_up_turn false l rule position = record { reply = finds (Err Pair); left = l }
   look_up_turn true l rule position =
       record {
         reply =
             finds
-            (LookUpAnswer.Word
+            (Ok
             (cond (l.held rule position) (word_of (value_in ev l rule position)) 0));
         left = l;
       }

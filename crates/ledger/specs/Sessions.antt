@@ -1,9 +1,10 @@
 -- A line of the marked cases that is a session: a text opened in a buffer of cap bytes, calls, and the replies along them.
+use Rattle.std.specs.Prelude.{Ok}
 use Rattle.std.specs.Prelude.{ℕ, ◌≡◌, List, length}
 use Rattle.grammar.specs.Image.{rules}
 use Rattle.grammar.specs.Questions.{Accepted}
 use Rattle.editing.specs.Table.{table_size}
-use Rattle.promises.specs.declared.OpenAnswer.{OpenAnswer}
+use Rattle.promises.specs.Answers.{OpenAnswer}
 use Rattle.promises.specs.Questions.{Question8}
 use Rattle.promises.specs.Promises.{OpenPromise}
 use Rattle.ledger.specs.Ledger.{Evaluations, Call, Reply, opened_ledger, replies}
@@ -18,7 +19,7 @@ pub record SessionSays (img text : List ℕ) (cap : ℕ) (calls : List Call) (an
   pub runs :
       (B₀ W₀ B W : List ℕ) (n : ℕ)
       → length B₀ ≡ cap
-      → OpenPromise img text B₀ W₀ (OpenAnswer.Opened n) B W
+      → OpenPromise img text B₀ W₀ (Ok n) B W
       → (given : List Reply) (img' B' W' : List ℕ) (n' : ℕ)
       → Trace (loan img B n W) calls given (loan img' B' n' W')
       → given ≡ answers

@@ -1,4 +1,5 @@
 -- Characters: what `dot` reads, by computation. Assumes nothing.
+use Rattle.std.specs.Prelude.{Ok}
 use Prim.Native.Nat.{ℕ, ◌≤◌, ◌<◌}
 use native.Mathlib.Omega.{arith}
 use mathlib.Core.Path.{◌≡◌, refl}
@@ -15,7 +16,7 @@ use Rattle.grammar.specs.Questions.{of_image}
 use Rattle.grammar.proofs.First.{then_asked}
 use Rattle.reading.specs.declared.plain.Outcome.{Outcome}
 use Rattle.reading.specs.declared.plain.Reading.{Reading}
-use Rattle.reading.specs.declared.plain.PlainAnswer.{PlainAnswer}
+use Rattle.reading.specs.Plain.{PlainAnswer}
 use Rattle.reading.specs.Plain.{Reports, ShortText, DepthAllowed, PlainRead}
 use Rattle.promises.proofs.Asked.{image_numbers}
 use Rattle.marked.specs.Images.{dot}
@@ -28,7 +29,7 @@ module _ (text : List ℕ) (short : length text ≤ 65535) (z : Evaluation) (is 
   unfolding dot rules start root rule_word fields_at node_word node_of body
   start_value = ev_body refl (ev_terminal is)
 
-  pub reads : {x : Reading} → Reports (length text) z x → PlainRead dot text (PlainAnswer.Read x)
+  pub reads : {x : Reading} → Reports (length text) z x → PlainRead dot text (Ok x)
   reads reports =
       record {
         first =

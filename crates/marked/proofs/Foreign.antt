@@ -1,6 +1,8 @@
 -- Witnesses for the guards of a reading's and a listing's promise over words that are not true: on "12a" by D2, what keeps the reading's
 -- promise answers what an untrue start word says; where the start word is held and impossible, a reading and a listing give 12.
 -- Assumes nothing.
+use Rattle.std.specs.Prelude.{Ok, Err}
+use Rattle.grammar.specs.declared.refusal.Refusal.TheVariants.{Records}
 use Prim.Native.Nat.{ℕ}
 use native.Mathlib.Omega.{arith}
 use mathlib.Core.Path.{◌≡◌, refl}
@@ -16,8 +18,8 @@ use Rattle.records.specs.Words.{value_of, matched_of, nesting_of, examined_of, l
 use Rattle.records.specs.Slots.{slot_of}
 use Rattle.packrat.specs.Over.{over}
 use Rattle.reading.specs.declared.plain.Outcome.{Outcome}
-use Rattle.promises.specs.declared.ReadAnswer.{ReadAnswer}
-use Rattle.promises.specs.declared.ListAnswer.{ListAnswer}
+use Rattle.promises.specs.Answers.{ReadAnswer}
+use Rattle.promises.specs.Answers.{ListAnswer}
 use Rattle.promises.specs.Answers.{read_number}
 use Rattle.promises.specs.Questions.{of_sheet}
 use Rattle.promises.specs.Reading.{SheetRead, ReadPromise}
@@ -49,7 +51,7 @@ read p = p.read (asked p.first)
 pub untrue_word_taken :
     {a : ReadAnswer} {W' : List ℕ}
     → ReadPromise D2 text12a 3 (lent_words 0xC000000200010001) a W'
-    → a ≡ ReadAnswer.Read (record { outcome = Outcome.Part; length = 1; examined = 1; nesting = 1; evaluations = 0 })
+    → a ≡ Ok (record { outcome = Outcome.Part; length = 1; examined = 1; nesting = 1; evaluations = 0 })
 unfolding over value_of matched_of nesting_of examined_of length_of spare_of possible slot_of rules start bodies_of is_in sum_to D2
 untrue_word_taken p = ((read p).determinate (value_of 0xC000000200010001) (ev_record refl) (omega arith)).answer_is
 
@@ -60,7 +62,7 @@ impossible_word_refused p = (read p).impossible refl refl
 
 pub impossible_word_not_listed :
     {R : List ℕ} {a : ListAnswer} {W' R' : List ℕ} → ListPromise D2 text12a 3 (lent_words 0xC000000000000000) R a W' R'
-    → (a ≡ ListAnswer.Refused 12) × (W' ≡ replicate 8 0) × (R' ≡ R)
+    → (a ≡ Err Records) × (W' ≡ replicate 8 0) × (R' ≡ R)
 unfolding matched_of nesting_of examined_of length_of spare_of possible slot_of rules start D2
 impossible_word_not_listed p =
     let x = impossible_listed (p.listed (asked p.first)) refl refl in (x.answer_is, x.words_are, x.slots_are)

@@ -1,4 +1,6 @@
 -- M10: k brackets have nesting 3 (k + 1), by induction; so 1,364 are read with nesting 4,095 and 1,365 are refused with 14. Assumes nothing.
+use Rattle.std.specs.Prelude.{Ok, Err}
+use Rattle.grammar.specs.declared.refusal.Refusal.TheVariants.{Nesting}
 use Prim.Native.Nat.{ℕ, zero, suc, ◌+◌, ◌*◌, ◌≤◌, ◌<◌, max}
 use native.Mathlib.Omega.{arith}
 use mathlib.Core.Path.{◌≡◌, refl, sym, ap, ◌∙◌, subst}
@@ -25,7 +27,7 @@ use Rattle.grammar.proofs.First.{then_asked}
 use Rattle.grammar.proofs.Acceptance.{checked, accepted}
 use Rattle.grammar.proofs.Determinism.{one}
 use Rattle.reading.specs.declared.plain.Outcome.{Outcome}
-use Rattle.reading.specs.declared.plain.PlainAnswer.{PlainAnswer}
+use Rattle.reading.specs.Plain.{PlainAnswer}
 use Rattle.reading.specs.Plain.{ShortText, DepthAllowed, PlainRead}
 use Rattle.ledger.specs.Sessions.{SessionSays}
 use Rattle.promises.proofs.Asked.{image_numbers}
@@ -114,7 +116,7 @@ module _ (k : ℕ) (short : k ≤ 65535) where
   -- k brackets are read where 3 (k + 1) is at most 4,096,
   read_brackets :
       3 * (k + 1) ≤ 4096
-      → PlainRead M10 (brackets k) (PlainAnswer.Read (record { outcome = Outcome.Whole; length = k; examined = k + 1; nesting = 3 * (k + 1) }))
+      → PlainRead M10 (brackets k) (Ok (record { outcome = Outcome.Whole; length = k; examined = k + 1; nesting = 3 * (k + 1) }))
   read_brackets h =
       record {
         first =
@@ -133,7 +135,7 @@ module _ (k : ℕ) (short : k ≤ 65535) where
       }
 
   -- and refused with 14 where it is above.
-  refuse_brackets : 4096 < 3 * (k + 1) → PlainRead M10 (brackets k) (PlainAnswer.Refused 14)
+  refuse_brackets : 4096 < 3 * (k + 1) → PlainRead M10 (brackets k) (Err Nesting)
   refuse_brackets h =
       record {
         first =
@@ -154,10 +156,10 @@ module _ (k : ℕ) (short : k ≤ 65535) where
         values = (omega arith, λ e. record { value = opening k; evaluated = start_value; above = h });
       }
 
-pub m10_read : PlainRead M10 (brackets 1364) (PlainAnswer.Read (record { outcome = Outcome.Whole; length = 1364; examined = 1365; nesting = 4095 }))
+pub m10_read : PlainRead M10 (brackets 1364) (Ok (record { outcome = Outcome.Whole; length = 1364; examined = 1365; nesting = 4095 }))
 m10_read = read_brackets 1364 (omega arith) (omega arith)
 
-pub m10_refused : PlainRead M10 (brackets 1365) (PlainAnswer.Refused 14)
+pub m10_refused : PlainRead M10 (brackets 1365) (Err Nesting)
 m10_refused = refuse_brackets 1365 (omega arith) (omega arith)
 
 pub deep_holds : SessionSays M10 (brackets 1365) 1365 calls_deep replies_deep

@@ -1,9 +1,11 @@
 -- The table of marked cases. A line says what a call answers; `Says` gives each line its meaning by the definition that the call's
 -- promise cites. The theorem is `marked_hold` in proofs/Marked.antt.
+use Rattle.std.specs.Prelude.{Ok, Err}
+use Rattle.grammar.specs.declared.refusal.Refusal.TheVariants.{Nesting}
 use Rattle.std.specs.Prelude.{ℕ, List, [], ◌∷◌}
 use Rattle.grammar.specs.Questions.{Checked}
 use Rattle.reading.specs.declared.plain.Outcome.{Outcome}
-use Rattle.reading.specs.declared.plain.PlainAnswer.{PlainAnswer}
+use Rattle.reading.specs.Plain.{PlainAnswer}
 use Rattle.reading.specs.Plain.{PlainRead}
 use Rattle.ledger.specs.Ledger.{Call, Reply}
 use Rattle.ledger.specs.Sessions.{SessionSays}
@@ -45,8 +47,8 @@ marked =
     ∷ image_number M9 6
     ∷ image_number M10 0
     ∷ plain_reading M10 (brackets 1364)
-    (PlainAnswer.Read (record { outcome = Outcome.Whole; length = 1364; examined = 1365; nesting = 4095 }))
-    ∷ plain_reading M10 (brackets 1365) (PlainAnswer.Refused 14)
+    (Ok (record { outcome = Outcome.Whole; length = 1364; examined = 1365; nesting = 4095 }))
+    ∷ plain_reading M10 (brackets 1365) (Err Nesting)
     ∷ []
 
 -- An image for each of the numbers 1 to 7 that no marked case has, and sessions that the marked cases leave out; the last seven are R-1's
@@ -77,7 +79,7 @@ witnesses =
 -- Characters (02, R-5): what a plain reading of `dot` gives.
 abbrev pub any_reads : (text : List ℕ) → Outcome → (length examined : ℕ) → Line
 any_reads text outcome length examined =
-    plain_reading dot text (PlainAnswer.Read (record { outcome = outcome; length = length; examined = examined; nesting = 1 }))
+    plain_reading dot text (Ok (record { outcome = outcome; length = length; examined = examined; nesting = 1 }))
 
 -- The first and the last character of each line of RFC 3629's table.
 abbrev pub complete : List Line

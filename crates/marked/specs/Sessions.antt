@@ -1,30 +1,32 @@
 -- The marked cases that are sessions, and witnesses: the text opened, the calls, and every reply along them.
+use Rattle.std.specs.Prelude.{Ok, Err}
+use Rattle.grammar.specs.declared.refusal.Refusal.TheVariants.{EditRange, EditRoom, Nesting, Pair, Rows}
 use Rattle.std.specs.Prelude.{ℕ, List, [], ◌∷◌}
 use Rattle.reading.specs.declared.plain.Outcome.{Outcome}
-use Rattle.promises.specs.declared.EditAnswer.{EditAnswer}
-use Rattle.promises.specs.declared.LookUpAnswer.{LookUpAnswer}
-use Rattle.promises.specs.declared.ReadAnswer.{ReadAnswer}
-use Rattle.promises.specs.declared.ListAnswer.{ListAnswer}
+use Rattle.promises.specs.Answers.{EditAnswer}
+use Rattle.promises.specs.Answers.{LookUpAnswer}
+use Rattle.promises.specs.Answers.{ReadAnswer}
+use Rattle.promises.specs.Answers.{ListAnswer}
 use Rattle.ledger.specs.Ledger.{Call, edit, reading, look_up, listing, Reply, edits, reads, finds, lists}
 
 -- A reading's reply, an edit's, and a look-up's.
 abbrev pub answers : Outcome → (length examined nesting evaluations : ℕ) → Reply
 answers outcome length examined nesting evaluations =
     reads
-    (ReadAnswer.Read
+    (Ok
     (record { outcome = outcome; length = length; examined = examined; nesting = nesting; evaluations = evaluations }))
 
 abbrev pub stand : (length standing : ℕ) → Reply
-stand length standing = edits (EditAnswer.Edited (record { length = length; standing = standing }))
+stand length standing = edits (Ok (record { length = length; standing = standing }))
 
 abbrev pub word : ℕ → Reply
-word w = finds (LookUpAnswer.Word w)
+word w = finds (Ok w)
 
 -- The reply of a listing that gave so many rows, with these words.
 abbrev pub listed : Outcome → (length examined nesting evaluations rows : ℕ) → List ℕ → Reply
 listed outcome length examined nesting evaluations rows words =
     lists
-    (ListAnswer.Listed
+    (Ok
     (record {
       reading = record { outcome = outcome; length = length; examined = examined; nesting = nesting; evaluations = evaluations };
       rows = rows;
@@ -82,7 +84,7 @@ abbrev pub calls6 : List Call
 calls6 = listing 3 ∷ listing 2 ∷ []
 
 abbrev pub replies6 : List Reply
-replies6 = listed Outcome.Whole 2 3 4 4 3 rows12 ∷ lists (ListAnswer.Refused 15) [] ∷ []
+replies6 = listed Outcome.Whole 2 3 4 4 3 rows12 ∷ lists (Err Rows) [] ∷ []
 
 -- Witnesses. "M1, then (2, 3, "3"), then says part where whole is right"; and a refusal with each of 9, 10 and 11, after which the session
 -- goes on as before.
@@ -98,10 +100,10 @@ calls_refused = reading ∷ edit 2 1 [] ∷ edit 3 3 (0x31 ∷ 0x32 ∷ []) ∷ 
 abbrev pub replies_refused : List Reply
 replies_refused =
     answers Outcome.Part 2 3 4 4
-    ∷ edits (EditAnswer.Refused 9)
-    ∷ edits (EditAnswer.Refused 10)
-    ∷ finds (LookUpAnswer.Refused 11)
-    ∷ finds (LookUpAnswer.Refused 11)
+    ∷ edits (Err EditRange)
+    ∷ edits (Err EditRoom)
+    ∷ finds (Err Pair)
+    ∷ finds (Err Pair)
     ∷ word 0
     ∷ answers Outcome.Part 2 3 4 0
     ∷ []
@@ -113,7 +115,7 @@ calls_listed = listing 2 ∷ reading ∷ listing 9 ∷ edit 0 2 [] ∷ listing 0
 
 abbrev pub replies_listed : List Reply
 replies_listed =
-    lists (ListAnswer.Refused 15) []
+    lists (Err Rows) []
     ∷ answers Outcome.Whole 2 3 4 0
     ∷ listed Outcome.Whole 2 3 4 0 3 rows12
     ∷ stand 0 1
@@ -125,7 +127,7 @@ abbrev pub calls_deep : List Call
 calls_deep = reading ∷ listing 1 ∷ []
 
 abbrev pub replies_deep : List Reply
-replies_deep = reads (ReadAnswer.Refused 14) ∷ lists (ListAnswer.Refused 14) [] ∷ []
+replies_deep = reads (Err Nesting) ∷ lists (Err Nesting) [] ∷ []
 
 -- By `parts`, "1!2" has rows two calls deep. Those of the choice that failed at 2 after a call had matched, those under a not, and those of
 -- the round that failed at the end are none of them.
@@ -139,7 +141,7 @@ abbrev pub replies_parts : List Reply
 replies_parts =
     listed Outcome.Whole 3 4 8 7 5
     (0x0000000000000003 ∷ 0x0100000100000002 ∷ 0x0200000200000001 ∷ 0x0100000100020001 ∷ 0x0200000200020001 ∷ [])
-    ∷ lists (ListAnswer.Refused 15) []
+    ∷ lists (Err Rows) []
     ∷ []
 
 -- "Some loggers write KWH and some kwh." (02, R-1) K, then k, then L.

@@ -1,6 +1,7 @@
 -- The allowance limits the nesting exactly, for an arbitrary allowance and in both directions: without records a pair is answered with its evaluation
 -- exactly where the allowance covers its nesting, and otherwise gets 14. Assumes nothing.
 --     pair_allowed    for every pair at a position of the text
+use Rattle.grammar.specs.declared.refusal.Refusal.TheVariants.{Nesting}
 use Prim.Native.Nat.{ℕ, zero, suc, ◌+◌, ◌%◌, ◌^◌, ◌≤◌, ◌<◌}
 use native.Mathlib.Omega.{arith}
 use mathlib.Core.Path.{◌≡◌, refl, sym, ap, ◌∙◌}
@@ -31,7 +32,7 @@ Next = Evaluation → List ℕ → ℕ → Out
 step : {o : Out} {x : Evaluation} {c : ℕ} (f : Next) → o ≡ out (answered x) [] c → bind o f ≡ f x [] c
 step f e = ap (λ (o : Out). bind o f) e
 
-stop : {o : Out} {c : ℕ} (f : Next) → o ≡ out (refused 14) [] c → bind o f ≡ out (refused 14) [] c
+stop : {o : Out} {c : ℕ} (f : Next) → o ≡ out (refused Nesting) [] c → bind o f ≡ out (refused Nesting) [] c
 stop f e = ap (λ (o : Out). bind o f) e
 
 -- One evaluation inside.

@@ -2,6 +2,7 @@
 -- of the text, answers within the text, and is refused with 12 or 14 if at all. Assumes nothing.
 --     pair_framed       every run
 --     pair_impossible   a held word that is not possible is refused with 12, and nothing changes
+use Rattle.grammar.specs.declared.refusal.Refusal.TheVariants.{Records, Nesting}
 use Prim.Native.Nat.{ℕ, zero, suc, ◌+◌, ◌%◌, ◌≤◌, ◌<◌, ◌^◌}
 use native.Mathlib.Omega.{arith}
 use mathlib.Core.Path.{◌≡◌, refl, ap, ◌∙◌}
@@ -113,7 +114,7 @@ module _ (img text : List ℕ) where
 
     rounds-framed : (fuel a p : ℕ) → a < nodes img → p ≤ length text → (t : List ℕ) (c : ℕ) → Framed img text t p (rounds_m fuel ev a p t c)
     unfolding rounds_m
-    rounds-framed zero a p l h t c = still t p c (refused 12) (inl refl)
+    rounds-framed zero a p l h t c = still t p c (refused Records) (inl refl)
     rounds-framed (suc f) a p l h t c =
         next (all a p l h t c) (λ x u d. after_round x.matched (eqb x.length 0) (rounds_m f ev a) p x u d)
         (λ x u d w.
@@ -153,9 +154,9 @@ module _ (img text : List ℕ) where
   met_framed :
       (b a : Bool) (w p : ℕ) → possible w p (length text) ≡ b → (t : List ℕ) (c : ℕ) → Framed img text t p (met b a w t c)
   unfolding met
-  met_framed false a w p e t c = still t p c (refused 12) (inl refl)
+  met_framed false a w p e t c = still t p c (refused Records) (inl refl)
   met_framed true true w p e t c = still t p c _ (possible_within w p (length text) (says_possible w p (length text) e))
-  met_framed true false w p e t c = still t p c (refused 14) (inr refl)
+  met_framed true false w p e t c = still t p c (refused Nesting) (inr refl)
 
   module _ (words : Question4 img) where
     rule-framed : (left : ℕ) {ev : Evaluator} → All (nodes img) ev → All (rules img) (rule_m img text ev left)
@@ -184,7 +185,7 @@ module _ (img text : List ℕ) where
 
     node-framed : (left : ℕ) → All (nodes img) (node_m img text left)
     unfolding node_m
-    node-framed zero i p l h t c = still t p c (refused 14) (inr refl)
+    node-framed zero i p l h t c = still t p c (refused Nesting) (inr refl)
     node-framed (suc left) i p l h t c =
         kind-framed (node-framed left) (rule-framed left (node-framed left)) (node img i) (refers img words i l) (lawful_node img words i l) p h t c
 
@@ -198,7 +199,7 @@ module _ (img text : List ℕ) where
       (ev : Evaluator) (left r p : ℕ) (t : List ℕ) (c : ℕ)
       → is_held (word_at img t r p) ≡ true
       → possible (word_at img t r p) p (length text) ≡ false
-      → rule_m img text ev left r p t c ≡ out (refused 12) t c
+      → rule_m img text ev left r p t c ≡ out (refused Records) t c
   unfolding pair_m looked met
   pair_impossible ev left r p t c e f =
       ap (λ (b : Bool). looked b (rules img) (root img r) text ev left r p t c) e

@@ -1,5 +1,7 @@
 -- A loaded grammar: which node a word stands for, that the evaluator over a loaded grammar is the one over its image, and so the body
 -- of its start rule. Assumes nothing.
+use Rattle.std.specs.Prelude.{Result}
+use Rattle.grammar.specs.declared.refusal.Refusal.{Refusal}
 use Prim.Native.Nat.{ℕ, zero, suc}
 use native.Mathlib.Omega.{arith}
 use mathlib.Core.Path.{◌≡◌, refl, sym, ap, ◌∙◌, subst}
@@ -58,9 +60,9 @@ module _ (img text : List ℕ) {ws : List ℕ} (l : Loaded img ws) where
 
 -- So is the start rule's body, which the evaluator is given as its root's word.
 pub body_given :
-    (img text : List ℕ) {ws : List ℕ} (l : Loaded img ws) (t : List ℕ) (c : ℕ) {word d : ℕ} {u : List ℕ}
-    → Gives (length text) 0 4096 (word_m ws text 4095 (get_or ws (root img (start img)) 0) 0 t c) word u d
-    → BodyOver img text t c word u d
-body_given img text {ws} l t c {word} {d} {u} g =
-    subst (λ (o : Out). Gives (length text) 0 4096 o word u d) (loaded_run img text l 4096 (root img (start img)) 0 t c)
+    (img text : List ℕ) {ws : List ℕ} (l : Loaded img ws) (t : List ℕ) (c : ℕ) {given : Result ℕ Refusal} {d : ℕ} {u : List ℕ}
+    → Gives (length text) 0 4096 (word_m ws text 4095 (get_or ws (root img (start img)) 0) 0 t c) given u d
+    → BodyOver img text t c given u d
+body_given img text {ws} l t c {given} {d} {u} g =
+    subst (λ (o : Out). Gives (length text) 0 4096 o given u d) (loaded_run img text l 4096 (root img (start img)) 0 t c)
     (node_goes ws text 4096 (root img (start img)) 0 t c (λ e. omega arith) g)

@@ -1,6 +1,8 @@
 -- Over any table the evaluator answers nothing but the evaluation in which each held pair takes what its word says: where there is none, it
 -- refuses. When it answers that evaluation, and when it gives 14, is `pair_over`. Assumes nothing.
 --     only_over    for every pair at a position of the text, and every allowance of at most 4,096
+use Rattle.grammar.specs.declared.refusal.Refusal.{Refusal}
+use Rattle.grammar.specs.declared.refusal.Refusal.TheVariants.{Words, Records, Nesting}
 use Prim.Native.Nat.{ℕ, zero, suc, ◌+◌, ◌%◌, ◌≤◌, ◌<◌, ◌^◌}
 use native.Mathlib.Omega.{arith}
 use mathlib.Core.Path.{◌≡◌, refl, sym, ap, ◌∙◌, subst}
@@ -51,7 +53,7 @@ module _ (img text table : List ℕ) (words : Question4 img) (short : length tex
   -- A run is refused, or answers an evaluation of its subject over the table.
   data Told (o : Out) (s : Subject) (p : ℕ) : Type 0 where
     answers : (z : Evaluation) (u : List ℕ) (d : ℕ) → Over img text table s p z → o ≡ out (answered z) u d → Told o s p
-    refuses : (k : ℕ) (u : List ℕ) (d : ℕ) → o ≡ out (refused k) u d → Told o s p
+    refuses : (k : Refusal) (u : List ℕ) (d : ℕ) → o ≡ out (refused k) u d → Told o s p
 
   -- The table that an answered run leaves has grown.
   grown_of :
@@ -107,7 +109,7 @@ module _ (img text table : List ℕ) (words : Question4 img) (short : length tex
         → Told (after_round m still more p x u d) (rounds_of a) p
     unfolding after_round
     round-told a p r h t g c more rest x u d v e false m still = answers _ u d (ev_last_round v m refl) refl
-    round-told a p r h t g c more rest x u d v e true m true = refuses 12 u d refl
+    round-told a p r h t g c more rest x u d v e true m true = refuses Records u d refl
     round-told a p r h t g c more rest x u d v e true m false =
         and_then (λ y u d. out (answered (round_then x y)) u d)
         (rest (p + x.length) (in_text v h) u (after l most a p r h t g c v e) d)
@@ -117,7 +119,7 @@ module _ (img text table : List ℕ) (words : Question4 img) (short : length tex
         (fuel a p : ℕ) → a < nodes img → p ≤ length text → (t : List ℕ) → Grown img text table t → (c : ℕ)
         → Told (rounds_m fuel (node_m img text l) a p t c) (rounds_of a) p
     unfolding rounds_m
-    rounds-told zero a p r h t g c = refuses 12 t c refl
+    rounds-told zero a p r h t g c = refuses Records t c refl
     rounds-told (suc f) a p r h t g c =
         and_then (λ x u d. after_round x.matched (eqb x.length 0) (rounds_m f (node_m img text l) a) p x u d) (ev a p r h t g c)
         (λ x u d v e.
@@ -158,9 +160,9 @@ module _ (img text table : List ℕ) (words : Question4 img) (short : length tex
         → (fine ≡ true → Over img text table (a_pair r) p (value_of word))
         → Told (met fine allowed word t c) (a_pair r) p
     unfolding met
-    met-told r p word t c false allowed v = refuses 12 t c refl
+    met-told r p word t c false allowed v = refuses Records t c refl
     met-told r p word t c true true v = answers (value_of word) t c (v refl) refl
-    met-told r p word t c true false v = refuses 14 t c refl
+    met-told r p word t c true false v = refuses Nesting t c refl
 
     -- A pair whose word in the table t is held.
     held-told :
@@ -224,11 +226,11 @@ module _ (img text table : List ℕ) (words : Question4 img) (short : length tex
     kind-told (Call s) p r h t g c =
         and_then (λ x u d. out (answered (taken_over x)) u d) (pair-told s p r h t g c)
         (λ x u d v e. answers (taken_over x) u d (ev_call v refl) refl)
-    kind-told Unlawful p r h t g c = refuses 4 t c refl
+    kind-told Unlawful p r h t g c = refuses Words t c refl
 
   nodes_told : (l : ℕ) → l ≤ 4096 → Nodes l
   unfolding node_m
-  nodes_told zero most i p r h t g c = refuses 14 t c refl
+  nodes_told zero most i p r h t g c = refuses Nesting t c refl
   nodes_told (suc l) most i p r h t g c =
       kind-told l (omega arith) (nodes_told l (omega arith)) (node img i) p (refers img words i r) h t g c
 

@@ -2,6 +2,7 @@
 -- nesting, and 14 where it does not; and the table has grown from the one lent. For every node and pair, and every
 -- allowance of at most 4,096.
 -- Assumes nothing.
+use Rattle.grammar.specs.declared.refusal.Refusal.TheVariants.{Nesting}
 use Prim.Native.Nat.{ℕ, zero, suc, ◌+◌, ◌%◌, ◌≤◌, ◌<◌, ◌^◌}
 use native.Mathlib.Omega.{arith}
 use mathlib.Core.Path.{◌≡◌, refl, sym, ap, ◌∙◌, subst}
@@ -81,7 +82,7 @@ module _ (img text table : List ℕ) (words : Question4 img) (short : length tex
         → Gain img text t u c d ps
         → o ≡ out (answered z) u d
         → Result o z left t c ps
-    deep : (u : List ℕ) (d : ℕ) → left < z.nesting → o ≡ out (refused 14) u d → Result o z left t c ps
+    deep : (u : List ℕ) (d : ℕ) → left < z.nesting → o ≡ out (refused Nesting) u d → Result o z left t c ps
 
   -- The next step, which evaluates nothing.
   next :

@@ -1,5 +1,8 @@
 -- The ways through a rule: its pair is met in the table, or its body is evaluated and stored; and a node's first step.
 -- Assumes nothing.
+use Rattle.std.specs.Prelude.{Ok, Err}
+use Rattle.grammar.specs.declared.refusal.Refusal.{Refusal}
+use Rattle.grammar.specs.declared.refusal.Refusal.TheVariants.{Records, Nesting}
 use Prim.Native.Nat.{ℕ, zero, suc, ◌+◌, ◌-◌, ◌%◌, ◌≤◌, ◌<◌, ◌^◌}
 use native.Mathlib.Omega.{arith}
 use mathlib.Core.Path.{◌≡◌, refl, sym, ap, ◌∙◌, subst}
@@ -12,7 +15,7 @@ use Rattle.grammar.specs.declared.node.Node.{Node}
 use Rattle.grammar.specs.declared.node.Node.TheVariants.{Call}
 use Rattle.evaluation.specs.Within.{Within}
 use Rattle.records.specs.declared.Record.{Record}
-use Rattle.std.specs.Prelude.{Some, None}
+use Rattle.std.specs.Prelude.{Some, None, Result}
 use Rattle.records.specs.Words.{is_held, possible, IsPossible, nesting_of, value_of, word_of, record_of, record_word}
 use Rattle.records.specs.Slots.{slot_of}
 use Rattle.records.proofs.Codec.{word_again}
@@ -66,17 +69,17 @@ module _ (rules root : ℕ) (text : List ℕ) (nodes : Evaluator) (left rule at 
     pub rule_impossible :
         is_held word ≡ true
         → possible word at (length text) ≡ false
-        → Gives (length text) at left (pair_m rules root text nodes left rule at t c) 12 t c
+        → Gives (length text) at left (pair_m rules root text nodes left rule at t c) (Err Records) t c
     unfolding met
-    rule_impossible e d = gives_refusal (meets e d refl) (omega arith)
+    rule_impossible e d = gives_refusal (meets e d refl)
 
     pub rule_too_deep :
         is_held word ≡ true
         → possible word at (length text) ≡ true
         → left < nesting_of word
-        → Gives (length text) at left (pair_m rules root text nodes left rule at t c) 14 t c
+        → Gives (length text) at left (pair_m rules root text nodes left rule at t c) (Err Nesting) t c
     unfolding met
-    rule_too_deep e d l = gives_refusal (meets e d (lt-leb (nesting_of word) left l)) (omega arith)
+    rule_too_deep e d l = gives_refusal (meets e d (lt-leb (nesting_of word) left l))
 
     pub rule_met :
         {w : ℕ}
@@ -84,7 +87,7 @@ module _ (rules root : ℕ) (text : List ℕ) (nodes : Evaluator) (left rule at 
         → possible word at (length text) ≡ true
         → nesting_of word ≤ left
         → w ≡ record_word (record_of word)
-        → Gives (length text) at left (pair_m rules root text nodes left rule at t c) w t c
+        → Gives (length text) at left (pair_m rules root text nodes left rule at t c) (Ok w) t c
     unfolding met
     rule_met e d l k =
         let q = says_possible word at (length text) d in
@@ -98,26 +101,27 @@ module _ (rules root : ℕ) (text : List ℕ) (nodes : Evaluator) (left rule at 
         value-nesting l = unfold value_of in l
 
     -- The body, where the pair is not held.
-    module _ (short : length text ≤ 65535) (most : left ≤ 4096) (e : is_held word ≡ false) {r d : ℕ} {u : List ℕ}
-        (g : Gives (length text) at left (nodes root at t c) r u d)
-      where
-        pub rule_refused : r < 16 → Gives (length text) at left (pair_m rules root text nodes left rule at t c) r u d
-        unfolding looked
-        rule_refused h =
-            let v = was_refused short most g h in
-            gives_refusal
-            (looks e ∙ ap (λ (o : Out). bind o (λ x u d. out (answered x) (set u (slot_of rules rule at) (word_of x)) ((d + 1) % 2 ^ 64))) v.is)
-            v.small
+    stores : Out → Out
+    stores o = bind o (λ x u d. out (answered x) (set u (slot_of rules rule at) (word_of x)) ((d + 1) % 2 ^ 64))
+
+    module _ (short : length text ≤ 65535) (most : left ≤ 4096) (e : is_held word ≡ false) {d : ℕ} {u : List ℕ} where
+        pub rule_refused :
+            {r : Refusal}
+            → Gives (length text) at left (nodes root at t c) (Err r) u d
+            → Gives (length text) at left (pair_m rules root text nodes left rule at t c) (Err r) u d
+        unfolding looked stores
+        rule_refused g = gives_refusal (looks e ∙ ap stores (was_refused short most g))
 
         pub rule_stored :
-            16 ≤ r
-            → Gives (length text) at left (pair_m rules root text nodes left rule at t c) r (set u (slot_of rules rule at) r) ((d + 1) % 2 ^ 64)
-        unfolding looked
-        rule_stored h =
-            let v = found short most g h in
+            {r : ℕ}
+            → Gives (length text) at left (nodes root at t c) (Ok r) u d
+            → Gives (length text) at left (pair_m rules root text nodes left rule at t c) (Ok r) (set u (slot_of rules rule at) r) ((d + 1) % 2 ^ 64)
+        unfolding looked stores
+        rule_stored g =
+            let v = found short most g in
             gives_value v.value
             (looks e
-            ∙ ap (λ (o : Out). bind o (λ x u d. out (answered x) (set u (slot_of rules rule at) (word_of x)) ((d + 1) % 2 ^ 64))) v.is
+            ∙ ap stores v.is
             ∙ ap (λ (w : ℕ). out (answered v.value) (set u (slot_of rules rule at) w) ((d + 1) % 2 ^ 64)) (sym v.word_is))
             v.word_is
             v.bounds.shape
@@ -126,11 +130,11 @@ module _ (rules root : ℕ) (text : List ℕ) (nodes : Evaluator) (left rule at 
 module _ {n : ℕ} (ws text : List ℕ) (left : ℕ) where
   -- A node: without an allowance, and with one.
   pub node_too_deep :
-      (i at : ℕ) (t : List ℕ) (c : ℕ) → left ≡ 0 → Gives n at left (node_w ws text left i at t c) 14 t c
-  node_too_deep i at t c e = subst (λ (l : ℕ). Gives n at l (node_w ws text l i at t c) 14 t c) (sym e) (unfold node_w in gives_refusal refl (omega arith))
+      (i at : ℕ) (t : List ℕ) (c : ℕ) → left ≡ 0 → Gives n at left (node_w ws text left i at t c) (Err Nesting) t c
+  node_too_deep i at t c e = subst (λ (l : ℕ). Gives n at l (node_w ws text l i at t c) (Err Nesting) t c) (sym e) (unfold node_w in gives_refusal refl)
 
   pub node_goes :
-      (i at : ℕ) (t : List ℕ) (c : ℕ) {r d : ℕ} {u : List ℕ}
+      (i at : ℕ) (t : List ℕ) (c : ℕ) {r : Result ℕ Refusal} {d : ℕ} {u : List ℕ}
       → (left ≡ 0 → ⊥)
       → Gives n at left (word_m ws text (left - 1) (get_or ws i 0) at t c) r u d
       → Gives n at left (node_w ws text left i at t c) r u d
@@ -140,7 +144,7 @@ module _ {n : ℕ} (ws text : List ℕ) (left : ℕ) where
 
   -- A node's word, by the node that it stands for.
   pub word_goes :
-      (w at : ℕ) (t : List ℕ) (c : ℕ) {m : Node} {r d : ℕ} {u : List ℕ}
+      (w at : ℕ) (t : List ℕ) (c : ℕ) {m : Node} {r : Result ℕ Refusal} {d : ℕ} {u : List ℕ}
       → (left ≡ 0 → ⊥)
       → word_node w ≡ m
       → Gives n at (left - 1 + 1) (kind_w ws text (left - 1) (word_b w) m at t c) r u d
@@ -152,13 +156,13 @@ module _ {n : ℕ} (ws text : List ℕ) (left : ℕ) where
 
   -- A call's word: the root that the body has is the word's field B.
   pub call_goes :
-      (w at : ℕ) (t : List ℕ) (c : ℕ) {root rule r d : ℕ} {u : List ℕ}
+      (w at : ℕ) (t : List ℕ) (c : ℕ) {root rule d : ℕ} {r : Result ℕ Refusal} {u : List ℕ}
       → (left ≡ 0 → ⊥)
       → root ≡ word_b w
       → word_node w ≡ Call rule
       → Gives n at (left - 1 + 1) (kind_w ws text (left - 1) root (Call rule) at t c) r u d
       → Gives n at left (word_m ws text (left - 1) w at t c) r u d
-  call_goes w at t c {rule = rule} {r} {d} {u} ne b e g =
+  call_goes w at t c {rule = rule} {d} {r} {u} ne b e g =
       word_goes w at t c ne e (subst (λ (k : ℕ). Gives n at (left - 1 + 1) (kind_w ws text (left - 1) k (Call rule) at t c) r u d) b g)
 
 -- A kind that is none of 0 to 7.

@@ -1,5 +1,7 @@
 -- The ways through the evaluator: from what the steps gave to what the whole gives. One lemma for each way to a return.
 -- Assumes nothing.
+use Rattle.std.specs.Prelude.{Ok, Err}
+use Rattle.grammar.specs.declared.refusal.Refusal.{Refusal}
 use Prim.Native.Nat.{ℕ, ◌+◌, ◌≤◌, ◌<◌}
 use native.Mathlib.Omega.{arith}
 use mathlib.Core.Path.{◌≡◌, sym, ap, ◌∙◌, subst}
@@ -19,25 +21,23 @@ use Rattle.packrat.proofs.Gives.{found, was_refused, says, says_matched, says_le
 module _ {n at left : ℕ} (text : List ℕ) (nodes called : Evaluator) (t : List ℕ) (c : ℕ) (short : n ≤ 65535) (most : left + 1 ≤ 4096) where
   -- A then B.
   pub sequence_refused :
-      (a b : ℕ) {r d : ℕ} {u : List ℕ}
-      → Gives n at left (nodes a at t c) r u d
-      → r < 16
-      → Gives n at (left + 1) (kind_m text nodes called (Sequence a b) at t c) r u d
+      (a b : ℕ) {r : Refusal} {d : ℕ} {u : List ℕ}
+      → Gives n at left (nodes a at t c) (Err r) u d
+      → Gives n at (left + 1) (kind_m text nodes called (Sequence a b) at t c) (Err r) u d
   unfolding kind_m
-  sequence_refused a b g h =
-      let f = was_refused short (omega arith) g h in
-      gives_refusal (ap (λ (o : Out). bind o (λ x u d. after_first x.matched nodes b at x u d)) f.is) f.small
+  sequence_refused a b g =
+      let f = was_refused short (omega arith) g in
+      gives_refusal (ap (λ (o : Out). bind o (λ x u d. after_first x.matched nodes b at x u d)) f)
 
   pub sequence_failed :
       (a b : ℕ) {r d w : ℕ} {u : List ℕ}
-      → Gives n at left (nodes a at t c) r u d
-      → 16 ≤ r
+      → Gives n at left (nodes a at t c) (Ok r) u d
       → matched_of r ≡ false
       → w ≡ word_of (first_failed (value_of r))
-      → Gives n at (left + 1) (kind_m text nodes called (Sequence a b) at t c) w u d
+      → Gives n at (left + 1) (kind_m text nodes called (Sequence a b) at t c) (Ok w) u d
   unfolding kind_m after_first
-  sequence_failed a b {d = d} {u = u} g h m e =
-      let f = found short (omega arith) g h in
+  sequence_failed a b {d = d} {u = u} g m e =
+      let f = found short (omega arith) g in
       let k = sym (says_matched short (omega arith) f) ∙ m in
       gives_value (first_failed f.value)
       (ap (λ (o : Out). bind o (λ x u d. after_first x.matched nodes b at x u d)) f.is
@@ -47,11 +47,11 @@ module _ {n at left : ℕ} (text : List ℕ) (nodes called : Evaluator) (t : Lis
       (omega (arith, f.bounds.allowed))
 
   -- What the first part leaves: its evaluation, its length as the word says it.
-  module _ (a b : ℕ) {r d : ℕ} {u : List ℕ} (g : Gives n at left (nodes a at t c) r u d) (h : 16 ≤ r) (m : matched_of r ≡ true) where
+  module _ (a b : ℕ) {r d : ℕ} {u : List ℕ} (g : Gives n at left (nodes a at t c) (Ok r) u d) (m : matched_of r ≡ true) where
     then_runs : (o : Out) → nodes b (at + length_of r) u d ≡ o → kind_m text nodes called (Sequence a b) at t c ≡ made (in_sequence (value_of r)) o
     unfolding kind_m after_first
     then_runs o e =
-        let f = found short (omega arith) g h in
+        let f = found short (omega arith) g in
         let k = sym (says_matched short (omega arith) f) ∙ m in
         let l = sym (says_length short (omega arith) f) in
         ap (λ (o : Out). bind o (λ x u d. after_first x.matched nodes b at x u d)) f.is
@@ -61,22 +61,20 @@ module _ {n at left : ℕ} (text : List ℕ) (nodes called : Evaluator) (t : Lis
         ∙ ap (made (in_sequence (value_of r))) e
 
     pub sequence_second_refused :
-        {s e : ℕ} {v : List ℕ}
-        → Gives n (at + length_of r) left (nodes b (at + length_of r) u d) s v e
-        → s < 16
-        → Gives n at (left + 1) (kind_m text nodes called (Sequence a b) at t c) s v e
-    sequence_second_refused g2 h2 =
-        let f = was_refused short (omega arith) g2 h2 in
-        gives_refusal (then_runs _ f.is) f.small
+        {s : Refusal} {e : ℕ} {v : List ℕ}
+        → Gives n (at + length_of r) left (nodes b (at + length_of r) u d) (Err s) v e
+        → Gives n at (left + 1) (kind_m text nodes called (Sequence a b) at t c) (Err s) v e
+    sequence_second_refused g2 =
+        let f = was_refused short (omega arith) g2 in
+        gives_refusal (then_runs _ f)
 
     pub joinable :
         {s e : ℕ} {v : List ℕ}
-        → Gives n (at + length_of r) left (nodes b (at + length_of r) u d) s v e
-        → 16 ≤ s
+        → Gives n (at + length_of r) left (nodes b (at + length_of r) u d) (Ok s) v e
         → Joinable r s
-    joinable g2 h2 =
-        let x = found short (omega arith) g h in
-        let y = found short (omega arith) g2 h2 in
+    joinable g2 =
+        let x = found short (omega arith) g in
+        let y = found short (omega arith) g2 in
         record {
           first_nesting = omega (arith, says_nesting short (omega arith) x, x.bounds.allowed);
           second_nesting = omega (arith, says_nesting short (omega arith) y, y.bounds.allowed);
@@ -86,13 +84,12 @@ module _ {n at left : ℕ} (text : List ℕ) (nodes called : Evaluator) (t : Lis
 
     pub sequence_both :
         {s e w : ℕ} {v : List ℕ}
-        → Gives n (at + length_of r) left (nodes b (at + length_of r) u d) s v e
-        → 16 ≤ s
+        → Gives n (at + length_of r) left (nodes b (at + length_of r) u d) (Ok s) v e
         → w ≡ word_of (in_sequence (value_of r) (value_of s))
-        → Gives n at (left + 1) (kind_m text nodes called (Sequence a b) at t c) w v e
-    sequence_both {s} {e} {v = v} g2 h2 k =
-        let x = found short (omega arith) g h in
-        let y = found short (omega arith) g2 h2 in
+        → Gives n at (left + 1) (kind_m text nodes called (Sequence a b) at t c) (Ok w) v e
+    sequence_both {s} {e} {v = v} g2 k =
+        let x = found short (omega arith) g in
+        let y = found short (omega arith) g2 in
         let sx = says short (omega arith) x in
         let sy = says short (omega arith) y in
         let lx = says_length short (omega arith) x in
@@ -104,25 +101,23 @@ module _ {n at left : ℕ} (text : List ℕ) (nodes called : Evaluator) (t : Lis
 
   -- A else B.
   pub choice_refused :
-      (a b : ℕ) {r d : ℕ} {u : List ℕ}
-      → Gives n at left (nodes a at t c) r u d
-      → r < 16
-      → Gives n at (left + 1) (kind_m text nodes called (Choice a b) at t c) r u d
+      (a b : ℕ) {r : Refusal} {d : ℕ} {u : List ℕ}
+      → Gives n at left (nodes a at t c) (Err r) u d
+      → Gives n at (left + 1) (kind_m text nodes called (Choice a b) at t c) (Err r) u d
   unfolding kind_m
-  choice_refused a b g h =
-      let f = was_refused short (omega arith) g h in
-      gives_refusal (ap (λ (o : Out). bind o (λ x u d. after_choice x.matched nodes b at x u d)) f.is) f.small
+  choice_refused a b g =
+      let f = was_refused short (omega arith) g in
+      gives_refusal (ap (λ (o : Out). bind o (λ x u d. after_choice x.matched nodes b at x u d)) f)
 
   pub choice_first :
       (a b : ℕ) {r d w : ℕ} {u : List ℕ}
-      → Gives n at left (nodes a at t c) r u d
-      → 16 ≤ r
+      → Gives n at left (nodes a at t c) (Ok r) u d
       → matched_of r ≡ true
       → w ≡ word_of (taken_over (value_of r))
-      → Gives n at (left + 1) (kind_m text nodes called (Choice a b) at t c) w u d
+      → Gives n at (left + 1) (kind_m text nodes called (Choice a b) at t c) (Ok w) u d
   unfolding kind_m after_choice
-  choice_first a b {d = d} {u = u} g h m e =
-      let f = found short (omega arith) g h in
+  choice_first a b {d = d} {u = u} g m e =
+      let f = found short (omega arith) g in
       let k = sym (says_matched short (omega arith) f) ∙ m in
       gives_value (taken_over f.value)
       (ap (λ (o : Out). bind o (λ x u d. after_choice x.matched nodes b at x u d)) f.is
@@ -131,11 +126,11 @@ module _ {n at left : ℕ} (text : List ℕ) (nodes called : Evaluator) (t : Lis
       (taken_within f.bounds.shape)
       (omega (arith, f.bounds.allowed))
 
-  module _ (a b : ℕ) {r d : ℕ} {u : List ℕ} (g : Gives n at left (nodes a at t c) r u d) (h : 16 ≤ r) (m : matched_of r ≡ false) where
+  module _ (a b : ℕ) {r d : ℕ} {u : List ℕ} (g : Gives n at left (nodes a at t c) (Ok r) u d) (m : matched_of r ≡ false) where
     else-runs : (o : Out) → nodes b at u d ≡ o → kind_m text nodes called (Choice a b) at t c ≡ made (second_choice (value_of r)) o
     unfolding kind_m after_choice
     else-runs o e =
-        let f = found short (omega arith) g h in
+        let f = found short (omega arith) g in
         let k = sym (says_matched short (omega arith) f) ∙ m in
         ap (λ (o : Out). bind o (λ x u d. after_choice x.matched nodes b at x u d)) f.is
         ∙ ap (λ (z : Bool). after_choice z nodes b at f.value u d) k
@@ -143,23 +138,21 @@ module _ {n at left : ℕ} (text : List ℕ) (nodes called : Evaluator) (t : Lis
         ∙ ap (made (second_choice (value_of r))) e
 
     pub choice_second_refused :
-        {s e : ℕ} {v : List ℕ}
-        → Gives n at left (nodes b at u d) s v e
-        → s < 16
-        → Gives n at (left + 1) (kind_m text nodes called (Choice a b) at t c) s v e
-    choice_second_refused g2 h2 =
-        let f = was_refused short (omega arith) g2 h2 in
-        gives_refusal (else-runs _ f.is) f.small
+        {s : Refusal} {e : ℕ} {v : List ℕ}
+        → Gives n at left (nodes b at u d) (Err s) v e
+        → Gives n at (left + 1) (kind_m text nodes called (Choice a b) at t c) (Err s) v e
+    choice_second_refused g2 =
+        let f = was_refused short (omega arith) g2 in
+        gives_refusal (else-runs _ f)
 
     pub choice_second :
         {s e w : ℕ} {v : List ℕ}
-        → Gives n at left (nodes b at u d) s v e
-        → 16 ≤ s
+        → Gives n at left (nodes b at u d) (Ok s) v e
         → w ≡ word_of (second_choice (value_of r) (value_of s))
-        → Gives n at (left + 1) (kind_m text nodes called (Choice a b) at t c) w v e
-    choice_second {s} {e} {v = v} g2 h2 k =
-        let x = found short (omega arith) g h in
-        let y = found short (omega arith) g2 h2 in
+        → Gives n at (left + 1) (kind_m text nodes called (Choice a b) at t c) (Ok w) v e
+    choice_second {s} {e} {v = v} g2 k =
+        let x = found short (omega arith) g in
+        let y = found short (omega arith) g2 in
         let sx = says short (omega arith) x in
         let sy = says short (omega arith) y in
         gives_value (second_choice x.value y.value)
@@ -170,24 +163,22 @@ module _ {n at left : ℕ} (text : List ℕ) (nodes called : Evaluator) (t : Lis
 
   -- Not A.
   pub not_refused :
-      (a : ℕ) {r d : ℕ} {u : List ℕ}
-      → Gives n at left (nodes a at t c) r u d
-      → r < 16
-      → Gives n at (left + 1) (kind_m text nodes called (NotPredicate a) at t c) r u d
+      (a : ℕ) {r : Refusal} {d : ℕ} {u : List ℕ}
+      → Gives n at left (nodes a at t c) (Err r) u d
+      → Gives n at (left + 1) (kind_m text nodes called (NotPredicate a) at t c) (Err r) u d
   unfolding kind_m
-  not_refused a g h =
-      let f = was_refused short (omega arith) g h in
-      gives_refusal (ap (made negated) f.is) f.small
+  not_refused a g =
+      let f = was_refused short (omega arith) g in
+      gives_refusal (ap (made negated) f)
 
   pub not_answered :
       (a : ℕ) {r d w : ℕ} {u : List ℕ}
-      → Gives n at left (nodes a at t c) r u d
-      → 16 ≤ r
+      → Gives n at left (nodes a at t c) (Ok r) u d
       → w ≡ word_of (negated (value_of r))
-      → Gives n at (left + 1) (kind_m text nodes called (NotPredicate a) at t c) w u d
+      → Gives n at (left + 1) (kind_m text nodes called (NotPredicate a) at t c) (Ok w) u d
   unfolding kind_m
-  not_answered a g h e =
-      let f = found short (omega arith) g h in
+  not_answered a g e =
+      let f = found short (omega arith) g in
       gives_value (negated f.value)
       (ap (made negated) f.is)
       (e ∙ ap (λ (x : Evaluation). word_of (negated x)) (says short (omega arith) f))
@@ -196,24 +187,22 @@ module _ {n at left : ℕ} (text : List ℕ) (nodes called : Evaluator) (t : Lis
 
   -- A call.
   pub call_refused :
-      (rule : ℕ) {r d : ℕ} {u : List ℕ}
-      → Gives n at left (called rule at t c) r u d
-      → r < 16
-      → Gives n at (left + 1) (kind_m text nodes called (Call rule) at t c) r u d
+      (rule : ℕ) {r : Refusal} {d : ℕ} {u : List ℕ}
+      → Gives n at left (called rule at t c) (Err r) u d
+      → Gives n at (left + 1) (kind_m text nodes called (Call rule) at t c) (Err r) u d
   unfolding kind_m
-  call_refused rule g h =
-      let f = was_refused short (omega arith) g h in
-      gives_refusal (ap (made taken_over) f.is) f.small
+  call_refused rule g =
+      let f = was_refused short (omega arith) g in
+      gives_refusal (ap (made taken_over) f)
 
   pub call_answered :
       (rule : ℕ) {r d w : ℕ} {u : List ℕ}
-      → Gives n at left (called rule at t c) r u d
-      → 16 ≤ r
+      → Gives n at left (called rule at t c) (Ok r) u d
       → w ≡ word_of (taken_over (value_of r))
-      → Gives n at (left + 1) (kind_m text nodes called (Call rule) at t c) w u d
+      → Gives n at (left + 1) (kind_m text nodes called (Call rule) at t c) (Ok w) u d
   unfolding kind_m
-  call_answered rule g h e =
-      let f = found short (omega arith) g h in
+  call_answered rule g e =
+      let f = found short (omega arith) g in
       gives_value (taken_over f.value)
       (ap (made taken_over) f.is)
       (e ∙ ap (λ (x : Evaluation). word_of (taken_over x)) (says short (omega arith) f))
@@ -225,11 +214,10 @@ pub nesting_allowed :
     {n at left : ℕ} {o : Out} {r d : ℕ} {u : List ℕ}
     → n ≤ 65535
     → left ≤ 4096
-    → Gives n at left o r u d
-    → 16 ≤ r
+    → Gives n at left o (Ok r) u d
     → nesting_of r ≤ left
-nesting_allowed short most g h =
-    let f = found short most g h in
+nesting_allowed short most g =
+    let f = found short most g in
     omega (arith, says_nesting short most f, f.bounds.allowed)
 
 -- An answered word says its evaluation and nothing else.
@@ -237,11 +225,10 @@ pub says_itself :
     {n at left : ℕ} {o : Out} {r d : ℕ} {u : List ℕ}
     → n ≤ 65535
     → left ≤ 4096
-    → Gives n at left o r u d
-    → 16 ≤ r
+    → Gives n at left o (Ok r) u d
     → r ≡ word_of (value_of r)
-says_itself short most g h =
-    let f = found short most g h in
+says_itself short most g =
+    let f = found short most g in
     f.word_is ∙ ap word_of (sym (says short most f))
 
 -- An answered word stays in the text.
@@ -249,9 +236,8 @@ pub length_within :
     {n at left : ℕ} {o : Out} {r d : ℕ} {u : List ℕ}
     → n ≤ 65535
     → left ≤ 4096
-    → Gives n at left o r u d
-    → 16 ≤ r
+    → Gives n at left o (Ok r) u d
     → at + length_of r ≤ n
-length_within short most g h =
-    let f = found short most g h in
+length_within short most g =
+    let f = found short most g in
     omega (arith, says_length short most f, f.bounds.shape.in_text)

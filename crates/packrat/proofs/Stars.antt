@@ -1,4 +1,7 @@
 -- The loop of a star: the rounds so far, joined with the rounds that follow, are all the rounds. Assumes nothing.
+use Rattle.std.specs.Prelude.{Ok, Err}
+use Rattle.grammar.specs.declared.refusal.Refusal.{Refusal}
+use Rattle.grammar.specs.declared.refusal.Refusal.TheVariants.{Records}
 use Prim.Native.Nat.{ℕ, zero, suc, ◌+◌, ◌≤◌, ◌<◌, max}
 use native.Mathlib.Omega.{arith}
 use native.Mathlib.Nat.{add-zero}
@@ -119,40 +122,39 @@ module _ {n at left : ℕ} (nodes : Evaluator) (a : ℕ) {goal : Out} {t : List 
         go (suc f) e i = (f, k f e i)
 
     pub round_refused :
-        {r d : ℕ} {u : List ℕ}
-        → Gives n (at + consumed) left (nodes a (at + consumed) t c) r u d
-        → r < 16
+        {r : Refusal} {d : ℕ} {u : List ℕ}
+        → Gives n (at + consumed) left (nodes a (at + consumed) t c) (Err r) u d
         → made taken_over goal ≡ out (refused r) u d
     unfolding rounds_m
-    round_refused g h =
-        let v = was_refused short (omega arith) g h in
+    round_refused g =
+        let v = was_refused short (omega arith) g in
         (one-round (λ (f : ℕ). made taken_over goal ≡ out (refused _) _ _)
         (λ f e i.
         ap (made taken_over) (sym i)
-        ∙ ap (λ (o : Out). made taken_over (made (joined consumed examined deepest) (bind o (λ x u d. after_round x.matched (eqb x.length 0) (rounds_m f nodes a) (at + consumed) x u d)))) v.is)
+        ∙ ap (λ (o : Out). made taken_over (made (joined consumed examined deepest) (bind o (λ x u d. after_round x.matched (eqb x.length 0) (rounds_m f nodes a) (at + consumed) x u d)))) v)
         ).1
 
     -- The round gave v with u and d: all rounds are then what comes after it.
-    module _ {r d : ℕ} {u : List ℕ} (g : Gives n (at + consumed) left (nodes a (at + consumed) t c) r u d) (h : 16 ≤ r) where
+    module _ {r d : ℕ} {u : List ℕ} (g : Gives n (at + consumed) left (nodes a (at + consumed) t c) (Ok r) u d) where
       after-round :
           (f : ℕ) (m s : Bool)
           → matched_of r ≡ m
           → eqb (length_of r) 0 ≡ s
           → rounds_m (suc f) nodes a (at + consumed) t c
-          ≡ after_round m s (rounds_m f nodes a) (at + consumed) (found short (omega arith) g h).value u d
+          ≡ after_round m s (rounds_m f nodes a) (at + consumed) (found short (omega arith) g).value u d
       unfolding rounds_m
       after-round f m s em es =
-          let v = found short (omega arith) g h in
+          let v = found short (omega arith) g in
           let k = sym (says_matched short (omega arith) v) ∙ em in
           let l = ap (λ (j : ℕ). eqb j 0) (sym (says_length short (omega arith) v)) ∙ es in
           ap (λ (o : Out). bind o (λ x u d. after_round x.matched (eqb x.length 0) (rounds_m f nodes a) (at + consumed) x u d)) v.is
           ∙ ap (λ (b : Bool). after_round b (eqb v.value.length 0) (rounds_m f nodes a) (at + consumed) v.value u d) k
           ∙ ap (λ (b : Bool). after_round m b (rounds_m f nodes a) (at + consumed) v.value u d) l
 
-      pub round_still : matched_of r ≡ true → length_of r ≡ 0 → made taken_over goal ≡ out (refused 12) u d
+      pub round_still : matched_of r ≡ true → length_of r ≡ 0 → made taken_over goal ≡ out (refused Records) u d
       unfolding after_round
       round_still m l =
-          (one-round (λ (f : ℕ). made taken_over goal ≡ out (refused 12) u d)
+          (one-round (λ (f : ℕ). made taken_over goal ≡ out (refused Records) u d)
           (λ f e i.
           ap (made taken_over) (sym i)
           ∙ ap (λ (o : Out). made taken_over (made (joined consumed examined deepest) o)) (after-round f true true m (eq-eqb (length_of r) 0 l)))
@@ -165,10 +167,10 @@ module _ {n at left : ℕ} (nodes : Evaluator) (a : ℕ) {goal : Out} {t : List 
           → x ≡ max examined (consumed + examined_of r)
           → y ≡ max deepest (nesting_of r)
           → w ≡ word_of (record { matched = true; length = consumed; examined = x; nesting = 1 + y })
-          → Gives n at (left + 1) (kind_m text nodes called (Star a) at t₀ c₀) w u d
+          → Gives n at (left + 1) (kind_m text nodes called (Star a) at t₀ c₀) (Ok w) u d
       unfolding kind_m after_round
       round_fails text called t₀ c₀ {x = x} {y = y} eg m ex ey ew =
-          let v = found short (omega arith) g h in
+          let v = found short (omega arith) g in
           let sx = says_examined short (omega arith) v in
           let sn = says_nesting short (omega arith) v in
           let whole : made taken_over goal ≡ out (answered (taken_over (joined consumed examined deepest (last_round v.value)))) u d =
@@ -204,7 +206,7 @@ module _ {n at left : ℕ} (nodes : Evaluator) (a : ℕ) {goal : Out} {t : List 
           → Rounds n at left nodes a goal u d (consumed + l) x y
       unfolding after_round
       round_goes {x} {y} {l} m ex ey el ne =
-          let v = found short (omega arith) g h in
+          let v = found short (omega arith) g in
           let sx = says_examined short (omega arith) v in
           let sn = says_nesting short (omega arith) v in
           let sl = says_length short (omega arith) v in
@@ -239,7 +241,7 @@ module _ {n at left : ℕ} (nodes : Evaluator) (a : ℕ) {goal : Out} {t : List 
       -- What the word of the loop's answer asks.
       pub round_bounds : (max examined (consumed + examined_of r) ≤ n + 1) × (max deepest (nesting_of r) ≤ left)
       round_bounds =
-          let v = found short (omega arith) g h in
+          let v = found short (omega arith) g in
           let sx = says_examined short (omega arith) v in
           let sn = says_nesting short (omega arith) v in
           (omega (arith, rounds.in_reach, v.bounds.shape.up_to_end), omega (arith, rounds.allowed, v.bounds.allowed))

@@ -3,6 +3,7 @@
 -- allowance is below the evaluation's nesting it refuses with 14. Assumes nothing.
 --     determined   the run of a pair whose nesting is allowed
 --     too_deep     the run of a pair whose nesting is not
+use Rattle.grammar.specs.declared.refusal.Refusal.TheVariants.{Nesting}
 use Prim.Native.Nat.{ℕ, ◌+◌, ◌%◌, ◌≤◌, ◌<◌, ◌^◌}
 use native.Mathlib.Omega.{arith}
 use mathlib.Core.Path.{◌≡◌, refl, sym, ap, ◌∙◌, subst}
@@ -131,12 +132,12 @@ module _ (img text table : List ℕ) (words : Question4 img) (short : length tex
   pub too_deep :
       {r p : ℕ} {z : Evaluation} (d : Over img text table (a_pair r) p z) → r < rules img → p ≤ length text
       → (left : ℕ) → left ≤ 4096 → left < z.nesting → (c : ℕ)
-      → RefusedWith 14 (rule_m img text (node_m img text left) left r p table c)
+      → RefusedWith Nesting (rule_m img text (node_m img text left) left r p table c)
   too_deep {r} {p} {z} d l h left most k c =
       go (pair_over img text table words short r p d l h left most table (grown_none img text table) c)
     where
       go :
           Result img text table words short (rule_m img text (node_m img text left) left r p table c) z left table c (bodies_of d)
-          → RefusedWith 14 (rule_m img text (node_m img text left) left r p table c)
+          → RefusedWith Nesting (rule_m img text (node_m img text left) left r p table c)
       go (deep u e n q) = record { after = u; counted = e; is = q }
       go (fine u e n g a q) = absurd (omega arith)

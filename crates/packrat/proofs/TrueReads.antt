@@ -3,6 +3,8 @@
 -- the nesting is above the allowance it refuses with 14, and with nothing else. Assumes nothing.
 --     pair_reads, pair_deep, only_14      for every pair of the image and the text, and every allowance of at most 4,096
 --     start_reads, start_deep             for the start pair
+use Rattle.grammar.specs.declared.refusal.Refusal.{Refusal}
+use Rattle.grammar.specs.declared.refusal.Refusal.TheVariants.{Nesting}
 use Prim.Native.Nat.{ℕ, ◌+◌, ◌≤◌, ◌<◌, ◌^◌}
 use native.Mathlib.Omega.{arith}
 use native.Mathlib.Nat.{mul-le-mul}
@@ -193,7 +195,7 @@ module _ (img text table : List ℕ) (accepted : Accepted img) (short : length t
   pub pair_deep :
       {r p : ℕ} {z : Evaluation} → Fresh img text (a_pair r) p z → r < rules img → p ≤ length text
       → (left : ℕ) → left ≤ 4096 → left < z.nesting → (c : ℕ)
-      → RefusedWith 14 (rule_m img text (node_m img text left) left r p table c)
+      → RefusedWith Nesting (rule_m img text (node_m img text left) left r p table c)
   pair_deep e l h left most k c =
       too_deep img text table accepted.lawful.words short
       (over_of_fresh img text table accepted.lawful.words short true_words e l h) l h left most k c
@@ -201,9 +203,9 @@ module _ (img text table : List ℕ) (accepted : Accepted img) (short : length t
   -- Nothing but 14 is refused: 12 is not.
   pub only_14 :
       (r p : ℕ) → r < rules img → p ≤ length text
-      → (left : ℕ) → left ≤ 4096 → (c k : ℕ)
+      → (left : ℕ) → left ≤ 4096 → (c : ℕ) (k : Refusal)
       → RefusedWith k (rule_m img text (node_m img text left) left r p table c)
-      → k ≡ 14
+      → k ≡ Nesting
   only_14 r p l h left most c k f =
       let e = total_pair img text accepted r l p h in
       let d = over_of_fresh img text table accepted.lawful.words short true_words e.evaluated l h in
@@ -212,7 +214,7 @@ module _ (img text table : List ℕ) (accepted : Accepted img) (short : length t
       go :
           {z : Evaluation} {ps : List Pair}
           → Result img text table accepted.lawful.words short (rule_m img text (node_m img text left) left r p table c) z left table c ps
-          → k ≡ 14
+          → k ≡ Nesting
       go (deep u d n q) = cc (f.is, q)
       go (fine u d n g a q) = absurd (let z : ◌≡◌ {A = ℕ} 0 1 = cc (f.is, q) in omega arith)
 
@@ -222,5 +224,5 @@ module _ (img text table : List ℕ) (accepted : Accepted img) (short : length t
         → Reads img text table c z (bodies_of e) (rule_m img text (node_m img text 4096) 4096 (start img) 0 table c)
     start_reads room closed k c = pair_reads room closed e accepted.lawful.counts.start_rule (omega arith) 4096 (omega arith) k c
 
-    pub start_deep : 4096 < z.nesting → (c : ℕ) → RefusedWith 14 (rule_m img text (node_m img text 4096) 4096 (start img) 0 table c)
+    pub start_deep : 4096 < z.nesting → (c : ℕ) → RefusedWith Nesting (rule_m img text (node_m img text 4096) 4096 (start img) 0 table c)
     start_deep k c = pair_deep e accepted.lawful.counts.start_rule (omega arith) 4096 (omega arith) k c

@@ -1,6 +1,7 @@
 -- A grammar that was read once from its image, and the evaluator over it as a function.
 -- A loaded grammar has a word for each number that a field of 12 bits can have, and then the number of rules. The words are the
 -- linked words of the nodes: a call's field B, which is 0 in the image, is the root of the called rule.
+use Rattle.grammar.specs.declared.refusal.Refusal.TheVariants.{Nesting}
 use Rattle.std.specs.Prelude.{ℕ, zero, suc, ◌≡◌, List, get_or}
 use Rattle.grammar.specs.declared.node.Node.{Node}
 use Rattle.grammar.specs.declared.node.Node.TheVariants.{Call}
@@ -30,7 +31,7 @@ pub record Loaded (img ws : List ℕ) : Type 0 where
 
 -- A node of a loaded grammar, with an allowance of nesting; see Model.
 unfoldable pub node_w : (ws text : List ℕ) → (left : ℕ) → Evaluator
-node_w ws text zero i at t c = out (refused 14) t c
+node_w ws text zero i at t c = out (refused Nesting) t c
 node_w ws text (suc left) i at t c =
     kind_m
     text

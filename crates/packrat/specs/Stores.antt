@@ -1,5 +1,6 @@
 -- What an evaluation over a table of records stores: "it answers that evaluation, evaluations counts the pairs whose body is evaluated
 -- in it, and the table gains just those".
+use Rattle.grammar.specs.declared.refusal.Refusal.{Refusal}
 use Rattle.std.specs.Prelude.{ℕ, ◌+◌, ◌%◌, ◌≤◌, ◌<◌, ◌^◌, ◌≡◌, List, length, get_or}
 use Rattle.grammar.specs.declared.Evaluation.{Evaluation}
 use Rattle.grammar.specs.Image.{rules}
@@ -44,8 +45,8 @@ pub record Determined (img text before : List ℕ) (count : ℕ) (z : Evaluation
   pub stores : Stores img text before ps after
   pub counts : count < 2 ^ 64 → counted ≡ (count + evaluations img text ps) % 2 ^ 64
 
--- A run that is refused with a number.
-pub record RefusedWith (number : ℕ) (o : Out) : Type 0 where
+-- A run that is refused.
+pub record RefusedWith (reason : Refusal) (o : Out) : Type 0 where
   pub after : List ℕ
   pub counted : ℕ
-  pub is : o ≡ out (refused number) after counted
+  pub is : o ≡ out (refused reason) after counted

@@ -1,4 +1,5 @@
 -- What the definitions settle at their edges: instances that a definition which is one off does not have. Assumes nothing.
+use Rattle.std.specs.Prelude.{Ok}
 use Prim.Native.Nat.{ℕ, ◌≤◌, ◌<◌}
 use native.Mathlib.Omega.{arith}
 use mathlib.Core.Path.{◌≡◌, ap, ◌∙◌}
@@ -12,7 +13,7 @@ use Rattle.packrat.specs.Over.{word_at}
 use Rattle.editing.specs.Text.{new_length}
 use Rattle.editing.specs.Table.{table_size, TableLent}
 use Rattle.editing.proofs.Loans.{cleared_tail}
-use Rattle.promises.specs.declared.LookUpAnswer.{LookUpAnswer}
+use Rattle.promises.specs.Answers.{LookUpAnswer}
 use Rattle.promises.specs.Answers.{sheet_reading}
 use Rattle.promises.specs.Questions.{Question9, Question10, Question11}
 use Rattle.promises.specs.Promises.{OpenedSheet, LookUpValues}
@@ -33,7 +34,7 @@ looks_at_the_end img n rule h = record { rule_in = h; position_in = omega arith 
 pub unheld_word_given :
     (img W : List ℕ) (rule position w : ℕ)
     → word_at img W rule position ≡ 5
-    → LookUpValues img W rule position (LookUpAnswer.Word w)
+    → LookUpValues img W rule position (Ok w)
     → w ≡ 5
 unheld_word_given img W rule position w e v = v ∙ e
 

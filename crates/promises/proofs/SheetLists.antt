@@ -4,6 +4,8 @@
 --     refused_listed                    where it is refused
 --     impossible_listed                 where the start word is held and impossible
 --     lists_unasked, lists_done         the whole promise: where one of questions 1 to 8 fails, and where none does
+use Rattle.std.specs.Prelude.{Ok, Err}
+use Rattle.grammar.specs.declared.refusal.Refusal.TheVariants.{Rows}
 use Prim.Native.Nat.{ℕ, ◌≤◌}
 use native.Mathlib.Omega.{arith}
 use mathlib.Core.Path.{◌≡◌, refl, sym, ap, ◌∙◌, subst}
@@ -30,8 +32,8 @@ use Rattle.rows.specs.Bounds.{Number, impossible, too_deep, no_slot}
 use Rattle.rows.specs.Fits.{Fits, rows_fit, too_many}
 use Rattle.rows.proofs.Listed.{reading_lists}
 use Rattle.editing.specs.Table.{table_size, cleared_table}
-use Rattle.promises.specs.declared.ReadAnswer.{ReadAnswer}
-use Rattle.promises.specs.declared.ListAnswer.{ListAnswer}
+use Rattle.promises.specs.Answers.{ReadAnswer}
+use Rattle.promises.specs.Answers.{ListAnswer}
 use Rattle.promises.specs.declared.SheetReading.{SheetReading}
 use Rattle.promises.specs.Answers.{read_number, sheet_reading}
 use Rattle.promises.specs.Questions.{of_sheet}
@@ -60,7 +62,7 @@ refusal_of (out (refused k) t c) = k
 all_written :
     (x : SheetReading) {m m' : Bool} {len len' c : ℕ} {rows ws R : List ℕ} {o : Trail}
     → Fits (length R) 0 m len ws o → o ≡ trail (walked m' len' c) rows
-    → GivesRows x ws R (ListAnswer.Listed (record { reading = x; rows = length rows })) (rows ++ drop (length rows) R)
+    → GivesRows x ws R (Ok (record { reading = x; rows = length rows })) (rows ++ drop (length rows) R)
 all_written x {rows = rows} {ws = ws} {R = R} (rows_fit h e) f =
     let same : rows ≡ ws = ap given (sym f ∙ e) in
     rw same (record { written = λ h. (refl, refl); too_many = λ l. absurd (omega arith) })
@@ -68,7 +70,7 @@ all_written x (too_many h t e) f = absurd (let z : 0 ≡ 15 = ap stop_of (sym f 
 
 none_written :
     (x : SheetReading) {m : Bool} {len : ℕ} {ws R e : List ℕ} {o : Trail}
-    → Fits (length R) 0 m len ws o → o ≡ trail (stopped 15) e → GivesRows x ws R (ListAnswer.Refused 15) R
+    → Fits (length R) 0 m len ws o → o ≡ trail (stopped 15) e → GivesRows x ws R (Err Rows) R
 none_written x (rows_fit h e) f = absurd (let z : 15 ≡ 0 = ap stop_of (sym f ∙ e) in omega arith)
 none_written x (too_many h t e) f = record { written = λ l. absurd (omega arith); too_many = λ l. (refl, refl) }
 
@@ -91,10 +93,10 @@ module _ (img text : List ℕ) (cap : ℕ) (W R : List ℕ) (accepted : Accepted
 
     pub refused_listed :
         {k count : ℕ} {table : List ℕ} → start_run img text W 0 ≡ out (refused k) table count
-        → SheetListed img text cap W R (ListAnswer.Refused k) (cleared_table (rules img) cap table) R
+        → SheetListed img text cap W R (Err k) (cleared_table (rules img) cap table) R
     refused_listed {k} {count} {table} e =
         record {
-          reading = ReadAnswer.Refused k;
+          reading = Err k;
           words = cleared_table (rules img) cap table;
           reads = the-reading e;
           then = record { answer_is = refl; words_are = refl; slots_are = refl };
@@ -129,11 +131,11 @@ module _ (img text : List ℕ) (cap : ℕ) (W R : List ℕ) (accepted : Accepted
           {m : Bool} {len c : ℕ} {rows : List ℕ} → start_v (length R) img ws text words 0 (length text) ≡ trail (walked m len c) rows
           → length rows ≤ length R
           → SheetListed img text cap W R
-          (ListAnswer.Listed (record { reading = sheet_reading (length text) z count; rows = length rows })) words
+          (Ok (record { reading = sheet_reading (length text) z count; rows = length rows })) words
           (rows ++ drop (length rows) R)
       written_listed {rows = rows} w fit =
           record {
-            reading = ReadAnswer.Read (sheet_reading (length text) z count);
+            reading = Ok (sheet_reading (length text) z count);
             words = words;
             reads = the-reading e;
             then =
@@ -146,10 +148,10 @@ module _ (img text : List ℕ) (cap : ℕ) (W R : List ℕ) (accepted : Accepted
       pub stopped_listed :
           {k : ℕ} {rows : List ℕ} → start_v (length R) img ws text words 0 (length text) ≡ trail (stopped k) rows
           → Number k
-          → SheetListed img text cap W R (ListAnswer.Refused k) (stopped_words (eqb k 15) img cap words) R
+          → SheetListed img text cap W R (Err k) (stopped_words (eqb k 15) img cap words) R
       stopped_listed w no_slot =
           record {
-            reading = ReadAnswer.Read (sheet_reading (length text) z count);
+            reading = Ok (sheet_reading (length text) z count);
             words = words;
             reads = the-reading e;
             then =
@@ -160,7 +162,7 @@ module _ (img text : List ℕ) (cap : ℕ) (W R : List ℕ) (accepted : Accepted
           }
       stopped_listed w impossible =
           record {
-            reading = ReadAnswer.Read (sheet_reading (length text) z count);
+            reading = Ok (sheet_reading (length text) z count);
             words = words;
             reads = the-reading e;
             then =
@@ -171,7 +173,7 @@ module _ (img text : List ℕ) (cap : ℕ) (W R : List ℕ) (accepted : Accepted
           }
       stopped_listed w too_deep =
           record {
-            reading = ReadAnswer.Read (sheet_reading (length text) z count);
+            reading = Ok (sheet_reading (length text) z count);
             words = words;
             reads = the-reading e;
             then =
@@ -188,10 +190,10 @@ module _ {img text : List ℕ} {cap : ℕ} {W R : List ℕ} {a : ListAnswer} {W'
     by_answer :
         (r : ReadAnswer) → s.reading ≡ r → read_number r ≡ 12 → ThenListed img text cap W r s.words R a W' R'
         → RefusedAlso 12 (cleared_table (rules img) cap W) R a W' R'
-    by_answer (ReadAnswer.Read x) f e t = absurd (omega arith)
-    by_answer (ReadAnswer.Refused k) f e t =
+    by_answer (Ok x) f e t = absurd (omega arith)
+    by_answer (Err k) f e t =
         record {
-          answer_is = t.answer_is ∙ ap ListAnswer.Refused e;
+          answer_is = t.answer_is ∙ ap Err e;
           words_are = t.words_are ∙ s.reads.zeroed k f;
           slots_are = t.slots_are;
         }
@@ -202,7 +204,7 @@ module _ {img text : List ℕ} {cap : ℕ} {W R : List ℕ} {a : ListAnswer} {W'
 -- A listing that fails one of questions 1 to 8.
 pub lists_unasked :
     (img B : List ℕ) (n : ℕ) (W R : List ℕ) (k : ℕ) → 1 ≤ k → First (of_sheet img (length B) n (length W)) k
-    → ListPromise img B n W R (ListAnswer.Refused k) W R
+    → ListPromise img B n W R (Err k) W R
 lists_unasked img B n W R k h f =
     record { number = k; first = f; refused = λ l. (refl, refl, refl); listed = λ e. absurd (omega arith) }
 

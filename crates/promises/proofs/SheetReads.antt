@@ -5,6 +5,7 @@
 --     reads_answered, reads_refused    the same by cases of the run
 --     reads_word, reads_number         the same by cases of the word that the evaluator answers
 --     reads_unasked    where one of questions 1 to 8 fails
+use Rattle.std.specs.Prelude.{Ok, Err}
 use Prim.Native.Nat.{ℕ, ◌+◌, ◌≤◌, ◌<◌, ◌^◌}
 use native.Mathlib.Omega.{arith}
 use native.Mathlib.Nat.{mul-le-mul}
@@ -34,7 +35,7 @@ use Rattle.packrat.proofs.TrueReads.{start_deep, only_14}
 use Rattle.packrat.specs.Session.{start_run}
 use Rattle.editing.specs.Table.{table_size, TableLent, cleared_table}
 use Rattle.editing.proofs.Loans.{cleared_long, cleared_tail}
-use Rattle.promises.specs.declared.ReadAnswer.{ReadAnswer}
+use Rattle.promises.specs.Answers.{ReadAnswer}
 use Rattle.promises.specs.Answers.{read_number, sheet_reading}
 use Rattle.promises.specs.Questions.{Question8, of_sheet}
 use Rattle.promises.specs.Reading.{NotForeign, AnswersWith, SheetRead, ReadPromise}
@@ -89,7 +90,7 @@ module _ (img text : List ℕ) (cap : ℕ) (W : List ℕ) (accepted : Accepted i
         record {
           answer_is =
               ap (answer_of (length text)) x.is
-              ∙ ap (λ (c : ℕ). ReadAnswer.Read (sheet_reading (length text) z c)) count;
+              ∙ ap (λ (c : ℕ). Ok (sheet_reading (length text) z c)) count;
           stores = rw x.is x.stores;
         }
 
@@ -163,7 +164,7 @@ pub reads_answered :
     (img B : List ℕ) (n : ℕ) (W : List ℕ) → Accepted img → Question8 img (length B) n (length W)
     → (z : Evaluation) (W' : List ℕ) (count : ℕ)
     → start_run img (take n B) W 0 ≡ out (answered z) W' count
-    → ReadPromise img B n W (ReadAnswer.Read (sheet_reading n z count)) W'
+    → ReadPromise img B n W (Ok (sheet_reading n z count)) W'
 reads_answered img B n W accepted q z W' count e =
     subst (λ (o : Out). ReadPromise img B n W (answer_of n o) (words_of img (length B) o)) e (reads_are img B n W accepted q)
 
@@ -171,7 +172,7 @@ pub reads_refused :
     (img B : List ℕ) (n : ℕ) (W : List ℕ) → Accepted img → Question8 img (length B) n (length W)
     → (k : ℕ) (table : List ℕ) (count : ℕ)
     → start_run img (take n B) W 0 ≡ out (refused k) table count
-    → ReadPromise img B n W (ReadAnswer.Refused k) (cleared_table (rules img) (length B) table)
+    → ReadPromise img B n W (Err k) (cleared_table (rules img) (length B) table)
 reads_refused img B n W accepted q k table count e =
     subst (λ (o : Out). ReadPromise img B n W (answer_of n o) (words_of img (length B) o)) e (reads_are img B n W accepted q)
 
@@ -182,19 +183,19 @@ module _ (img B : List ℕ) (n : ℕ) (W : List ℕ) (accepted : Accepted img) (
     short-part : length (take n B) ≤ 65535
     short-part = rw (length-take-le n B q.text_fits) (omega (arith, q.text_fits, q.short))
 
-    pub reads_word : 16 ≤ word → ReadPromise img B n W (ReadAnswer.Read (sheet_reading n (value_of word) count)) table
+    pub reads_word : 16 ≤ word → ReadPromise img B n W (Ok (sheet_reading n (value_of word) count)) table
     reads_word h =
         let f = found short-part (omega arith) g h in
-        subst (λ (z : Evaluation). ReadPromise img B n W (ReadAnswer.Read (sheet_reading n z count)) table)
+        subst (λ (z : Evaluation). ReadPromise img B n W (Ok (sheet_reading n z count)) table)
         (sym (says short-part (omega arith) f))
         (reads_answered img B n W accepted q f.value table count f.is)
 
-    pub reads_number : word < 16 → ReadPromise img B n W (ReadAnswer.Refused word) (cleared_table (rules img) (length B) table)
+    pub reads_number : word < 16 → ReadPromise img B n W (Err word) (cleared_table (rules img) (length B) table)
     reads_number h = let f = was_refused short-part (omega arith) g h in reads_refused img B n W accepted q word table count f.is
 
 -- A reading that fails one of questions 1 to 8.
 pub reads_unasked :
     (img B : List ℕ) (n : ℕ) (W : List ℕ) (k : ℕ) → 1 ≤ k → First (of_sheet img (length B) n (length W)) k
-    → ReadPromise img B n W (ReadAnswer.Refused k) W
+    → ReadPromise img B n W (Err k) W
 reads_unasked img B n W k h f =
     record { number = k; first = f; refused = λ l. (refl, refl); read = λ e. absurd (omega arith) }

@@ -1,34 +1,30 @@
 -- The paper's number and values for each case of each answer. The number of an answered call is 0; a refusal has its number and no
 -- values. The values of an answered reading are made here; those of the other calls are what their constructors hold.
+use Rattle.std.specs.Prelude.{Ok, Err}
 use Rattle.std.specs.Prelude.{ℕ, eqb}
 use Rattle.grammar.specs.declared.Evaluation.{Evaluation}
 use Rattle.reading.specs.Plain.{outcome_of}
-use Rattle.promises.specs.declared.OpenAnswer.{OpenAnswer}
-use Rattle.promises.specs.declared.EditAnswer.{EditAnswer}
-use Rattle.promises.specs.declared.LookUpAnswer.{LookUpAnswer}
-use Rattle.promises.specs.declared.ReadAnswer.{ReadAnswer}
-use Rattle.promises.specs.declared.ListAnswer.{ListAnswer}
 use Rattle.promises.specs.declared.SheetReading.{SheetReading}
 
 abbrev pub open_number : OpenAnswer → ℕ
-open_number (OpenAnswer.Opened n) = 0
-open_number (OpenAnswer.Refused k) = k
+open_number (Ok n) = 0
+open_number (Err k) = k
 
 abbrev pub edit_number : EditAnswer → ℕ
-edit_number (EditAnswer.Edited x) = 0
-edit_number (EditAnswer.Refused k) = k
+edit_number (Ok x) = 0
+edit_number (Err k) = k
 
 abbrev pub look_up_number : LookUpAnswer → ℕ
-look_up_number (LookUpAnswer.Word w) = 0
-look_up_number (LookUpAnswer.Refused k) = k
+look_up_number (Ok w) = 0
+look_up_number (Err k) = k
 
 abbrev pub read_number : ReadAnswer → ℕ
-read_number (ReadAnswer.Read x) = 0
-read_number (ReadAnswer.Refused k) = k
+read_number (Ok x) = 0
+read_number (Err k) = k
 
 abbrev pub list_number : ListAnswer → ℕ
-list_number (ListAnswer.Listed x) = 0
-list_number (ListAnswer.Refused k) = k
+list_number (Ok x) = 0
+list_number (Err k) = k
 
 -- "Reading: the answer is the start pair's evaluation, as whole, part or none": of a text of n bytes, the evaluation z and so many
 -- evaluations. The outcome is the one that `Says` of the plain reading names (crate `reading`, `OutcomeSays`).

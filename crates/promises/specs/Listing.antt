@@ -1,5 +1,7 @@
 -- The listing's promise, for all images, lengths, buffers, table contents and row slots. The text is the first n bytes of the buffer B. The
 -- words W and the row slots R are lent; the listing leaves W' and R'. B it cannot change.
+use Rattle.std.specs.Prelude.{Ok, Err}
+use Rattle.grammar.specs.declared.refusal.Refusal.TheVariants.{Rows}
 use Rattle.std.specs.Prelude.{ℕ, ◌≤◌, ◌<◌, ◌≡◌, List, ◌++◌, ◌⊎◌, length, take, drop}
 use Rattle.grammar.specs.declared.Evaluation.{Evaluation}
 use Rattle.grammar.specs.Image.{rules, start}
@@ -7,8 +9,8 @@ use Rattle.grammar.specs.Evaluates.{Fresh, a_pair}
 use Rattle.grammar.specs.Questions.{First}
 use Rattle.rows.specs.Rows.{rows_of, row_words}
 use Rattle.editing.specs.Table.{cleared_table}
-use Rattle.promises.specs.declared.ReadAnswer.{ReadAnswer}
-use Rattle.promises.specs.declared.ListAnswer.{ListAnswer}
+use Rattle.promises.specs.Answers.{ReadAnswer}
+use Rattle.promises.specs.Answers.{ListAnswer}
 use Rattle.promises.specs.declared.SheetReading.{SheetReading}
 use Rattle.promises.specs.Answers.{list_number}
 use Rattle.promises.specs.Questions.{of_sheet}
@@ -19,8 +21,8 @@ use Rattle.promises.specs.Reading.{NotForeign, SheetRead}
 pub record GivesRows (x : SheetReading) (rows R : List ℕ) (a : ListAnswer) (R' : List ℕ) : Type 0 where
   pub written :
       length rows ≤ length R
-      → (a ≡ ListAnswer.Listed (record { reading = x; rows = length rows })) × (R' ≡ rows ++ drop (length rows) R)
-  pub too_many : length R < length rows → (a ≡ ListAnswer.Refused 15) × (R' ≡ R)
+      → (a ≡ Ok (record { reading = x; rows = length rows })) × (R' ≡ rows ++ drop (length rows) R)
+  pub too_many : length R < length rows → (a ≡ Err Rows) × (R' ≡ R)
 
 -- How a listing may end after a reading that answered x and left these words, whatever the table held before: "it ends, changes only the
 -- table and, if answered, the lent row slots, [..] zeroes the table with 12 and 14". With 15 the reading's records stay. Free is, over
@@ -30,13 +32,13 @@ pub data EndsAs (img : List ℕ) (cap : ℕ) (x : SheetReading) (words R : List 
   listed :
       (rows : List ℕ)
       → length rows ≤ length R
-      → EndsAs img cap x words R (ListAnswer.Listed (record { reading = x; rows = length rows })) words (rows ++ drop (length rows) R)
-  no_slots : EndsAs img cap x words R (ListAnswer.Refused 15) words R
-  zeroed : {k : ℕ} → (k ≡ 12) ⊎ (k ≡ 14) → EndsAs img cap x words R (ListAnswer.Refused k) (cleared_table (rules img) cap words) R
+      → EndsAs img cap x words R (Ok (record { reading = x; rows = length rows })) words (rows ++ drop (length rows) R)
+  no_slots : EndsAs img cap x words R (Err Rows) words R
+  zeroed : {k : ℕ} → (k ≡ 12) ⊎ (k ≡ 14) → EndsAs img cap x words R (Err k) (cleared_table (rules img) cap words) R
 
 -- A reading that is refused refuses the listing, which leaves what the reading left.
 pub record RefusedAlso (k : ℕ) (words R : List ℕ) (a : ListAnswer) (W' R' : List ℕ) : Type 0 where
-  pub answer_is : a ≡ ListAnswer.Refused k
+  pub answer_is : a ≡ Err k
   pub words_are : W' ≡ words
   pub slots_are : R' ≡ R
 
@@ -50,8 +52,8 @@ pub record ListedAfter (img text : List ℕ) (cap : ℕ) (W : List ℕ) (x : She
 
 abbrev pub ThenListed :
     (img text : List ℕ) (cap : ℕ) (W : List ℕ) → ReadAnswer → (words R : List ℕ) → ListAnswer → (W' R' : List ℕ) → Type 0
-ThenListed img text cap W (ReadAnswer.Read x) words R a W' R' = ListedAfter img text cap W x words R a W' R'
-ThenListed img text cap W (ReadAnswer.Refused k) words R a W' R' = RefusedAlso k words R a W' R'
+ThenListed img text cap W (Ok x) words R a W' R' = ListedAfter img text cap W x words R a W' R'
+ThenListed img text cap W (Err k) words R a W' R' = RefusedAlso k words R a W' R'
 
 -- A listing that passed questions 1 to 8: "Listing makes a reading, then writes the calls that made the match".
 pub record SheetListed (img text : List ℕ) (cap : ℕ) (W R : List ℕ) (a : ListAnswer) (W' R' : List ℕ) : Type 0 where

@@ -1,5 +1,6 @@
 -- The reading's promise, for all images, lengths, buffers and table contents. The text is the first n bytes of the buffer B. The words W
 -- are lent, and the reading leaves W'; B it cannot change.
+use Rattle.std.specs.Prelude.{Ok, Err}
 use Rattle.std.specs.Prelude.{ℕ, ◌≤◌, ◌≡◌, true, false, List, ◌⊎◌, length, take, drop}
 use Rattle.grammar.specs.declared.Evaluation.{Evaluation}
 use Rattle.grammar.specs.Image.{rules, start}
@@ -13,7 +14,7 @@ use Rattle.packrat.specs.True.{TrueTable}
 use Rattle.packrat.specs.Closed.{ClosedTable}
 use Rattle.packrat.specs.Stores.{Stores, evaluations}
 use Rattle.editing.specs.Table.{table_size, cleared_table}
-use Rattle.promises.specs.declared.ReadAnswer.{ReadAnswer}
+use Rattle.promises.specs.Answers.{ReadAnswer}
 use Rattle.promises.specs.declared.SheetReading.{SheetReading}
 use Rattle.promises.specs.Answers.{read_number, sheet_reading}
 use Rattle.promises.specs.Questions.{of_sheet}
@@ -27,7 +28,7 @@ pub record NotForeign (img text W : List ℕ) : Type 0 where
 -- "it answers that evaluation, evaluations counts the pairs whose body is evaluated in it, and the table gains just those": z is the
 -- evaluation and ps are the pairs.
 pub record AnswersWith (img text W : List ℕ) (z : Evaluation) (ps : List Pair) (a : ReadAnswer) (W' : List ℕ) : Type 0 where
-  pub answer_is : a ≡ ReadAnswer.Read (sheet_reading (length text) z (evaluations img text ps))
+  pub answer_is : a ≡ Ok (sheet_reading (length text) z (evaluations img text ps))
   pub stores : Stores img text W ps W'
 
 -- A reading that passed questions 1 to 8, of a text in a buffer of cap bytes. Free is, over foreign records where none of `impossible`,
@@ -38,9 +39,9 @@ pub record SheetRead (img text : List ℕ) (cap : ℕ) (W : List ℕ) (a : ReadA
   pub as_long : length W' ≡ length W
   pub after_table : drop (table_size (rules img) cap) W' ≡ drop (table_size (rules img) cap) W
   -- "has a length of at most n, zeroes the table with 12 and 14", and is refused with nothing else;
-  pub in_text : (x : SheetReading) → a ≡ ReadAnswer.Read x → x.length ≤ length text
-  pub numbers : (k : ℕ) → a ≡ ReadAnswer.Refused k → (k ≡ 12) ⊎ (k ≡ 14)
-  pub zeroed : (k : ℕ) → a ≡ ReadAnswer.Refused k → W' ≡ cleared_table (rules img) cap W
+  pub in_text : (x : SheetReading) → a ≡ Ok x → x.length ≤ length text
+  pub numbers : (k : ℕ) → a ≡ Err k → (k ≡ 12) ⊎ (k ≡ 14)
+  pub zeroed : (k : ℕ) → a ≡ Err k → W' ≡ cleared_table (rules img) cap W
   -- "and gives 12 when the word of (start, 0) is held and impossible."
   pub impossible :
       is_held (word_at img W (start img) 0) ≡ true

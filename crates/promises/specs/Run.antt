@@ -1,16 +1,17 @@
 -- For the functions that read and list: the answer and the words that they make of a run of the evaluator over the lent words. The promises
 -- do not cite these; proofs/SheetReads.antt and SheetLists.antt show that they are kept.
+use Rattle.std.specs.Prelude.{Ok, Err}
 use Rattle.std.specs.Prelude.{ℕ, Bool, true, false, List}
 use Rattle.grammar.specs.Image.{rules}
 use Rattle.packrat.specs.Model.{answered, refused, Out, out}
 use Rattle.editing.specs.Table.{cleared_table}
-use Rattle.promises.specs.declared.ReadAnswer.{ReadAnswer}
+use Rattle.promises.specs.Answers.{ReadAnswer}
 use Rattle.promises.specs.Answers.{sheet_reading}
 
 -- An answered run is reported, of a text of n bytes, with the count of evaluated pairs; a refused one gives its number.
 abbrev pub answer_of : (n : ℕ) → Out → ReadAnswer
-answer_of n (out (answered z) t count) = ReadAnswer.Read (sheet_reading n z count)
-answer_of n (out (refused k) t count) = ReadAnswer.Refused k
+answer_of n (out (answered z) t count) = Ok (sheet_reading n z count)
+answer_of n (out (refused k) t count) = Err k
 
 -- The words that the run left; those of a refused run with the table zeroed.
 abbrev pub words_of : (img : List ℕ) (cap : ℕ) → Out → List ℕ

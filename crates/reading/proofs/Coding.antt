@@ -1,5 +1,6 @@
 -- The code of a plain reading's answer is injective: among answers that a plain reading of one text can give, the number tells which
 -- it was. Assumes nothing.
+use Rattle.std.specs.Prelude.{Ok, Err}
 use Rattle.std.proofs.Common.{◌≡◌, ℕ, ◌^◌, ◌<◌, ◌≤◌, List, length, sym, refl, ap, ◌∙◌, inl, inr, true≢false, arith}
 use Rattle.grammar.specs.declared.Evaluation.{Evaluation}
 use Rattle.grammar.specs.Evaluates.{bodies_only}
@@ -11,8 +12,7 @@ use Rattle.records.proofs.Codec.{InRange, plain_word, value_back, word_held}
 use Rattle.reading.specs.declared.plain.Outcome.{Outcome}
 use Rattle.reading.specs.declared.plain.Outcome.TheVariants.{Whole, Part, Nothing}
 use Rattle.reading.specs.declared.plain.Reading.{Reading}
-use Rattle.reading.specs.declared.plain.PlainAnswer.{PlainAnswer}
-use Rattle.reading.specs.declared.plain.PlainAnswer.TheVariants.{Read, Refused}
+use Rattle.reading.specs.Plain.{PlainAnswer}
 use Rattle.reading.specs.Plain.{Says, ShortText, DepthAllowed, of_plain, PlainRead}
 use Rattle.reading.specs.Code.{matched_in, code_of}
 
@@ -30,8 +30,8 @@ pub record Codable (n : ℕ) (x : Reading) : Type 0 where
   pub outcome_fits : Fits x.outcome n x.length
 
 abbrev pub HasCode : ℕ → PlainAnswer → Type 0
-HasCode n (Read x) = Codable n x
-HasCode n (Refused k) = k < 256
+HasCode n (Ok x) = Codable n x
+HasCode n (Err k) = k < 256
 
 -- The evaluation that a reading reports.
 abbrev evaluation_in : Reading → Evaluation
@@ -40,7 +40,7 @@ evaluation_in x = record { matched = matched_in x.outcome; length = x.length; ex
 in_range : {n : ℕ} {x : Reading} → Codable n x → InRange (evaluation_in x)
 in_range c = record { nesting_fits = c.nesting_fits; examined_fits = c.examined_fits; length_fits = c.length_fits }
 
-code_is_word : {n : ℕ} {x : Reading} → Codable n x → code_of (Read x) ≡ word_of (evaluation_in x)
+code_is_word : {n : ℕ} {x : Reading} → Codable n x → code_of (Ok x) ≡ word_of (evaluation_in x)
 code_is_word {x = x} c =
     plain_word (matched_in x.outcome) x.nesting x.examined x.length c.nesting_fits c.examined_fits c.length_fits
 
@@ -58,12 +58,12 @@ same_outcome n Nothing Part l p q e = absurd (true≢false (sym e))
 same_outcome n Nothing Nothing l p q e = refl
 
 pub code_injective : (n : ℕ) (a b : PlainAnswer) → HasCode n a → HasCode n b → code_of a ≡ code_of b → a ≡ b
-code_injective n (Refused j) (Refused k) p q e = ap Refused e
-code_injective n (Refused j) (Read x) p q e =
+code_injective n (Err j) (Err k) p q e = ap Err e
+code_injective n (Err j) (Ok x) p q e =
     absurd (let h = word_held (evaluation_in x) (in_range q) in let w = code_is_word q in omega arith)
-code_injective n (Read x) (Refused k) p q e =
+code_injective n (Ok x) (Err k) p q e =
     absurd (let h = word_held (evaluation_in x) (in_range p) in let w = code_is_word p in omega arith)
-code_injective n (Read x) (Read y) p q e =
+code_injective n (Ok x) (Ok y) p q e =
     let same : evaluation_in x ≡ evaluation_in y =
     sym (value_back (evaluation_in x) (in_range p))
     ∙ ap value_of (sym (code_is_word p) ∙ e ∙ code_is_word q)
@@ -72,7 +72,7 @@ code_injective n (Read x) (Read y) p q e =
     let seen = ap (λ (v : Evaluation). v.examined) same in
     let nest = ap (λ (v : Evaluation). v.nesting) same in
     let told = same_outcome n x.outcome y.outcome x.length p.outcome_fits (subst⁻ y.outcome len q.outcome_fits) (ap (λ (v : Evaluation). v.matched) same) in
-    ap Read (λ i. record { outcome = told i; length = len i; examined = seen i; nesting = nest i })
+    ap Ok (λ i. record { outcome = told i; length = len i; examined = seen i; nesting = nest i })
   where
     subst⁻ : (o : Outcome) → x.length ≡ y.length → Fits o n y.length → Fits o n x.length
     subst⁻ o l f = rw l f
@@ -112,8 +112,8 @@ outcome_fits Part n z l e s = let h = s.1 in omega arith
 outcome_fits Nothing n z l e s = tt
 
 pub has_code : (img text : List ℕ) (r : PlainAnswer) → PlainRead img text r → HasCode (length text) r
-has_code img text (Refused k) p = let h = number_small img text k p.first in omega arith
-has_code img text (Read x) p =
+has_code img text (Err k) p = let h = number_small img text k p.first in omega arith
+has_code img text (Ok x) p =
     let q = last_passed img text p.first in
     let v = p.values in
     let same = one img text bodies_only v.evaluated q.1.evaluated in

@@ -1,5 +1,7 @@
 -- The plain reading: from the start pair's word to what is promised. Totality gives the evaluation, its nesting says which case it is.
 -- Assumes nothing.
+use Rattle.std.specs.Prelude.{Ok, Err}
+use Rattle.grammar.specs.declared.refusal.Refusal.TheVariants.{Loan, Nesting}
 use Rattle.std.proofs.Common.{◌≡◌, ℕ, ◌<◌, ◌≤◌, List, [], ◌∷◌, length, sym, refl, ap, ◌∙◌, subst, inl, inr, arith}
 use Rattle.grammar.specs.declared.Evaluation.{Evaluation}
 use Rattle.grammar.specs.Image.{start}
@@ -12,7 +14,6 @@ use Rattle.evaluation.proofs.Totality.{Exists, total_pair}
 use Rattle.evaluation.proofs.Plain.{fresh_within}
 use Rattle.records.specs.Words.{value_of}
 use Rattle.reading.specs.declared.plain.Reading.{Reading}
-use Rattle.reading.specs.declared.plain.PlainAnswer.TheVariants.{Read, Refused}
 use Rattle.packrat.specs.Model.{node_m, rule_m}
 use Rattle.reading.proofs.Outcomes.{outcome_says}
 use Rattle.reading.specs.Plain.{Reports, ShortText, DepthAllowed, PlainRead, reading_of}
@@ -35,7 +36,7 @@ module _ (img text : List ℕ) where
   last_two = record { number = 8; holds = ShortText text } ∷ record { number = 14; holds = DepthAllowed img text } ∷ []
 
   -- An image that is refused.
-  pub image_refused : (k : ℕ) → Checked img k → (k ≡ 0 → ⊥) → PlainRead img text (Refused k)
+  pub image_refused : (k : ℕ) → Checked img k → (k ≡ 0 → ⊥) → PlainRead img text (Err k)
   image_refused k c ne =
       let h : 1 ≤ k = omega (arith, ne) in
       record {
@@ -54,7 +55,7 @@ module _ (img text : List ℕ) where
       not-14 (inr (q1, inr (q2, inr (q3, inr (q4, inr (q5, inr (q6, inr (q7, d)))))))) e = omega arith
 
   module _ (c : Checked img 0) where
-    pub text_refused : 65535 < length text → PlainRead img text (Refused 8)
+    pub text_refused : 65535 < length text → PlainRead img text (Err Loan)
     text_refused h =
         record {
           first = then_asked (of_image img) last_two 8 (numbers img) c.first (inl ((λ q. let s = q.short in omega arith), refl));
@@ -79,10 +80,10 @@ module _ (img text : List ℕ) where
           let l = (accepted c).lawful in
           pair_over img text [] l.words short (start img) 0 start-over l.counts.start_rule (omega arith) 4096 (omega arith) [] (grown_none img text []) 0
 
-      pub depth_refused : word < 16 → PlainRead img text (Refused 14)
+      pub depth_refused : word < 16 → PlainRead img text (Err Nesting)
       depth_refused h = go given
         where
-          go : Given → PlainRead img text (Refused 14)
+          go : Given → PlainRead img text (Err Nesting)
           go (fine t d k g i e) =
               let f = was_refused short (omega arith) s.gives h in
               absurd (let z : ◌≡◌ {A = ℕ} 0 1 = cc (f.is, e) in omega arith)
@@ -103,10 +104,10 @@ module _ (img text : List ℕ) where
                 values = (omega arith, λ e. record { value = start_exists.value; evaluated = start_exists.evaluated; above = k });
               }
 
-      pub answered_reading : 16 ≤ word → (x : Reading) → x ≡ reading_of (length text) (value_of word) → PlainRead img text (Read x)
+      pub answered_reading : 16 ≤ word → (x : Reading) → x ≡ reading_of (length text) (value_of word) → PlainRead img text (Ok x)
       answered_reading h x ex = go given
         where
-          go : Given → PlainRead img text (Read x)
+          go : Given → PlainRead img text (Ok x)
           go (deep t d k e) =
               let f = found short (omega arith) s.gives h in
               absurd (let z : ◌≡◌ {A = ℕ} 0 1 = cc (f.is, e) in omega arith)

@@ -1,11 +1,11 @@
 -- The number that the export answers. A refusal is its number; an answered reading has the record's layout: held, matched, zero bits,
 -- nesting, examined, length.
+use Rattle.std.specs.Prelude.{Ok, Err}
 use Rattle.std.specs.Prelude.{◌≡◌, ℕ, Bool, true, false, List}
 use Rattle.records.specs.Words.{record_word}
 use Rattle.reading.specs.declared.plain.Outcome.{Outcome}
 use Rattle.reading.specs.declared.plain.Outcome.TheVariants.{Whole, Part, Nothing}
-use Rattle.reading.specs.declared.plain.PlainAnswer.{PlainAnswer}
-use Rattle.reading.specs.declared.plain.PlainAnswer.TheVariants.{Read, Refused}
+use Rattle.reading.specs.Plain.{PlainAnswer}
 use Rattle.reading.specs.Plain.{PlainRead}
 
 abbrev pub matched_in : Outcome → Bool
@@ -14,8 +14,8 @@ matched_in Part = true
 matched_in Nothing = false
 
 abbrev pub code_of : PlainAnswer → ℕ
-code_of (Refused k) = k
-code_of (Read x) =
+code_of (Err k) = k
+code_of (Ok x) =
     record_word
     (record {
       matched = matched_in x.outcome;

@@ -1,4 +1,5 @@
 -- The plain reading: what it answers, and when it refuses.
+use Rattle.std.specs.Prelude.{Ok, Err}
 use Rattle.std.specs.Prelude.{◌≡◌, ℕ, ◌<◌, ◌≤◌, Bool, true, false, List, [], ◌∷◌, ◌++◌, length, ◌==◌}
 use Rattle.grammar.specs.declared.Evaluation.{Evaluation}
 use Rattle.grammar.specs.Image.{start}
@@ -7,8 +8,6 @@ use Rattle.grammar.specs.Questions.{Question, First, of_image}
 use Rattle.reading.specs.declared.plain.Outcome.{Outcome}
 use Rattle.reading.specs.declared.plain.Outcome.TheVariants.{Whole, Part, Nothing}
 use Rattle.reading.specs.declared.plain.Reading.{Reading}
-use Rattle.reading.specs.declared.plain.PlainAnswer.{PlainAnswer}
-use Rattle.reading.specs.declared.plain.PlainAnswer.TheVariants.{Read, Refused}
 
 -- "A reading is whole (matched, length n), part (matched, shorter) or none"
 abbrev pub Says : Outcome → (n : ℕ) → Evaluation → Type 0
@@ -48,8 +47,8 @@ of_plain img text =
 
 -- The number of each case of an answer; an answered reading has none.
 abbrev pub number_of : PlainAnswer → ℕ
-number_of (Read x) = 0
-number_of (Refused k) = k
+number_of (Ok x) = 0
+number_of (Err k) = k
 
 -- The start pair's evaluation, as the reading reports it.
 pub record Reported (img text : List ℕ) (x : Reading) : Type 0 where
@@ -59,8 +58,8 @@ pub record Reported (img text : List ℕ) (x : Reading) : Type 0 where
 
 -- The values of each case. A refusal has a number, and 14 says that there is an evaluation which is too deep.
 abbrev pub Values : (img text : List ℕ) → PlainAnswer → Type 0
-Values img text (Read x) = Reported img text x
-Values img text (Refused k) = (1 ≤ k) × (k ≡ 14 → TooDeep img text)
+Values img text (Ok x) = Reported img text x
+Values img text (Err k) = (1 ≤ k) × (k ≡ 14 → TooDeep img text)
 
 -- What a plain reading promises.
 pub record PlainRead (img text : List ℕ) (r : PlainAnswer) : Type 0 where

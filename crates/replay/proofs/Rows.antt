@@ -1,11 +1,12 @@
 -- The rows that a listing's answer counts are slots that it was lent: so many words of them can be printed. Assumes nothing.
+use Rattle.std.specs.Prelude.{Ok, Err}
 use Prim.Native.Nat.{ℕ, zero, suc, ◌≤◌}
 use native.Mathlib.Omega.{arith}
 use mathlib.Core.Path.{◌≡◌, refl, ap}
 use mathlib.Core.List.{List}
 use lib.ListN.{length, take, drop, length-append}
-use Rattle.promises.specs.declared.ReadAnswer.{ReadAnswer}
-use Rattle.promises.specs.declared.ListAnswer.{ListAnswer}
+use Rattle.promises.specs.Answers.{ReadAnswer}
+use Rattle.promises.specs.Answers.{ListAnswer}
 use Rattle.promises.specs.declared.SheetReading.{SheetReading}
 use Rattle.promises.specs.Answers.{list_number}
 use Rattle.promises.specs.Listing.{EndsAs, listed, no_slots, zeroed, ThenListed, SheetListed, ListPromise}
@@ -20,14 +21,14 @@ ended (zeroed h) = omega arith
 
 -- An answer with a number has no rows.
 none : (a : ListAnswer) {k : ℕ} → list_number a ≡ k → 1 ≤ k → rows_in a ≡ 0
-none (ListAnswer.Listed x) e h = omega (arith, e, h)
-none (ListAnswer.Refused q) e h = refl
+none (Ok x) e h = omega (arith, e, h)
+none (Err q) e h = refl
 
 module _ (img B : List ℕ) (n : ℕ) (W R : List ℕ) (a : ListAnswer) (W' R' : List ℕ) where
   after_reading :
       (r : ReadAnswer) (words : List ℕ) → ThenListed img (take n B) (length B) W r words R a W' R' → rows_in a ≤ length R'
-  after_reading (ReadAnswer.Read x) words t = ended t.ends
-  after_reading (ReadAnswer.Refused k) words t = omega (arith, ap rows_in t.answer_is)
+  after_reading (Ok x) words t = ended t.ends
+  after_reading (Err k) words t = omega (arith, ap rows_in t.answer_is)
 
   by_number :
       (number : ℕ)

@@ -1,6 +1,7 @@
 -- Over any table the walk ends, gives no more rows than fit, stays in the text, and is refused with 12, 14 or 15 if at all.
 -- Assumes nothing.
 --     node_bounded, pair_bounded    for every loaded grammar, text, table, window and number of rows before
+use Rattle.grammar.specs.declared.refusal.Refusal.{Refusal}
 use Prim.Native.Nat.{ℕ, zero, suc, ◌+◌, ◌%◌, ◌≤◌, ◌<◌}
 use native.Mathlib.Omega.{arith}
 use mathlib.Core.Path.{◌≡◌, refl, ap, ◌∙◌}
@@ -21,7 +22,7 @@ use Rattle.rows.specs.Rows.{row_word}
 use Rattle.rows.specs.Window.{touches}
 use Rattle.rows.specs.Walk.{Walked, walked, stopped, Trail, trail, Walker, bind, after, after_look, part_v, joined, after_first}
 use Rattle.rows.specs.Walk.{after_choice, after_round, rounds_v, met, entered, pair_v, kind_v, node_v}
-use Rattle.rows.specs.Bounds.{Number, impossible, too_deep, no_slot, May, Bounded}
+use Rattle.rows.specs.Bounds.{Stops, impossible, too_deep, no_slot, May, Bounded}
 
 module _ {n room : ℕ} where
   pub answers : {p c len : ℕ} {m : Bool} → p + len ≤ n → c ≤ room → Bounded n room p c (trail (walked m len c) [])
@@ -34,7 +35,7 @@ module _ {n room : ℕ} where
         may = record { in_text = h; counted = omega arith };
       }
 
-  pub refuses : {p c k : ℕ} → Number k → c ≤ room → Bounded n room p c (trail (stopped k) [])
+  pub refuses : {p c : ℕ} {k : Refusal} → Stops k → c ≤ room → Bounded n room p c (trail (stopped k) [])
   refuses {k = k} h few = record { answer = stopped k; words = []; is = refl; fit = omega arith; may = h }
 
   pub next :

@@ -2,6 +2,8 @@
 -- that it gives, in order. It is not the definition of the rows, which is `rows_of`; proofs/ show how the two agree.
 -- A walk has a window: it lists the rows that the window touches and enters no other call. In the window (n + 1, 0), which touches
 -- nothing, it only tells whether a node matches, and how long, from the records.
+use Rattle.grammar.specs.declared.refusal.Refusal.{Refusal}
+use Rattle.grammar.specs.declared.refusal.Refusal.TheVariants.{Records, Nesting, Rows}
 use Rattle.std.specs.Prelude.{ℕ, zero, suc, ◌+◌, ◌%◌, Bool, true, false, not, ◌&&◌, List, [], ◌∷◌, ◌++◌, length, get_or, leb, eqb}
 use Rattle.grammar.specs.declared.node.Node.{Node}
 use Rattle.grammar.specs.declared.node.Node.TheVariants.{Empty, Text, Sequence, Choice, Star, NotPredicate, Call, Unlawful}
@@ -13,10 +15,10 @@ use Rattle.packrat.specs.Loaded.{word_b, word_node, rules_in}
 use Rattle.rows.specs.Rows.{row_word}
 use Rattle.rows.specs.Window.{touches}
 
--- Whether it matched, how long, and how many rows stand then; or the number of the question that failed.
+-- Whether it matched, how long, and how many rows stand then; or the refusal by the question that failed.
 pub data Walked : Type 0 where
   walked : (matched : Bool) (length count : ℕ) → Walked
-  stopped : (number : ℕ) → Walked
+  stopped : Refusal → Walked
 
 -- An answer, and the words of the rows on the way, in order.
 pub data Trail : Type 0 where
@@ -59,12 +61,12 @@ after_choice false len go c = go c
 -- After a round: whether it matched, whether its length is 0, the length of the rounds before it, the rounds after it.
 unfoldable pub after_round : (matched still : Bool) → (before : ℕ) → (ℕ → Trail) → (count : ℕ) → Trail
 after_round false still before more c = trail (walked true before c) []
-after_round true true before more c = trail (stopped 12) []
+after_round true true before more c = trail (stopped Records) []
 after_round true false before more c = more c
 
 -- The rounds of a star that starts at `at`, from the round at `at + before` on, at most as many as the first number.
 unfoldable pub rounds_v : ℕ → (n : ℕ) → Walker → (a at lo hi around before count : ℕ) → Trail
-rounds_v zero n ev a at lo hi k before c = trail (stopped 12) []
+rounds_v zero n ev a at lo hi k before c = trail (stopped Records) []
 rounds_v (suc f) n ev a at lo hi k before c =
     bind (part_v n ev a (at + before) lo hi k c)
     (λ m l c. after_round m (eqb l 0) before (rounds_v f n ev a at lo hi k (before + l)) c)
@@ -72,12 +74,12 @@ rounds_v (suc f) n ev a at lo hi k before c =
 -- A pair that matched, with its row and the walk of its body: whether the window touches it, whether there is no slot for its row.
 unfoldable pub entered : (touched full : Bool) → (len row : ℕ) → (ℕ → Trail) → (count : ℕ) → Trail
 entered false full len row go c = trail (walked true len c) []
-entered true true len row go c = trail (stopped 15) []
+entered true true len row go c = trail (stopped Rows) []
 entered true false len row go c = after (row ∷ []) (bind (go (c + 1)) (λ m l c. trail (walked true len c) []))
 
 -- A pair's word: whether it is held and possible, whether it says that the pair matched.
 unfoldable pub met : (known matched : Bool) → (count : ℕ) → Trail → Trail
-met false matched c go = trail (stopped 12) []
+met false matched c go = trail (stopped Records) []
 met true false c go = trail (walked false 0 c) []
 met true true c go = go
 
@@ -104,11 +106,11 @@ kind_v text nodes called (Star a) at lo hi k c = rounds_v (suc (length text)) (l
 kind_v text nodes called (NotPredicate a) at lo hi k c =
     bind (nodes a at (length text + 1) 0 k c) (λ m l c. trail (walked (not m) 0 c) [])
 kind_v text nodes called (Call r) at lo hi k c = called r at lo hi k c
-kind_v text nodes called Unlawful at lo hi k c = trail (stopped 12) []
+kind_v text nodes called Unlawful at lo hi k c = trail (stopped Records) []
 
 -- A node, with an allowance of nesting.
 unfoldable pub node_v : (room : ℕ) → (ws text table : List ℕ) → (left : ℕ) → Walker
-node_v room ws text table zero i at lo hi k c = trail (stopped 14) []
+node_v room ws text table zero i at lo hi k c = trail (stopped Nesting) []
 node_v room ws text table (suc left) i at lo hi k c =
     kind_v text (node_v room ws text table left)
     (pair_v (rules_in ws) (word_b (get_or ws i 0)) room text table (node_v room ws text table left))

@@ -1,4 +1,5 @@
 -- What the calls leave to be shown: from what their parts gave to their promises. Assumes nothing.
+use Rattle.std.specs.Prelude.{Ok, Err}
 use Prim.Native.Nat.{ℕ, ◌+◌, ◌*◌, ◌≤◌, ◌<◌}
 use native.Mathlib.Omega.{arith}
 use native.Mathlib.Nat.{mul-le-mul}
@@ -10,7 +11,7 @@ use Rattle.grammar.specs.Questions.{First, Accepted}
 use Rattle.records.specs.Words.{value_of}
 use Rattle.packrat.specs.Session.{StartOver}
 use Rattle.editing.specs.Table.{TableLent, cleared_table}
-use Rattle.promises.specs.declared.ReadAnswer.{ReadAnswer}
+use Rattle.promises.specs.Answers.{ReadAnswer}
 use Rattle.promises.specs.Answers.{sheet_reading}
 use Rattle.promises.specs.Questions.{Question8, of_sheet}
 use Rattle.promises.specs.Reading.{ReadPromise}
@@ -53,10 +54,10 @@ module _ (img B : List ℕ) (n : ℕ) (W : List ℕ) (good : First (of_sheet img
     whole-text : StartOver img (take n B) W 0 word after count
     whole-text = subst (λ (k : ℕ). StartOver img (take k B) W 0 word after count) e run
 
-    pub read_refused : word < 16 → ReadPromise img B n W (ReadAnswer.Refused word) (cleared_table (rules img) (length B) after)
+    pub read_refused : word < 16 → ReadPromise img B n W (Err word) (cleared_table (rules img) (length B) after)
     read_refused =
         reads_number img B n W (accepted_image img (length B) n (length W) good) (loan img (length B) n (length W) good) whole-text
 
-    pub read_answered : 16 ≤ word → ReadPromise img B n W (ReadAnswer.Read (sheet_reading n (value_of word) count)) after
+    pub read_answered : 16 ≤ word → ReadPromise img B n W (Ok (sheet_reading n (value_of word) count)) after
     read_answered =
         reads_word img B n W (accepted_image img (length B) n (length W) good) (loan img (length B) n (length W) good) whole-text

@@ -2,6 +2,7 @@
 --     list_refused    where the word is a refusal's number
 --     list_rows       where it is an evaluation's and the walk wrote rows
 --     list_stopped    where the walk stopped
+use Rattle.std.specs.Prelude.{Ok, Err}
 use Prim.Native.Nat.{ℕ, ◌≤◌, ◌<◌}
 use native.Mathlib.Omega.{arith}
 use mathlib.Core.Path.{◌≡◌, sym, subst}
@@ -20,7 +21,7 @@ use Rattle.listing.specs.declared.list.Listed.{Listed}
 use Rattle.listing.specs.declared.list.Listed.TheVariants.{Rows, Refused}
 use Rattle.listing.specs.Listed.{Written, NotWritten, ListedIn, ListedOver}
 use Rattle.editing.specs.Table.{cleared_table}
-use Rattle.promises.specs.declared.ListAnswer.{ListAnswer}
+use Rattle.promises.specs.Answers.{ListAnswer}
 use Rattle.promises.specs.Answers.{sheet_reading}
 use Rattle.promises.specs.Questions.{Question8, of_sheet}
 use Rattle.promises.specs.Listing.{ListPromise}
@@ -69,7 +70,7 @@ module _ (img B : List ℕ) (n : ℕ) (W R : List ℕ) (good : First (of_sheet i
     whole-text : StartOver img (take n B) W 0 word after count
     whole-text = subst (λ (k : ℕ). StartOver img (take k B) W 0 word after count) e run
 
-    pub list_refused : word < 16 → ListPromise img B n W R (ListAnswer.Refused word) (cleared_table (rules img) (length B) after) R
+    pub list_refused : word < 16 → ListPromise img B n W R (Err word) (cleared_table (rules img) (length B) after) R
     list_refused h =
         lists_done img B n W R good
         (refused_listed img (take n B) (length B) W R accepted lent.short fits lent.whole_table
@@ -85,7 +86,7 @@ module _ (img B : List ℕ) (n : ℕ) (W R : List ℕ) (good : First (of_sheet i
       -- The walk wrote so many rows.
       pub list_rows :
           {k : ℕ} → r ≡ Rows k
-          → ListPromise img B n W R (ListAnswer.Listed (record { reading = sheet_reading n (value_of word) count; rows = k })) after R'
+          → ListPromise img B n W R (Ok (record { reading = sheet_reading n (value_of word) count; rows = k })) after R'
       unfolding start_v
       list_rows {k} f =
           let x : Written (start_v (length R) img walk.grammar (take n B) after 0 (length (take n B))) R k R' =
@@ -96,7 +97,7 @@ module _ (img B : List ℕ) (n : ℕ) (W R : List ℕ) (good : First (of_sheet i
           x.is x.fit) in
           same_promise
           (λ i.
-          ListAnswer.Listed
+          Ok
           (record {
             reading = sheet_reading (long i) (sym (says short (omega arith) the_value) i) count;
             rows = sym x.number_is i;
@@ -105,7 +106,7 @@ module _ (img B : List ℕ) (n : ℕ) (W R : List ℕ) (good : First (of_sheet i
 
       pub list_stopped :
           {k : ℕ} → r ≡ Refused k
-          → ListPromise img B n W R (ListAnswer.Refused k) (stopped_words (eqb k 15) img (length B) after) R'
+          → ListPromise img B n W R (Err k) (stopped_words (eqb k 15) img (length B) after) R'
       unfolding start_v
       list_stopped {k} f =
           let x : NotWritten (start_v (length R) img walk.grammar (take n B) after 0 (length (take n B))) R k R' =
