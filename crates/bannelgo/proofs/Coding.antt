@@ -5,12 +5,8 @@ use native.Mathlib.Omega.{arith}
 use mathlib.Core.Path.{◌≡◌, refl, ap}
 use Rattle.reading.specs.declared.plain.Outcome.{Outcome}
 use Rattle.reading.specs.declared.plain.Outcome.TheVariants.{Whole, Part, Nothing}
-use Rattle.promises.specs.Answers.{OpenAnswer}
-use Rattle.promises.specs.Answers.{EditAnswer}
-use Rattle.promises.specs.Answers.{ReadAnswer}
+use Rattle.promises.specs.Answers.{OpenAnswer, EditAnswer, ReadAnswer, LookUpAnswer, ListAnswer}
 use Rattle.promises.specs.declared.SheetReading.{SheetReading}
-use Rattle.promises.specs.Answers.{LookUpAnswer}
-use Rattle.promises.specs.Answers.{ListAnswer}
 use Rattle.bannelgo.specs.declared.fields.Fields.{Fields}
 use Rattle.bannelgo.specs.Fields.{open_fields, edit_fields, reading_fields, read_fields, look_up_fields, list_fields, outcome_number}
 

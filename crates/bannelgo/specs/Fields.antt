@@ -4,12 +4,8 @@ use Rattle.std.specs.Prelude.{Ok, Err}
 use Rattle.std.specs.Prelude.{ℕ}
 use Rattle.reading.specs.declared.plain.Outcome.{Outcome}
 use Rattle.reading.specs.declared.plain.Outcome.TheVariants.{Whole, Part, Nothing}
-use Rattle.promises.specs.Answers.{OpenAnswer}
-use Rattle.promises.specs.Answers.{EditAnswer}
-use Rattle.promises.specs.Answers.{ReadAnswer}
+use Rattle.promises.specs.Answers.{OpenAnswer, EditAnswer, ReadAnswer, LookUpAnswer, ListAnswer}
 use Rattle.promises.specs.declared.SheetReading.{SheetReading}
-use Rattle.promises.specs.Answers.{LookUpAnswer}
-use Rattle.promises.specs.Answers.{ListAnswer}
 use Rattle.bannelgo.specs.declared.fields.Fields.{Fields}
 
 -- A refusal has its number alone.

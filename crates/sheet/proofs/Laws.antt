@@ -11,8 +11,7 @@ use Rattle.grammar.specs.Questions.{First, Accepted}
 use Rattle.records.specs.Words.{value_of}
 use Rattle.packrat.specs.Session.{StartOver}
 use Rattle.editing.specs.Table.{TableLent, cleared_table}
-use Rattle.promises.specs.Answers.{ReadAnswer}
-use Rattle.promises.specs.Answers.{sheet_reading}
+use Rattle.promises.specs.Answers.{ReadAnswer, sheet_reading}
 use Rattle.promises.specs.Questions.{Question8, of_sheet}
 use Rattle.promises.specs.Reading.{ReadPromise}
 use Rattle.promises.proofs.Asked.{sheet_passed}
