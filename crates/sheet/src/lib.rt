@@ -2,7 +2,6 @@
 // number and table content is answered or refused, in the order of the questions.
 #![tactic(auto)]
 
-mod answering;
 pub mod edit;
 pub mod list;
 pub mod look_up;
