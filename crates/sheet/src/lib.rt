@@ -5,6 +5,7 @@
 pub mod edit;
 pub mod list;
 pub mod look_up;
+mod making;
 pub mod open;
 mod questions;
 pub mod read;
