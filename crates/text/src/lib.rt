@@ -12,10 +12,10 @@ pub fn edit_text(text: &mut [u8], n: usize, s: usize, e: usize, replacement: &[u
 {
     let k = replacement.len();
     let rest = &mut text[s..];
-    buffers::bytes::shift(rest, e - s, k, n - e);
-    buffers::bytes::copy(rest, replacement);
+    buffers::shift(rest, e - s, k, n - e);
+    buffers::copy(rest, replacement);
     let end = s + k + (n - e);
-    buffers::bytes::clear(&mut text[end..]);
+    text[end..].fill(0);
     end
 }
 
@@ -24,7 +24,6 @@ pub fn fill(buffer: &mut [u8], text: &[u8])
     requires { length text.now ≤ length buffer.old }
     ensures { buffer.new ≡ opened (length buffer.old) text.now }
 {
-    let n = text.len();
-    buffers::bytes::copy(buffer, text);
-    buffers::bytes::clear(&mut buffer[n..]);
+    buffers::copy(buffer, text);
+    buffer[text.len()..].fill(0);
 }

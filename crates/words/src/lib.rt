@@ -11,7 +11,7 @@ use records::Record;
 pub fn held_bit(word: u64) -> usize
     ensures { (result ≡ held_bit word) × (result < 2) }
 {
-    (word / records::HELD) as usize
+    usize::from(records::is_held(word))
 }
 
 // "a word without its held bit counts as empty"
@@ -26,14 +26,12 @@ pub fn only_held(word: u64) -> u64
 }
 
 // The word where it is held and examined at most `limit` bytes, else 0.
+#[tactic(auto, unfolding(editing::specs::Held::kept_word))]
 pub fn kept_word(word: u64, limit: usize) -> u64
     ensures { result ≡ kept_word limit word }
 {
-    if records::is_held(word) {
-        if records::examined_of(word) <= limit {
-            return word;
-        }
-        return Record::EMPTY;
+    if records::is_held(word) && records::examined_of(word) <= limit {
+        return word;
     }
     Record::EMPTY
 }

@@ -11,4 +11,4 @@ returns-clause-value c =
 pub returns-clause-text_after : goal.returns-clause-text_after
 returns-clause-text_after c =
     let at = c.args in
-    edit_is at.text.now at.replacement.now at.n at.s at.e c.requires _ _ _ c.shift.ensures c.copy.ensures c.clear.ensures
+    edit_is at.text.now at.replacement.now at.n at.s at.e c.requires _ _ _ c.shift.ensures c.copy.ensures (c.fill.ensures.after (λ y e. e))
