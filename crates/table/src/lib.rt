@@ -11,7 +11,7 @@ pub fn clear_table(table: &mut [u64], rules: usize, cap: usize)
     ensures { table.new ≡ cleared_table rules cap table.old }
 {
     let size = rules * (cap + 1);
-    buffers::words::clear(&mut table[0..size]);
+    buffers::clear(&mut table[..size]);
 }
 
 // The table after bytes s to e − 1 of n gave way to k others. Answers the number of pairs standing.
@@ -31,7 +31,7 @@ pub fn edit_table(
 {
     let size = rules * (cap + 1);
     let from = s * rules;
-    let kept = front::keep_front(&mut table[0..from], rules, s);
+    let kept = front::keep_front(&mut table[..from], rules, s);
     let gone = (e - s) * rules;
     let tail = (n - e + 1) * rules;
     let carried = back::edit_back(&mut table[from..size], rules, gone, k * rules, tail);

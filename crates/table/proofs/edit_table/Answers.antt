@@ -41,14 +41,14 @@ edit_back-carried-requires c =
     let F = slots_fit c.args.rules c.requires.edit_fits in
     let whole = c.requires.table_lent.whole in
     let long = front_long (c.args.s * c.args.rules) c.args.table.now c.keep_front-kept.new.part (omega arith) c.keep_front-kept.ensures.filled.long in
-    back_room (c.args.s * c.args.rules) (table_size c.args.rules c.args.cap - c.args.s * c.args.rules) (put_mid 0 (c.args.s * c.args.rules - 0) c.args.table.now c.keep_front-kept.new.part) (omega arith) c.requires.table_lent.most_rules (omega arith) (omega arith) (omega arith)
+    back_room (c.args.s * c.args.rules) (table_size c.args.rules c.args.cap - c.args.s * c.args.rules) (put_mid 0 (c.args.s * c.args.rules) c.args.table.now c.keep_front-kept.new.part) (omega arith) c.requires.table_lent.most_rules (omega arith) (omega arith) (omega arith)
 
 pub overflow_add-result : goal.overflow_add-result
 overflow_add-result c =
     let F = slots_fit c.args.rules c.requires.edit_fits in
     let whole = c.requires.table_lent.whole in
     let long = front_long (c.args.s * c.args.rules) c.args.table.now c.keep_front-kept.new.part (omega arith) c.keep_front-kept.ensures.filled.long in
-    let few = counts_fit (c.args.s * c.args.rules) (table_size c.args.rules c.args.cap - c.args.s * c.args.rules) (put_mid 0 (c.args.s * c.args.rules - 0) c.args.table.now c.keep_front-kept.new.part) c.keep_front-kept.ensures c.edit_back-carried.ensures (omega arith) in
+    let few = counts_fit (c.args.s * c.args.rules) (table_size c.args.rules c.args.cap - c.args.s * c.args.rules) (put_mid 0 (c.args.s * c.args.rules) c.args.table.now c.keep_front-kept.new.part) c.keep_front-kept.ensures c.edit_back-carried.ensures (omega arith) in
     omega arith
 
 pub returns-clause-standing : goal.returns-clause-standing
