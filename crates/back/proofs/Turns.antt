@@ -6,7 +6,7 @@ use mathlib.Core.Bool.{Bool, true, false, cond}
 use mathlib.Core.List.{List}
 use lib.ListN.{length, set}
 use Rattle.buffers.specs.Filled.{Filled, at}
-use Rattle.buffers.proofs.Fill.{none, empty, up, down, fit}
+use Rattle.buffers.proofs.Fill.{empty, up, down, fit}
 use Rattle.records.specs.Words.{is_held}
 use Rattle.editing.specs.Held.{held_bit, only_held, held_to}
 use Rattle.back.specs.Back.{Carried, Put}
@@ -155,12 +155,4 @@ put_over {row} {old} {new} {i} {c} {a} {b} {v} P l d e g =
           let before = held_more (at old) i in
           let count = P.counted in
           omega arith);
-    }
-
--- Where the turns have come to the end.
-pub put_all : {row old new : List ℕ} {i n c : ℕ} → Put row old new i c → i ≡ n → Put row old new n c
-put_all {row} {old} {new} {c = c} P e =
-    record {
-      filled = fit P.filled refl e (λ j p q. refl);
-      counted = ap (λ (x : ℕ). c + held_to (at old) x) (sym e) ∙ P.counted ∙ ap (held_to (at new)) e;
     }

@@ -1,6 +1,6 @@
 -- Rows of the front, piece by piece: a piece that is done adds its words and its count; a scan that shows nothing to drop is a piece done.
 -- Assumes nothing.
-use Prim.Native.Nat.{ℕ, ◌+◌, ◌-◌, ◌*◌, ◌/◌, ◌≤◌, ◌<◌}
+use Prim.Native.Nat.{ℕ, ◌+◌, ◌-◌, ◌*◌, ◌/◌, ◌≤◌, ◌<◌, min}
 use native.Mathlib.Omega.{arith}
 use native.Mathlib.Nat.{mul-add-div_right, div-eq_of_lt, div-lt_iff_lt-mul}
 use mathlib.Core.Path.{◌≡◌, refl, sym, ap, ap₂, ◌∙◌, subst}
@@ -17,6 +17,7 @@ use Rattle.words.specs.Counted.{Counted}
 use Rattle.front.specs.Front.{kept_at, KeptRows, AllStay}
 use Rattle.editing.proofs.Held.{held_add, held_same, held_most}
 use Rattle.words.proofs.Turns.{counted_all}
+use Rattle.front.proofs.Pieces.{Piece}
 use Rattle.words.proofs.Kept as words
 
 -- A row's words in rows that were lent are the words of the whole.
@@ -97,29 +98,37 @@ row_done {mid = mid} R s i k h e fits C D =
     let E = counted_all (one_row R (s - i) w D) (sym e) in
     counted_all (rows_more R s i (i * R) k h refl (omega arith) C E) (omega arith)
 
--- The rows done, and a piece of several rows more: what the part is then, and the count.
+-- A piece that was lent from rows that are as long as the whole.
+abbrev pub words_of : (R row next : ℕ) → List ℕ → List ℕ
+words_of R row next mid = mid_of (row * R) (row * R + next * R - row * R) mid
+
+-- The pieces before one, and that one: what the rows are then, and the count.
 pub piece_done :
-    {c b d begin end : ℕ} {old mid ys new : List ℕ} (R s i rows k : ℕ)
+    (s : ℕ) {c b d : ℕ} {old mid ys new : List ℕ} {R rows size piece next : ℕ}
     → 1 ≤ R
-    → k ≡ rows * R
-    → begin ≡ i
-    → end ≡ i + rows
-    → i * R + rows * R ≤ length old
-    → new ≡ put_mid (i * R) k mid ys
+    → length old ≡ rows * R
+    → Piece R rows size piece next
+    → let row : ℕ = piece * size in
+    new ≡ put_mid (row * R) (row * R + next * R - row * R) mid ys
     → d ≡ b
-    → KeptRows R s 0 old mid (begin * R) c
-    → KeptRows R (s - i) 0 (mid_of (i * R) k mid) ys (rows * R) b
-    → KeptRows R s 0 old new (end * R) (c + d)
-piece_done {c} {b} {d} {begin} {end} {old} {mid} {ys} {new} R s i rows k h e f g fits is count C D =
-    let all : i * R + k ≡ (i + rows) * R = omega arith in
+    → KeptRows R s 0 old mid (min row rows * R) c
+    → KeptRows R (s - row) 0 (words_of R row next mid) ys (next * R) b
+    → KeptRows R s 0 old new (min ((piece + 1) * size) rows * R) (c + d)
+piece_done s {c} {b} {d} {old} {mid} {ys} {new} {R} {rows} {size} {piece} {next} h l P is count C D =
+    let row : ℕ = piece * size in
+    let k : ℕ = row * R + next * R - row * R in
+    let room = P.room in
+    let e : k ≡ next * R = omega arith in
+    let all : row * R + k ≡ (row + next) * R = omega arith in
+    let end : ℕ = min ((piece + 1) * size) rows in
     let E =
     counted_all
-    (rows_more R s i (i * R) k h refl (omega arith) (counted_all C (ap (λ (x : ℕ). x * R) f)) (counted_all D (sym e)))
-    (all ∙ ap (λ (x : ℕ). x * R) (sym g)) in
+    (rows_more R s row (row * R) k h refl (omega arith) (counted_all C (ap (λ (x : ℕ). x * R) P.begins)) (counted_all D (sym e)))
+    (all ∙ ap (λ (x : ℕ). x * R) (sym P.ends)) in
     subst
     (λ (xs : List ℕ). KeptRows R s 0 old xs (end * R) (c + d))
     (sym is)
-    (subst (λ (x : ℕ). KeptRows R s 0 old (put_mid (i * R) k mid ys) (end * R) (c + x)) (sym count) E)
+    (subst (λ (x : ℕ). KeptRows R s 0 old (put_mid (row * R) k mid ys) (end * R) (c + x)) (sym count) E)
 
 -- The count of the rows done and of a part more is at most their words.
 pub counts_fit :
@@ -131,16 +140,26 @@ counts_fit {f} {g} {a = a} {k = k} C D =
     let second = D.counted in
     omega arith
 
+-- The same of a piece: it is within all the rows.
+pub piece_counts :
+    (s : ℕ) {c b d : ℕ} {old mid ys : List ℕ} {R rows size piece next : ℕ}
+    → Piece R rows size piece next
+    → d ≡ b
+    → KeptRows R s 0 old mid (min (piece * size) rows * R) c
+    → KeptRows R (s - piece * size) 0 (words_of R (piece * size) next mid) ys (next * R) b
+    → c + d ≤ rows * R
+piece_counts s {R = R} P e C D =
+    let few = counts_fit C D in let room = P.room in let done = ap (λ (x : ℕ). x * R) P.begins in omega arith
+
 -- A piece of which a scan shows that nothing is to be dropped.
-pub nothing_dropped :
+nothing_dropped :
     {w : List ℕ} {limit held : ℕ} (R s rows : ℕ)
     → 1 ≤ R
-    → rows ≤ s
     → length w ≡ rows * R
     → limit + rows ≡ s + 1
     → AllStay w limit held
     → KeptRows R s 0 w w (rows * R) held
-nothing_dropped {w} {limit} {held} R s rows h o l e S =
+nothing_dropped {w} {limit} {held} R s rows h l e S =
     record {
       filled = kept (rows * R) (none 0) (omega arith) (omega arith) (λ j a b. sym (same j b));
       counted = S.counted ∙ ap (held_to (at w)) l ∙ held_same (at w) (kept_at R s 0 w) (rows * R) (λ j b. sym (same j b));
@@ -155,3 +174,20 @@ nothing_dropped {w} {limit} {held} R s rows h o l e S =
 
     same : (j : ℕ) → j < rows * R → kept_at R s 0 w j ≡ at w j
     same j b = by j b (is_held (at w j)) refl
+
+-- The same of the words of a piece.
+pub piece_stays :
+    {held : ℕ} (s : ℕ) (mid : List ℕ) {R rows size piece next : ℕ}
+    → 1 ≤ R
+    → rows ≤ s
+    → length mid ≡ rows * R
+    → Piece R rows size piece next
+    → AllStay (words_of R (piece * size) next mid) (s - (piece * size + next - 1)) held
+    → KeptRows R (s - piece * size) 0 (words_of R (piece * size) next mid) (words_of R (piece * size) next mid) (next * R) held
+piece_stays {held} s mid {R} {rows} {size} {piece} {next} h o l P S =
+    let row : ℕ = piece * size in
+    let room = P.room in
+    let fits = P.fits in
+    let some = P.some in
+    let long = mid_long (row * R) (row * R + next * R - row * R) mid (omega arith) in
+    nothing_dropped R (s - row) next h (omega arith) (omega arith) S

@@ -2,14 +2,13 @@
 -- neither held nor 0. Assumes nothing.
 use Prim.Native.Nat.{ℕ, ◌+◌, ◌/◌, ◌%◌, ◌^◌, ◌≤◌, ◌<◌}
 use native.Mathlib.Omega.{arith}
-use mathlib.Core.Path.{◌≡◌, refl, sym, ap, ◌∙◌}
-use mathlib.Core.Bool.{false, true≢false}
+use mathlib.Core.Path.{◌≡◌, refl, ap, ◌∙◌}
+use mathlib.Core.Bool.{false}
 use mathlib.Core.List.{List}
 use lib.ListN.{length}
 use lib.Bits.{bit_or, bit_and, or_add_and, and_le_l, and_le_r, or_shr, or_mod}
 use borrow.Author.Count.{below_more}
-use lib.Dec.{leb}
-use borrow.Author.Tests.{leb-true, leb-false}
+use borrow.Author.Tests.{leb-false}
 use Rattle.buffers.specs.Filled.{at}
 use Rattle.records.specs.Words.{is_held, examined_of}
 use Rattle.editing.specs.Held.{held_bit, held_to}

@@ -1,8 +1,8 @@
 -- Which words an edit keeps at their place before s, word by word and row by row. Assumes nothing.
-use Prim.Native.Nat.{ℕ, ◌≤◌, ◌<◌}
-use mathlib.Core.Path.{◌≡◌, refl}
-use mathlib.Core.Bool.{Bool, true, false, cond, ◌&&◌}
-use borrow.Author.Tests.{le-leb, lt-leb}
+use Prim.Native.Nat.{ℕ, ◌≤◌}
+use mathlib.Core.Path.{◌≡◌}
+use mathlib.Core.Bool.{true, false}
+use borrow.Author.Tests.{le-leb}
 use Rattle.records.specs.Words.{is_held, examined_of}
 use Rattle.editing.specs.Held.{kept_word}
 
