@@ -4,6 +4,7 @@ ghost use Rattle.promises.specs.Promises.{EditPromise};
 use crate::questions;
 use grammar::numbers;
 use promises::{EditAnswer, EditedSheet};
+use text::Edit;
 
 // Refused with 1 to 10, it leaves buffer and table as they were.
 pub fn edit(
@@ -34,7 +35,13 @@ pub fn edit(
         return EditAnswer::Refused(numbers::EDIT_ROOM);
     }
     let header = image::header_of(image);
-    let standing = table::edit_table(table, header.rules, cap, n, s, e, k);
-    let length = text::edit_text(buffer, n, s, e, replacement);
+    let edit = Edit {
+        n,
+        s,
+        e,
+        r: replacement,
+    };
+    let standing = table::edit_table(table, header.rules, cap, &edit);
+    let length = text::edit_text(buffer, &edit);
     EditAnswer::Edited(EditedSheet { length, standing })
 }
