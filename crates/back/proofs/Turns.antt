@@ -58,9 +58,6 @@ carried_up {old} {new} {from} {to} {count} {c} {b} {v} i C h l k e d =
       counted = (let more = held_more (λ j. at old (from + j)) i in let count = C.counted in omega arith);
     }
 
-all_carried : {old new : List ℕ} {from to count c : ℕ} → Left old new from to count 0 c → Carried old new from to count c
-all_carried C = record { filled = fit C.filled (omega arith) refl (λ j p q. refl); counted = (let h = C.counted in omega arith) }
-
 -- What a loop has carried in i turns: going up, all but the first count − i words; going down, the first i.
 pub record SoFar (up : Bool) (old new : List ℕ) (from to count i c : ℕ) : Type 0 where
   pub upward : up ≡ true → Left old new from to count (count - i) c
@@ -121,12 +118,6 @@ carried_few true {old} {from = from} {count = count} {i = i} S h =
     omega arith
 carried_few false {old} {from = from} {i = i} S h =
     let most = held_most (λ j. at old (from + j)) i in let e = (S.downward refl).counted in omega arith
-
-pub carried_all : (up : Bool) {old new : List ℕ} {from to count i c : ℕ} → SoFar up old new from to count i c → i ≡ count → Carried old new from to count c
-carried_all true {old} {new} {from} {to} {count} {i} {c} S e =
-    let none : count - i ≡ 0 = omega arith in
-    all_carried (subst (λ (x : ℕ). Left old new from to count x c) none (S.upward refl))
-carried_all false {old} {new} {from} {to} {count} {i} {c} S e = subst (λ (x : ℕ). Carried old new from to x c) e (S.downward refl)
 
 -- A row's word put over another.
 pub put_over :

@@ -49,7 +49,8 @@ fn staying_row(part: &[u64], rules: usize) -> [u64; 64]
     row
 }
 
-// "the first case winning": the words that stay are put over those that came. Answers how many pairs more are held.
+// "the first case winning": the words that stay are put over those that came. Answers how many pairs more are held. They are stored by
+// index: of words written through `iter_mut` in a `zip` a proof knows nothing.
 fn put_row(part: &mut [u64], row: &[u64; 64], rules: usize) -> usize
     requires { (rules ≤ 64) × (rules ≤ length part.old) }
     ensures { Put row.now part.old part.new rules result }

@@ -3,7 +3,7 @@ use Rattle.std.proofs.Common.{rules}
 use native.Mathlib.Omega.{arith}
 use denote.Param.{number}
 use Rattle.back.specs.contracts.carry_in.{UP-type}
-use Rattle.back.proofs.Turns.{none_carried, carried_more, carried_few, carried_all}
+use Rattle.back.proofs.Turns.{none_carried, carried_more, carried_few}
 use Rattle.back.proofs.carry_in.Goals as goal
 use Rattle.back.proofs.carry_in.Goals.{then-this-ne0, else-this-ne0}
 
@@ -25,6 +25,3 @@ loop-i-preserved g c =
           carried_more (UP-type (number g.row.UP)) c.loop-i.invariant c.requires.order c.loop-i-test.true c.requires.in_bounds.0 c.requires.in_bounds.1
           (λ up. absurd (search rules), λ down. w.slot-is) c.held_bit-c.ensures.0 c.only_held.ensures
     ]
-
-pub returns : goal.returns
-returns g c = carried_all (UP-type (number g.row.UP)) c.loop-i.invariant (omega arith)
