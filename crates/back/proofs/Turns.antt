@@ -6,7 +6,7 @@ use mathlib.Core.Bool.{Bool, true, false, cond}
 use mathlib.Core.List.{List}
 use lib.ListN.{length, set}
 use Rattle.buffers.specs.Filled.{Filled, at}
-use Rattle.buffers.proofs.Fill.{empty, up, down, fit}
+use Rattle.buffers.proofs.Fill.{up, down, fit}
 use Rattle.records.specs.Words.{is_held}
 use Rattle.editing.specs.Held.{held_bit, only_held, held_to}
 use Rattle.back.specs.Back.{Carried, Put}
@@ -62,15 +62,6 @@ carried_up {old} {new} {from} {to} {count} {c} {b} {v} i C h l k e d =
 pub record SoFar (up : Bool) (old new : List ℕ) (from to count i c : ℕ) : Type 0 where
   pub upward : up ≡ true → Left old new from to count (count - i) c
   pub downward : up ≡ false → Carried old new from to i c
-
-pub none_carried : (up : Bool) (old : List ℕ) (from to count : ℕ) → SoFar up old old from to count 0 0
-none_carried up old from to count =
-    record {
-      upward = λ e. (let all : count - 0 ≡ count = omega arith in
-          let same = ap (held_to (λ j. at old (from + j))) all in
-          record { filled = empty (omega arith); counted = omega arith });
-      downward = λ e. record { filled = empty (omega arith); counted = refl };
-    }
 
 pub carried_more :
     (up : Bool) {old new : List ℕ} {from to count i slot c b v : ℕ}

@@ -3,12 +3,9 @@ use Rattle.std.proofs.Common.{rules}
 use native.Mathlib.Omega.{arith}
 use denote.Param.{number}
 use Rattle.back.specs.contracts.carry_in.{UP-type}
-use Rattle.back.proofs.Turns.{none_carried, carried_more, carried_few}
+use Rattle.back.proofs.Turns.{carried_more, carried_few}
 use Rattle.back.proofs.carry_in.Goals as goal
 use Rattle.back.proofs.carry_in.Goals.{then-this-ne0, else-this-ne0}
-
-pub loop-i-init : goal.loop-i-init
-loop-i-init g c = none_carried (UP-type (number g.row.UP)) c.args.part.now c.args.from c.args.to c.args.count
 
 pub overflow_add-c : goal.overflow_add-c
 overflow_add-c g c =
