@@ -10,7 +10,7 @@ use Rattle.promises.specs.Promises.{OpenPromise, EditPromise}
 use Rattle.promises.specs.Reading.{ReadPromise}
 use Rattle.promises.specs.Listing.{ListPromise}
 
--- What calls are lent: the image, the text buffer, the table, the row slots of which a listing takes the first, and the text's length.
+-- What calls are lent: the image, the text buffer, the table and the text's length; and the row slots, of which a listing takes the first.
 pub record Lent : Type 0 where
   pub image : List ℕ
   pub buffer : List ℕ

@@ -1,4 +1,6 @@
 // What the calls are lent, and the calls. What is lent is then as the call left it, also where the answer cannot be printed.
+// Each call that writes takes its slices by `&mut`, also those that it only reads: the check covers no `&` to what one field refers to
+// beside a `&mut` to what another does.
 ghost use Rattle.std.specs.Prelude.{◌≡◌, ◌≤◌, ◌<◌, length, take, MatchResult};
 ghost use Rattle.answered.specs.After.{rows_in};
 ghost use Rattle.promises.specs.Promises.{LookUpPromise};
@@ -26,12 +28,12 @@ impl<'a> Model for Desk<'a> {
     ghost Value = { Lent };
 
     ghost view = { λ d. record {
-            image = take d.image_length d.image.now;
-            buffer = take d.cap d.buffer.now;
-            table = take d.words d.table.now;
-            slots = d.slots.now;
-            n = d.n
-        } };
+      image = take d.image_length d.image.now;
+      buffer = take d.cap d.buffer.now;
+      table = take d.words d.table.now;
+      slots = d.slots.now;
+      n = d.n;
+    } };
 
     ghost invariant = { λ d. (d.image_length ≤ length d.image.now) × (d.cap ≤ length d.buffer.now) × (d.words ≤ length d.table.now) };
 }
@@ -88,7 +90,8 @@ impl<'a> Desk<'a> {
     }
 
     pub fn edit(&mut self, s: usize, e: usize, replacement: &[u8]) -> EditAnswer
-        ensures { Edits self.old.image self.old.buffer self.old.n self.old.table s e replacement.now self.new.n self.new.buffer self.new.table }
+        ensures { Edits self.old.image self.old.buffer self.old.n self.old.table s e replacement.now
+            self.new.n self.new.buffer self.new.table }
     {
         let image = &mut self.image[..self.image_length];
         let buffer = &mut self.buffer[..self.cap];
@@ -119,7 +122,8 @@ impl<'a> Desk<'a> {
     // Lends the first `count` row slots.
     fn list_slots(&mut self, count: usize) -> ListAnswer
         requires { count ≤ length self.old.slots }
-        ensures lists_sheet { ListsSheet self.old.image self.old.buffer self.old.n self.old.table (take count self.old.slots) (rows_in result) self.new.table (take count self.new.slots) }
+        ensures lists_sheet { ListsSheet self.old.image self.old.buffer self.old.n self.old.table (take count self.old.slots)
+            (rows_in result) self.new.table (take count self.new.slots) }
         ensures upper_bound { rows_in result ≤ count }
     {
         let image = &mut self.image[..self.image_length];
@@ -129,8 +133,11 @@ impl<'a> Desk<'a> {
         sheet::list::list_sheet(image, buffer, self.n, table, slots)
     }
 
+    // Lists the rows into so many row slots, where there are so many.
     pub fn list(&mut self, count: usize) -> Result<ListAnswer, LineError>
-        ensures { MatchResult result (λ _. ListsInto self.old.image self.old.buffer self.old.n self.old.table count self.new.table) (λ _. length self.old.slots < count) }
+        ensures { MatchResult result
+            (λ _. ListsInto self.old.image self.old.buffer self.old.n self.old.table count self.new.table)
+            (λ _. length self.old.slots < count) }
     {
         if self.slots.len() < count {
             return Err(LineError::TooManySlots);
@@ -138,6 +145,7 @@ impl<'a> Desk<'a> {
         Ok(self.list_slots(count))
     }
 
+    // The row slots, as the listings left them.
     pub fn slots(&self) -> &[u64] {
         self.slots
     }

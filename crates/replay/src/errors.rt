@@ -1,7 +1,6 @@
 // Why a line is not replayed.
 use fields::HexError;
-use std::fmt;
-use std::io;
+use std::{fmt, io};
 
 // What is wrong with a line that gets a message.
 #[derive(Clone, Copy, Debug, PartialEq, Eq)]
@@ -32,7 +31,7 @@ impl From<HexError> for LineError {
     }
 }
 
-// What ends a line: a message, or output or memory that failed, which ends the program.
+// What ends a line early: a message, or output that failed, which ends the program.
 #[derive(Debug, Drop)]
 pub enum Failure {
     Line(LineError),
@@ -42,12 +41,6 @@ pub enum Failure {
 impl From<LineError> for Failure {
     fn from(error: LineError) -> Failure {
         Failure::Line(error)
-    }
-}
-
-impl From<HexError> for Failure {
-    fn from(error: HexError) -> Failure {
-        Failure::Line(LineError::from(error))
     }
 }
 

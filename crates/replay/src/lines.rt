@@ -18,12 +18,19 @@ fn perform(
         Request::Image(image) => desk.keep_image(image)?,
         Request::Lend(cap, words) => desk.lend(cap, words)?,
         Request::Open(bytes) => println!(rt; "{line} open: {}", Shown(desk.open(bytes)))?,
-        Request::Edit(s, e, bytes) => println!(rt; "{line} edit: {}", Shown(desk.edit(s, e, bytes)))?,
+        Request::Edit(s, e, bytes) => println!(rt;
+            "{line} edit: {}",
+            Shown(desk.edit(s, e, bytes))
+        )?,
         Request::Read => println!(rt; "{line} read: {}", Shown(desk.read()))?,
-        Request::Look(rule, position) => println!(rt; "{line} look: {}", Shown(desk.look_up(rule, position)))?,
+        Request::Look(rule, position) => println!(rt;
+            "{line} look: {}",
+            Shown(desk.look_up(rule, position))
+        )?,
         Request::List(count) => {
             let answer = desk.list(count)?;
-            println!(rt; "{line} list: {}", Listed { answer, slots: desk.slots() })?;
+            let slots = desk.slots();
+            println!(rt; "{line} list: {}", Listed { answer, slots })?;
         }
     }
     Ok(())

@@ -19,7 +19,11 @@ impl fmt::Display for Shown<OpenAnswer> {
 impl fmt::Display for Shown<EditAnswer> {
     fn fmt<W: fmt::Write>(&self, f: &mut fmt::Formatter<W>) -> fmt::Result {
         match self.0 {
-            EditAnswer::Edited(sheet) => write!(f, "length {}, standing {}", sheet.length, sheet.standing),
+            EditAnswer::Edited(sheet) => write!(
+                f,
+                "length {}, standing {}",
+                sheet.length, sheet.standing
+            ),
             EditAnswer::Refused(number) => write!(f, "refused {number}"),
         }
     }
