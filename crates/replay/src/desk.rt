@@ -1,7 +1,7 @@
 // What the calls are lent, and the calls. What is lent is then as the call left it, also where the answer cannot be printed.
 // Each call that writes takes its slices by `&mut`, also those that it only reads: the check covers no `&` to what one field refers to
 // beside a `&mut` to what another does.
-ghost use Rattle.std.specs.Prelude.{◌≡◌, ◌≤◌, ◌<◌, length, take, MatchResult};
+ghost use Rattle.std.specs.Prelude.{◌≡◌, ◌≤◌, ◌<◌, length, take, IfOk, MatchResult};
 ghost use Rattle.answered.specs.After.{rows_in};
 ghost use Rattle.promises.specs.Promises.{LookUpPromise};
 ghost use Rattle.replay.specs.Calls.{Lent, Opens, Edits, ReadsSheet, ListsSheet, ListsInto};
@@ -38,6 +38,14 @@ impl<'a> Model for Desk<'a> {
     ghost invariant = { λ d. (d.image_length ≤ length d.image.now) × (d.cap ≤ length d.buffer.now) × (d.words ≤ length d.table.now) };
 }
 
+// A function of its own: through the field of a struct the check loses what the slice holds afterwards.
+fn copy_front(place: &mut [u8], bytes: &[u8])
+    requires { length bytes.now ≤ length place.old }
+    ensures { (take (length bytes.now) place.new ≡ bytes.now) × (length place.new ≡ length place.old) }
+{
+    place[..bytes.len()].copy_from_slice(bytes);
+}
+
 impl<'a> Desk<'a> {
     // With no image, and nothing lent yet.
     pub fn new(
@@ -45,7 +53,9 @@ impl<'a> Desk<'a> {
         buffer: &'a mut [u8],
         table: &'a mut [u64],
         slots: &'a mut [u64],
-    ) -> Desk<'a> {
+    ) -> Desk<'a>
+        ensures { (length result.image ≡ 0) × (length result.buffer ≡ 0) × (length result.table ≡ 0) × (result.n ≡ 0) }
+    {
         Desk {
             image,
             buffer,
@@ -59,17 +69,21 @@ impl<'a> Desk<'a> {
     }
 
     // The image that later calls are lent.
-    pub fn keep_image(&mut self, image: &[u8]) -> Result<(), LineError> {
+    pub fn keep_image(&mut self, image: &[u8]) -> Result<(), LineError>
+        ensures { IfOk result (λ _. self.new.image ≡ image.now) }
+    {
         if self.image.len() < image.len() {
             return Err(LineError::TooLong);
         }
-        self.image[..image.len()].copy_from_slice(image);
+        copy_front(self.image, image);
         self.image_length = image.len();
         Ok(())
     }
 
     // How much later calls are lent.
-    pub fn lend(&mut self, cap: usize, words: usize) -> Result<(), LineError> {
+    pub fn lend(&mut self, cap: usize, words: usize) -> Result<(), LineError>
+        ensures { IfOk result (λ _. (length self.new.buffer ≡ cap) × (length self.new.table ≡ words)) }
+    {
         if self.buffer.len() < cap || self.table.len() < words {
             return Err(LineError::TooMuchLent);
         }
@@ -146,7 +160,9 @@ impl<'a> Desk<'a> {
     }
 
     // The row slots, as the listings left them.
-    pub fn slots(&self) -> &[u64] {
+    pub fn slots(&self) -> &[u64]
+        ensures { result.now ≡ self.now.slots }
+    {
         self.slots
     }
 }
