@@ -1,5 +1,6 @@
 -- The laws of the first place that has a byte: it has it, no place before it does, and where there is none no place does. Assumes nothing.
-use Rattle.std.proofs.Common.{ℕ, suc, ◌+◌, ◌-◌, ◌≤◌, ◌<◌, ◌≡◌, ◌≢◌, inl, inr, ◌==◌, List, [], ◌∷◌, ◌++◌, length, get_or, take, drop, arith, refl, sym, ap, Bool, cond, ◌∙◌, Some, None}
+use Rattle.std.proofs.Common.{ℕ, suc, ◌+◌, ◌-◌, ◌≤◌, ◌<◌, ◌≡◌, ◌≢◌, inl, ◌==◌, List, ◌∷◌, ◌++◌, length, get_or, take, drop, arith, sym, ap, Bool, cond, ◌∙◌}
+use Rattle.std.specs.Prelude.{Some, None, Option, IfNone}
 use Rattle.std.specs.List.{position, position_or_len}
 use Rattle.std.proofs.lemmas.Bool.{eqb-true, eqb-false}
 use Rattle.std.proofs.lemmas.Grind.{common_steps}
@@ -62,22 +63,21 @@ module _ (byte : ℕ) (xs : List ℕ) (from : ℕ) where
       let l = long h in
       λ q. misses byte rest (k - from) e (omega arith) (read k a b ∙ q)
 
+pub if_none : (o : Option ℕ) {P : Type 0} → P → IfNone o P
+if_none (Some x) p = tt
+if_none None p = p
+
 -- A line is cut at its first space.
 pub cut_at :
-    (xs : List ℕ) (i : ℕ) → position (λ b. b == 32) xs ≡ Some i
+    (xs : List ℕ) (i : ℕ) → i < length xs → get_or xs i 0 ≡ 32 → ((k : ℕ) → 0 ≤ k → k < i → get_or xs k 0 ≢ 32)
     → FieldOf xs (take i xs) (take (length xs - (i + 1)) (drop (i + 1) xs))
-cut_at xs i e =
-    let n = inside 32 xs i e in
-    let h = has 32 xs i e in
+cut_at xs i n h b =
     let p : suc i ≡ i + 1 = omega arith in
     let s = split_at xs i 0 n ∙ ap (λ (x : ℕ). take i xs ++ get_or xs i 0 ∷ drop x xs) p in
     let l : length (take i xs) ≡ i = grind (arith, common_steps) in
     let r : take (length xs - (i + 1)) (drop (i + 1) xs) ≡ drop (i + 1) xs = grind (arith, common_steps) in (
       λ k m.
           let g : get_or (take i xs) k 0 ≡ get_or xs k 0 = grind (arith, common_steps) in
-          λ q. before 32 xs i k e (omega arith) (sym g ∙ q),
+          λ q. b k (omega arith) (omega arith) (sym g ∙ q),
       inl (s ∙ ap (λ (x : ℕ). take i xs ++ x ∷ drop (i + 1) xs) h ∙ ap (λ (t : List ℕ). take i xs ++ 32 ∷ t) (sym r)),
     )
-
-pub uncut : (xs : List ℕ) → position (λ b. b == 32) xs ≡ None → FieldOf xs xs []
-uncut xs e = (λ k m. misses 32 xs k e m, inr (refl, refl))

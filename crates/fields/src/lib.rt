@@ -1,7 +1,7 @@
 // The fields of a line: where they lie, decimal numbers, and bytes in hexadecimal digits.
 #![tactic(auto)]
 
-ghost use Rattle.std.specs.Prelude.{ℕ, ◌+◌, ◌*◌, ◌≤◌, ◌<◌, ◌≡◌, ◌≢◌, length, slice_index, IfOk, SomeIff, ◌==◌};
+ghost use Rattle.std.specs.Prelude.{ℕ, ◌+◌, ◌*◌, ◌≤◌, ◌<◌, ◌≡◌, ◌≢◌, length, slice_index, IfOk, IfSome, IfNone, SomeIff, ◌==◌};
 ghost use Rattle.std.specs.List.{position};
 ghost use Rattle.fields.specs.Fields.{DecimalOf, hex_value, byte_at, HexOf, FieldOf};
 
@@ -12,25 +12,23 @@ fn first_place(line: &[u8], byte: u8) -> Option<usize>
     line.iter().position(|b| *b == byte)
 }
 
-// The first place at or past `from` that has this byte, or the end of the line.
-pub fn place_of(line: &[u8], from: usize, byte: u8) -> usize
+// The first place at or past `from` that has this byte, where there is one.
+pub fn place_of(line: &[u8], from: usize, byte: u8) -> Option<usize>
     requires { from ≤ length line.now }
-    ensures from_on { from ≤ result }
-    ensures within { result ≤ length line.now }
-    ensures before { (k : ℕ) → from ≤ k → k < result → slice_index line.now k ≢ byte }
-    ensures found { result < length line.now → slice_index line.now result ≡ byte }
+    ensures from_on { IfSome result (λ place. from ≤ place) }
+    ensures within { IfSome result (λ place. place < length line.now) }
+    ensures before { IfSome result (λ place. (k : ℕ) → from ≤ k → k < place → slice_index line.now k ≢ byte) }
+    ensures found { IfSome result (λ place. slice_index line.now place ≡ byte) }
+    ensures none { IfNone result ((k : ℕ) → from ≤ k → k < length line.now → slice_index line.now k ≢ byte) }
 {
-    match first_place(&line[from..], byte) {
-        Some(place) => from + place,
-        None => line.len(),
-    }
+    Some(from + first_place(&line[from..], byte)?)
 }
 
 // The first field of a line, and what follows it behind one space.
 pub fn first_field(line: &[u8]) -> (&[u8], &[u8])
     ensures { FieldOf line.now result.0.now result.1.now }
 {
-    match first_place(line, b' ') {
+    match place_of(line, 0, b' ') {
         Some(place) => (&line[..place], &line[place + 1..]),
         None => (line, &[]),
     }
@@ -85,6 +83,7 @@ pub fn hex(field: &[u8], given: &mut [u8]) -> Result<usize, HexError>
     if given.len() < count {
         return Err(HexError::TooLong);
     }
+    // By index: of what a chain over `iter_mut` writes, the check knows nothing afterwards.
     for i in 0..count {
         given[i] = byte_of(field[2 * i], field[2 * i + 1]).ok_or(HexError::NotHex)?;
     }

@@ -1,10 +1,7 @@
 -- `fields::first_field` meets its contract: a line is cut at its first space. Assumes nothing.
-use Rattle.std.proofs.Common.{sym}
-use Rattle.fields.proofs.Places.{cut_at, uncut}
+use Rattle.fields.proofs.Places.{cut_at}
 use Rattle.fields.proofs.first_field.Goals as goal
 
 pub returns-in-Some : goal.returns-in-Some
-returns-in-Some c = cut_at c.args.line.now c.in-Some.place (sym c.in-Some.ensures)
-
-pub returns-in-None : goal.returns-in-None
-returns-in-None c = uncut c.args.line.now (sym c.in-None.ensures)
+returns-in-Some c =
+    let e = c.in-Some.ensures in cut_at c.args.line.now c.in-Some.place e.within e.found e.before
