@@ -1,6 +1,6 @@
 // What the calls are lent, and the calls. What is lent is then as the call left it, also where the answer cannot be printed.
-// Each call that writes takes its slices by `&mut`, also those that it only reads: the check covers no `&` to what one field refers to
-// beside a `&mut` to what another does.
+// Each call cuts its slices itself: a function that lent them all would have to say how what is written comes back. A call that writes takes
+// all by `&mut`, also what it only reads: the check covers no `&` to what one field refers to beside a `&mut` to what another does.
 ghost use Rattle.std.specs.Prelude.{◌≡◌, ◌≤◌, ◌<◌, length, take, IfOk, MatchResult};
 ghost use Rattle.answered.specs.After.{rows_in};
 ghost use Rattle.promises.specs.Promises.{LookUpPromise};
