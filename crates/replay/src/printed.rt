@@ -10,8 +10,8 @@ pub struct Shown<T>(pub T);
 impl fmt::Display for Shown<OpenAnswer> {
     fn fmt<W: fmt::Write>(&self, f: &mut fmt::Formatter<W>) -> fmt::Result {
         match self.0 {
-            OpenAnswer::Opened(length) => write!(f, "length {length}"),
-            OpenAnswer::Refused(number) => write!(f, "refused {number}"),
+            Ok(length) => write!(f, "length {length}"),
+            Err(refusal) => write!(f, "refused {refusal}"),
         }
     }
 }
@@ -19,12 +19,12 @@ impl fmt::Display for Shown<OpenAnswer> {
 impl fmt::Display for Shown<EditAnswer> {
     fn fmt<W: fmt::Write>(&self, f: &mut fmt::Formatter<W>) -> fmt::Result {
         match self.0 {
-            EditAnswer::Edited(sheet) => write!(
+            Ok(sheet) => write!(
                 f,
                 "length {}, standing {}",
                 sheet.length, sheet.standing
             ),
-            EditAnswer::Refused(number) => write!(f, "refused {number}"),
+            Err(refusal) => write!(f, "refused {refusal}"),
         }
     }
 }
@@ -59,8 +59,8 @@ impl fmt::Display for Shown<SheetReading> {
 impl fmt::Display for Shown<ReadAnswer> {
     fn fmt<W: fmt::Write>(&self, f: &mut fmt::Formatter<W>) -> fmt::Result {
         match self.0 {
-            ReadAnswer::Read(found) => write!(f, "{}", Shown(found)),
-            ReadAnswer::Refused(number) => write!(f, "refused {number}"),
+            Ok(found) => write!(f, "{}", Shown(found)),
+            Err(refusal) => write!(f, "refused {refusal}"),
         }
     }
 }
@@ -68,8 +68,8 @@ impl fmt::Display for Shown<ReadAnswer> {
 impl fmt::Display for Shown<LookUpAnswer> {
     fn fmt<W: fmt::Write>(&self, f: &mut fmt::Formatter<W>) -> fmt::Result {
         match self.0 {
-            LookUpAnswer::Word(word) => write!(f, "word {word:016x}"),
-            LookUpAnswer::Refused(number) => write!(f, "refused {number}"),
+            Ok(word) => write!(f, "word {word:016x}"),
+            Err(refusal) => write!(f, "refused {refusal}"),
         }
     }
 }
@@ -84,14 +84,14 @@ pub struct Listed<'a> {
 impl fmt::Display for Listed<'_> {
     fn fmt<W: fmt::Write>(&self, f: &mut fmt::Formatter<W>) -> fmt::Result {
         match self.answer {
-            ListAnswer::Listed(listing) => {
+            Ok(listing) => {
                 write!(f, "{}, rows {}", Shown(listing.reading), listing.rows)?;
                 for word in self.slots.iter().take(listing.rows) {
                     write!(f, " {word:016x}")?;
                 }
                 Ok(())
             }
-            ListAnswer::Refused(number) => write!(f, "refused {number}"),
+            Err(refusal) => write!(f, "refused {refusal}"),
         }
     }
 }
