@@ -1,10 +1,6 @@
 -- What the sheet's exported calls promise: the fields of an answer that keeps the call's promise.
 use Rattle.std.specs.Prelude.{ℕ, ◌≡◌, List}
-use Rattle.promises.specs.Answers.{OpenAnswer}
-use Rattle.promises.specs.Answers.{EditAnswer}
-use Rattle.promises.specs.Answers.{ReadAnswer}
-use Rattle.promises.specs.Answers.{LookUpAnswer}
-use Rattle.promises.specs.Answers.{ListAnswer}
+use Rattle.promises.specs.Answers.{OpenAnswer, EditAnswer, ReadAnswer, LookUpAnswer, ListAnswer}
 use Rattle.promises.specs.Promises.{OpenPromise, EditPromise, LookUpPromise}
 use Rattle.promises.specs.Reading.{ReadPromise}
 use Rattle.promises.specs.Listing.{ListPromise}

@@ -1,15 +1,12 @@
 -- The seven numbers of each case of each answer: number (0 when answered), outcome (0 nothing, 1 part, 2 whole), length, examined, nesting,
 -- evaluations, value. Those that a call does not use are 0.
+use Rattle.grammar.specs.Refusals.{number}
 use Rattle.std.specs.Prelude.{Ok, Err}
 use Rattle.std.specs.Prelude.{ℕ}
 use Rattle.reading.specs.declared.plain.Outcome.{Outcome}
 use Rattle.reading.specs.declared.plain.Outcome.TheVariants.{Whole, Part, Nothing}
-use Rattle.promises.specs.Answers.{OpenAnswer}
-use Rattle.promises.specs.Answers.{EditAnswer}
-use Rattle.promises.specs.Answers.{ReadAnswer}
+use Rattle.promises.specs.Answers.{OpenAnswer, EditAnswer, ReadAnswer, LookUpAnswer, ListAnswer}
 use Rattle.promises.specs.declared.SheetReading.{SheetReading}
-use Rattle.promises.specs.Answers.{LookUpAnswer}
-use Rattle.promises.specs.Answers.{ListAnswer}
 use Rattle.bannelgo.specs.declared.fields.Fields.{Fields}
 
 -- A refusal has its number alone.
@@ -19,18 +16,18 @@ refusal k = record { number = k; outcome = 0; length = 0; examined = 0; nesting 
 -- An opening: the length is the text's.
 abbrev pub open_fields : OpenAnswer → Fields
 open_fields (Ok n) = record { number = 0; outcome = 0; length = n; examined = 0; nesting = 0; evaluations = 0; value = 0 }
-open_fields (Err k) = refusal k
+open_fields (Err r) = refusal (number r)
 
 -- An edit: the new length, and as value the number of pairs standing.
 abbrev pub edit_fields : EditAnswer → Fields
 edit_fields (Ok x) =
     record { number = 0; outcome = 0; length = x.length; examined = 0; nesting = 0; evaluations = 0; value = x.standing }
-edit_fields (Err k) = refusal k
+edit_fields (Err r) = refusal (number r)
 
 -- A look-up: the value is the word.
 abbrev pub look_up_fields : LookUpAnswer → Fields
 look_up_fields (Ok w) = record { number = 0; outcome = 0; length = 0; examined = 0; nesting = 0; evaluations = 0; value = w }
-look_up_fields (Err k) = refusal k
+look_up_fields (Err r) = refusal (number r)
 
 abbrev pub outcome_number : Outcome → ℕ
 outcome_number Nothing = 0
@@ -42,10 +39,10 @@ abbrev pub reading_fields : SheetReading → (value : ℕ) → Fields
 reading_fields x value =
     record {
       number = 0;
-      outcome = outcome_number x.outcome;
-      length = x.length;
-      examined = x.examined;
-      nesting = x.nesting;
+      outcome = outcome_number x.reading.outcome;
+      length = x.reading.length;
+      examined = x.reading.examined;
+      nesting = x.reading.nesting;
       evaluations = x.evaluations;
       value = value;
     }
@@ -53,9 +50,9 @@ reading_fields x value =
 -- A reading: all but the value.
 abbrev pub read_fields : ReadAnswer → Fields
 read_fields (Ok x) = reading_fields x 0
-read_fields (Err k) = refusal k
+read_fields (Err r) = refusal (number r)
 
 -- A listing: its reading, and as value the number of rows.
 abbrev pub list_fields : ListAnswer → Fields
 list_fields (Ok x) = reading_fields x.reading x.rows
-list_fields (Err k) = refusal k
+list_fields (Err r) = refusal (number r)

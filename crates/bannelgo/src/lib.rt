@@ -15,7 +15,10 @@ use fields::Fields;
 pub extern "C" fn bannelgo_check_image(image: &[u8]) -> u64
     ensures { Checked image.now result }
 {
-    checker::check(image) as u64
+    match checker::check(image) {
+        Ok(()) => 0,
+        Err(refusal) => u64::from(refusal),
+    }
 }
 
 // The code of the plain reading of a text by an image.

@@ -12,3 +12,4 @@ pub mod OneCharacter
 pub mod Folding
 pub mod Determinism
 pub mod Tests
+pub mod Refusals

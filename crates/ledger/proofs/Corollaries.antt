@@ -3,6 +3,10 @@
 --     only_these_numbers    1 to 8, 12 and 13 never occur
 --     as_plain              a reading answers what the plain reading answers, with the number of pairs reached and not held
 --     lists_as_plain        a listing answers that too, with the text's rows, or 15 exactly where they do not fit
+use Rattle.grammar.specs.declared.refusal.Refusal.{Refusal}
+use Rattle.grammar.specs.Refusals.{number}
+use Rattle.grammar.proofs.Refusals.{number_bounds, same_refusal}
+use Rattle.grammar.specs.Refusals.{number_in}
 use Rattle.std.specs.Prelude.{Ok, Err}
 use Rattle.grammar.specs.declared.refusal.Refusal.TheVariants.{Nesting}
 use Prim.Native.Nat.{ℕ, ◌≤◌, ◌<◌}
@@ -25,10 +29,8 @@ use Rattle.reading.specs.declared.plain.Reading.{Reading}
 use Rattle.reading.specs.Plain.{PlainAnswer}
 use Rattle.reading.specs.Plain.{Says, Reports, ShortText, DepthAllowed, of_plain, PlainRead, outcome_of}
 use Rattle.editing.specs.Table.{table_size}
-use Rattle.promises.specs.Answers.{ReadAnswer}
-use Rattle.promises.specs.Answers.{ListAnswer}
+use Rattle.promises.specs.Answers.{ReadAnswer, ListAnswer, sheet_reading}
 use Rattle.promises.specs.declared.SheetReading.{SheetReading}
-use Rattle.promises.specs.Answers.{sheet_reading, read_number, list_number}
 use Rattle.promises.specs.Reading.{ReadPromise}
 use Rattle.promises.specs.Listing.{ListPromise}
 use Rattle.ledger.specs.Ledger.{Evaluations, Call, edit, reading, look_up, listing, Reply, edits, reads, finds, lists, Ledger, opened_ledger, turn, replies}
@@ -82,9 +84,9 @@ only_these_numbers img text B₀ W₀ B W n p calls answers img' B' W' n' t =
 
 -- The answer of a listing's reply, and its rows.
 abbrev listing_in : Reply → ListAnswer
-listing_in (edits a) = Err 0
-listing_in (reads a) = Err 0
-listing_in (finds a) = Err 0
+listing_in (edits a) = Err Nesting
+listing_in (reads a) = Err Nesting
+listing_in (finds a) = Err Nesting
 listing_in (lists a rows) = a
 
 abbrev rows_of_reply : Reply → List ℕ
@@ -136,10 +138,13 @@ module _ (img text : List ℕ) (accepted : Accepted img) (short : length text �
         (λ i.
         Ok
         (record {
-          outcome = outcome_is y.outcome (length text) v r.outcome_is i;
-          length = r.length_is i;
-          examined = r.examined_is i;
-          nesting = r.nesting_is i;
+          reading =
+              record {
+                outcome = outcome_is y.outcome (length text) v r.outcome_is i;
+                length = r.length_is i;
+                examined = r.examined_is i;
+                nesting = r.nesting_is i;
+              };
           evaluations = count;
         }))
 
@@ -149,23 +154,23 @@ module _ (img text : List ℕ) (accepted : Accepted img) (short : length text �
         (sym (le-leb z.nesting 4096 (allowed 0 (own 0 p.first) refl)))
         (reported y p.values.value count (one img text bodies_only p.values.evaluated e) p.values.reports)
     plain-answer (Err k) count p =
-        let n = is-14 k (own k p.first) p.values.0 in
-        let d = p.values.1 n in
+        let n = same_refusal (is-14 (number k) (own (number k) p.first) (number_bounds k).0) in
+        let d = p.values n in
         let same = ap (λ (x : Evaluation). x.nesting) (one img text bodies_only d.evaluated e) in
         let deep : 4096 < z.nesting = omega (arith, d.above) in
         subst (λ (b : Bool). Answered (length text) z b (Err k) count)
-        (sym (lt-leb z.nesting 4096 deep)) (ap ReadAnswer.Refused (sym n))
+        (sym (lt-leb z.nesting 4096 deep)) (ap Err (sym n))
 
 -- The reading of an answer that has one.
 abbrev reading_or : ReadAnswer → SheetReading
 reading_or (Ok x) = x
-reading_or (Err k) = record { outcome = Outcome.Nothing; length = 0; examined = 0; nesting = 0; evaluations = 0 }
+reading_or (Err r) = record { reading = record { outcome = Outcome.Nothing; length = 0; examined = 0; nesting = 0 }; evaluations = 0 }
 
 abbrev is_read : ReadAnswer → Bool
 is_read (Ok x) = true
 is_read (Err k) = false
 
-refused_not_read : {x : SheetReading} {k : ℕ} → Ok x ≡ Err k → ⊥
+refused_not_read : {x : SheetReading} {r : Refusal} → ◌≡◌ {A = ReadAnswer} (Ok x) (Err r) → ⊥
 refused_not_read e = true≢false (ap is_read e)
 
 -- The plain reading of the ledger's text.
@@ -197,15 +202,15 @@ module _ {ev : Evaluations} {cap : ℕ} {rest : List ℕ} {l : Ledger} {B : List
 
     -- A listing: the answer that the plain reading's is made into.
     abbrev AsListing : (slots : ℕ) (a : ListAnswer) (rows : List ℕ) → Type 0
-    AsListing slots a rows = (a ≡ in_listing x (new_pairs ev l) slots (rows_in ev l)) × (list_number a ≡ 0 → rows ≡ rows_in ev l)
+    AsListing slots a rows = (a ≡ in_listing x (new_pairs ev l) slots (rows_in ev l)) × (number_in a ≡ 0 → rows ≡ rows_in ev l)
 
     -- By the answers to questions 14 and 15.
     by-questions :
         (slots : ℕ) (b c : Bool) → passes15 ev l slots ≡ c → (y : PlainAnswer)
         → Answered (length l.text) (value_in ev l (start l.image) 0) b y (new_pairs ev l)
         → listing_in (list_turn ev b c l).reply ≡ in_listing y (new_pairs ev l) slots (rows_in ev l)
-    by-questions slots false c e (Ok y) f = absurd (let z : ◌≡◌ {A = ℕ} 14 0 = ap read_number f in omega arith)
-    by-questions slots false c e (Err k) f = ap ListAnswer.Refused (ap read_number f)
+    by-questions slots false c e (Ok y) f = absurd (let z : ◌≡◌ {A = ℕ} 14 0 = ap number_in f in omega arith)
+    by-questions slots false c e (Err k) f = ap Err (same_refusal (ap number_in f))
     by-questions slots true c e (Err k) f = absurd (refused_not_read f)
     by-questions slots true true e (Ok y) f =
         ap (λ (r : ReadAnswer). Ok (record { reading = reading_or r; rows = length (rows_in ev l) })) f
@@ -214,7 +219,7 @@ module _ {ev : Evaluations} {cap : ℕ} {rest : List ℕ} {l : Ledger} {B : List
         ap (λ (b : Bool). rows_if b (reading_or (in_session (Ok y) (new_pairs ev l))) (rows_in ev l)) (sym e)
 
     -- An answered listing's reply has the ledger's rows.
-    by_number : (b c : Bool) → list_number (listing_in (list_turn ev b c l).reply) ≡ 0 → rows_of_reply (list_turn ev b c l).reply ≡ rows_in ev l
+    by_number : (b c : Bool) → number_in (listing_in (list_turn ev b c l).reply) ≡ 0 → rows_of_reply (list_turn ev b c l).reply ≡ rows_in ev l
     by_number false c e = absurd (omega arith)
     by_number true false e = absurd (omega arith)
     by_number true true e = refl
@@ -228,7 +233,7 @@ module _ {ev : Evaluations} {cap : ℕ} {rest : List ℕ} {l : Ledger} {B : List
           ap listing_in e ∙ by-questions (length R) (passes14 ev l) (passes15 ev l (length R)) refl x given,
           λ k.
               ap rows_of_reply e
-              ∙ by_number (passes14 ev l) (passes15 ev l (length R)) (sym (ap (λ (r : Reply). list_number (listing_in r)) e) ∙ k),
+              ∙ by_number (passes14 ev l) (passes15 ev l (length R)) (sym (ap (λ (r : Reply). number_in (listing_in r)) e) ∙ k),
         )
 
 plain_after :
@@ -242,7 +247,7 @@ list_after :
     (ev : Evaluations) (cap : ℕ) (rest : List ℕ) {l : Ledger} {img B W : List ℕ} {n : ℕ} → Holds ev cap rest l (loan img B n W)
     → (R : List ℕ) (a : ListAnswer) (W' R' : List ℕ) → ListPromise img B n W R a W' R'
     → (x : PlainAnswer) → PlainRead img (take n B) x
-    → (a ≡ in_listing x (new_pairs ev l) (length R) (rows_in ev l)) × (list_number a ≡ 0 → rows_given a R' ≡ rows_in ev l)
+    → (a ≡ in_listing x (new_pairs ev l) (length R) (rows_in ev l)) × (number_in a ≡ 0 → rows_given a R' ≡ rows_in ev l)
 list_after ev cap rest (holds v) R a W' R' p x q = list-plain v x q p
 
 pub as_plain : AsPlain

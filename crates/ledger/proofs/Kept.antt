@@ -1,5 +1,7 @@
 -- How a function keeps a call's promise: the promise of each kind of answer, from the questions and from what was written. The reading's
 -- are in SheetReads.antt of crate promises. Assumes nothing.
+use Rattle.grammar.specs.declared.refusal.Refusal.{Refusal}
+use Rattle.grammar.specs.Refusals.{number}
 use Rattle.std.specs.Prelude.{Ok, Err}
 use Prim.Native.Nat.{ℕ, ◌≤◌}
 use mathlib.Core.Path.{◌≡◌, refl}
@@ -10,10 +12,8 @@ use Rattle.grammar.specs.Questions.{First}
 use Rattle.packrat.specs.Over.{word_at}
 use Rattle.editing.specs.Text.{new_length, text_after, opened}
 use Rattle.editing.specs.Table.{words_after, table_after, cleared_table, held_in}
-use Rattle.promises.specs.Answers.{OpenAnswer}
-use Rattle.promises.specs.Answers.{EditAnswer}
+use Rattle.promises.specs.Answers.{OpenAnswer, EditAnswer, LookUpAnswer}
 use Rattle.promises.specs.declared.EditedSheet.{EditedSheet}
-use Rattle.promises.specs.Answers.{LookUpAnswer}
 use Rattle.promises.specs.Questions.{Question9, Question10, Question11, of_sheet, of_edit, of_look_up}
 use Rattle.promises.specs.Promises.{OpenPromise, EditPromise, LookUpPromise}
 use Rattle.promises.proofs.Asked.{edit_0, look_up_0}
@@ -30,9 +30,9 @@ module _ (img text B W : List ℕ) where
 module _ (img B : List ℕ) (n : ℕ) (W : List ℕ) where
   module _ (s e : ℕ) (r : List ℕ) where
     pub edit_refused :
-        (k : ℕ) → 1 ≤ k → First (of_edit img (length B) n (length W) s e (length r)) k
-        → EditPromise img B n W s e r (Err k) B W
-    edit_refused k h f = record { first = f; values = record { numbered = h; same_bytes = refl; same_words = refl } }
+        (q : Refusal) → First (of_edit img (length B) n (length W) s e (length r)) (number q)
+        → EditPromise img B n W s e r (Err q) B W
+    edit_refused q f = record { first = f; values = record { same_bytes = refl; same_words = refl } }
 
     pub edit_done :
         {x : EditedSheet} {B' W' : List ℕ}
@@ -52,9 +52,9 @@ module _ (img B : List ℕ) (n : ℕ) (W : List ℕ) where
 
   module _ (rule position : ℕ) where
     pub look_up_refused :
-        (k : ℕ) → 1 ≤ k → First (of_look_up img (length B) n (length W) rule position) k
-        → LookUpPromise img B n W rule position (Err k)
-    look_up_refused k h f = record { first = f; values = h }
+        (r : Refusal) → First (of_look_up img (length B) n (length W) rule position) (number r)
+        → LookUpPromise img B n W rule position (Err r)
+    look_up_refused r f = record { first = f; values = tt }
 
     pub look_up_done :
         {w : ℕ}

@@ -1,6 +1,7 @@
 -- A listing as a function of what it is lent, where questions 1 to 8 hold: it keeps its promise. Assumes nothing.
 --     list_reply, list_words    its reply, and the words that it leaves
 --     list_linked             a link of a list of calls, for every number of row slots
+use Rattle.grammar.specs.Refusals.{number}
 use Rattle.std.specs.Prelude.{Ok, Err}
 use Prim.Native.Nat.{ℕ, ◌≤◌}
 use native.Mathlib.Omega.{arith}
@@ -19,9 +20,8 @@ use Rattle.rows.specs.Walk.{Walked, walked, stopped, Trail, trail, node_v, start
 use Rattle.rows.specs.Bounds.{Bounded, May}
 use Rattle.rows.proofs.Bounds.{node_bounded, pair_bounded}
 use Rattle.editing.specs.Table.{cleared_table}
-use Rattle.promises.specs.Answers.{ListAnswer}
+use Rattle.promises.specs.Answers.{ListAnswer, sheet_reading}
 use Rattle.promises.specs.declared.SheetReading.{SheetReading}
-use Rattle.promises.specs.Answers.{sheet_reading}
 use Rattle.promises.specs.Questions.{Question8, of_sheet}
 use Rattle.promises.specs.Listing.{SheetListed}
 use Rattle.promises.specs.Run.{stopped_words}
@@ -41,7 +41,7 @@ walk_reply x (trail (stopped k) rows) = lists (Err k) []
 
 abbrev pub walk_words : (img : List ℕ) (cap : ℕ) (words : List ℕ) → Trail → List ℕ
 walk_words img cap words (trail (walked m l c) rows) = words
-walk_words img cap words (trail (stopped k) rows) = stopped_words (eqb k 15) img cap words
+walk_words img cap words (trail (stopped k) rows) = stopped_words (eqb (number k) 15) img cap words
 
 abbrev pub list_reply : (n slots : ℕ) (img text : List ℕ) → Out → Reply
 list_reply n slots img text (out (answered z) words count) = walk_reply (sheet_reading n z count) (walk_over slots img text words)

@@ -19,9 +19,7 @@ use Rattle.packrat.specs.Over.{word_at}
 use Rattle.packrat.specs.Session.{start_run}
 use Rattle.editing.specs.Text.{new_length, text_after, opened}
 use Rattle.editing.specs.Table.{words_after, table_after, cleared_table, held_in, table_size}
-use Rattle.promises.specs.Answers.{OpenAnswer}
-use Rattle.promises.specs.Answers.{EditAnswer}
-use Rattle.promises.specs.Answers.{LookUpAnswer}
+use Rattle.promises.specs.Answers.{OpenAnswer, EditAnswer, LookUpAnswer}
 use Rattle.promises.specs.Questions.{Question8, Question9, of_sheet}
 use Rattle.promises.specs.Promises.{OpenPromise, EditPromise, LookUpPromise}
 use Rattle.promises.specs.Run.{answer_of, words_of}
@@ -108,7 +106,7 @@ module _ (img B : List ℕ) (n : ℕ) (W : List ℕ) (good : First (of_sheet img
       → EditPromise img B n W s e r (edit_answer b c img B n W s e r) (edit_bytes b c B n s e r)
       (edit_words b c img (length B) n W s e (length r))
   edit_kept s e r false c t u =
-      edit_refused img B n W s e r 9 (omega arith)
+      edit_refused img B n W s e r EditRange
       (edit_9 img (length B) n (length W) good s e (length r)
       (λ q. true≢false (sym (joined (le-leb s e q.ordered) (le-leb e n q.in_text)) ∙ t)))
   edit_kept s e r true c t u = go c u
@@ -121,7 +119,7 @@ module _ (img B : List ℕ) (n : ℕ) (W : List ℕ) (good : First (of_sheet img
           → EditPromise img B n W s e r (edit_answer true c img B n W s e r) (edit_bytes true c B n s e r)
           (edit_words true c img (length B) n W s e (length r))
       go false u =
-          edit_refused img B n W s e r 10 (omega arith)
+          edit_refused img B n W s e r EditRoom
           (edit_10 img (length B) n (length W) good s e (length r) asked
           (λ q. true≢false (sym (le-leb (new_length n s e (length r)) (length B) q.room) ∙ u)))
       go true u =
@@ -130,7 +128,7 @@ module _ (img B : List ℕ) (n : ℕ) (W : List ℕ) (good : First (of_sheet img
   look_up_kept :
       (rule q : ℕ) (b : Bool) → asks11 img n rule q ≡ b → LookUpPromise img B n W rule q (look_up_answer b img W rule q)
   look_up_kept rule q false t =
-      look_up_refused img B n W rule q 11 (omega arith)
+      look_up_refused img B n W rule q Pair
       (look_up_11 img (length B) n (length W) good rule q
       (λ x.
       true≢false

@@ -1,5 +1,10 @@
 -- An edit of demand 3: from the invariant and the edit's promise, the reply is the ledger's and the invariant holds again.
 -- Assumes nothing.
+use Rattle.grammar.specs.declared.refusal.Refusal.{Refusal}
+use Rattle.grammar.specs.declared.refusal.Refusal.TheVariants.{EditRange, EditRoom}
+use Rattle.grammar.specs.Refusals.{number}
+use Rattle.grammar.proofs.Refusals.{number_bounds, refused_with}
+use Rattle.grammar.specs.Refusals.{number_in}
 use Rattle.std.specs.Prelude.{Ok, Err}
 use Prim.Native.Nat.{ℕ, ◌+◌, ◌-◌, ◌≤◌, ◌<◌}
 use native.Mathlib.Omega.{arith}
@@ -27,7 +32,6 @@ use Rattle.editing.specs.Table.{table_size, words_after, table_after, held_in}
 use Rattle.editing.proofs.Ledger.{ledger_after}
 use Rattle.editing.proofs.Loans.{edited_long, edit_opened, after_long, after_tail}
 use Rattle.promises.specs.Answers.{EditAnswer}
-use Rattle.promises.specs.Answers.{edit_number}
 use Rattle.promises.specs.Questions.{of_edit}
 use Rattle.promises.specs.Promises.{EditValues, EditPromise}
 use Rattle.ledger.specs.Demand.{next_length}
@@ -226,9 +230,9 @@ module _ {ev : Evaluations} {cap : ℕ} {rest : List ℕ} {l : Ledger} {B : List
 
     -- The edit that the promise says.
     edit_done :
-        {B' W' : List ℕ} (a : EditAnswer) → edit_number a ≡ 0 → EditValues l.image B n W s e r a B' W'
+        {B' W' : List ℕ} (a : EditAnswer) → number_in a ≡ 0 → EditValues l.image B n W s e r a B' W'
         → (edits a ≡ (edit_turn ev true true l s e r).reply) × Inv ev cap rest now B' (next_length n a) W'
-    edit_done (Err k) f p = absurd (omega (arith, p.numbered))
+    edit_done (Err q) f p = absurd (let b = number_bounds q in omega arith)
     edit_done {W' = W'} (Ok x) f p =
         let lent = lent_table cap W l.accepted v.small v.whole in
         let count : x.standing ≡ pairs_of l.image (edited_text l s e r) (standing ev l s e r) =
@@ -252,29 +256,29 @@ module _ {ev : Evaluations} {cap : ℕ} {rest : List ℕ} {l : Ledger} {B : List
 -- An answer with a number leaves the invariant.
 edit_refused :
     {ev : Evaluations} {cap : ℕ} {rest : List ℕ} {l : Ledger} {B : List ℕ} {n : ℕ} {W : List ℕ} → Inv ev cap rest l B n W
-    → (s e : ℕ) (r : List ℕ) {B' W' : List ℕ} (a : EditAnswer) (k : ℕ) → 1 ≤ k → edit_number a ≡ k
+    → (s e : ℕ) (r : List ℕ) {B' W' : List ℕ} (a : EditAnswer) (q : Refusal) → number_in a ≡ number q
     → EditValues l.image B n W s e r a B' W'
-    → (edits a ≡ edits (Err k)) × Inv ev cap rest l B' (next_length n a) W'
-edit_refused v s e r (Ok x) k h f p = absurd (omega arith)
-edit_refused v s e r (Err j) k h f p =
-    (ap (λ (i : ℕ). edits (Err i)) f, rw (p.same_bytes, p.same_words) v)
+    → (edits a ≡ edits (Err q)) × Inv ev cap rest l B' (next_length n a) W'
+edit_refused v s e r (Ok x) q f p = absurd (let b = number_bounds q in omega arith)
+edit_refused v s e r (Err j) q f p =
+    (ap edits (refused_with (Err j) q f), rw (p.same_bytes, p.same_words) v)
 
 module _ {ev : Evaluations} {cap : ℕ} {rest : List ℕ} {l : Ledger} {B : List ℕ} {n : ℕ} {W : List ℕ} (v : Inv ev cap rest l B n W)
     (s e : ℕ) (r : List ℕ) {a : EditAnswer} {B' W' : List ℕ} (p : EditPromise l.image B n W s e r a B' W')
   where
-    number_is : (k : ℕ) → First (of_edit l.image (length B) n (length W) s e (length r)) k → edit_number a ≡ k
-    number_is k f = edit_one l.image (length B) n (length W) s e (length r) (edit_number a) k p.first f
+    number_is : (k : ℕ) → First (of_edit l.image (length B) n (length W) s e (length r)) k → number_in a ≡ k
+    number_is k f = edit_one l.image (length B) n (length W) s e (length r) (number_in a) k p.first f
 
     abbrev Stepped : Turn → Type 0
     Stepped t = (edits a ≡ t.reply) × Inv ev cap rest t.left B' (next_length n a) W'
 
     step : (b c : Bool) → passes9 l s e ≡ b → passes10 cap l s e r ≡ c → Stepped (edit_turn ev b c l s e r)
     step false c t u =
-        edit_refused v s e r a 9 (omega arith)
+        edit_refused v s e r a EditRange
         (number_is 9 (edit_9 l.image (length B) n (length W) (good v) s e (length r) (fails_9 v s e t)))
         p.values
     step true false t u =
-        edit_refused v s e r a 10 (omega arith)
+        edit_refused v s e r a EditRoom
         (number_is 10 (edit_10 l.image (length B) n (length W) (good v) s e (length r) (passes_9 v s e t) (fails_10 v s e r u)))
         p.values
     step true true t u =

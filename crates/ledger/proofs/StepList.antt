@@ -14,8 +14,7 @@ use borrow.Author.Tests.{leb-true, leb-false}
 use Rattle.grammar.specs.Image.{start}
 use Rattle.grammar.specs.Evaluates.{Fresh, a_pair}
 use Rattle.rows.specs.Rows.{rows_of, row_words}
-use Rattle.promises.specs.Answers.{ReadAnswer}
-use Rattle.promises.specs.Answers.{ListAnswer}
+use Rattle.promises.specs.Answers.{ReadAnswer, ListAnswer}
 use Rattle.promises.specs.declared.SheetReading.{SheetReading}
 use Rattle.promises.specs.Listing.{GivesRows, ListedAfter, RefusedAlso, ThenListed, SheetListed, ListPromise}
 use Rattle.ledger.specs.Ledger.{Evaluations, Ledger, Turn, Reply, listing, edits, reads, finds, lists, value_in, rows_in}
@@ -28,9 +27,9 @@ use Rattle.ledger.proofs.StepRead.{sheet_step}
 -- The answer of a reading's reply.
 abbrev answer_in : Reply → ReadAnswer
 answer_in (reads a) = a
-answer_in (edits a) = Err 0
-answer_in (finds a) = Err 0
-answer_in (lists a rows) = Err 0
+answer_in (edits a) = Err Nesting
+answer_in (finds a) = Err Nesting
+answer_in (lists a rows) = Err Nesting
 
 -- A listing that wrote these rows gave them.
 rows_given_lem :
@@ -64,7 +63,7 @@ module _ {ev : Evaluations} {cap : ℕ} {rest : List ℕ} {l : Ledger} {B : List
         → Listed (list_turn ev false (passes15 ev l (length R)) l)
     deep f =
         let e : s.reading ≡ Err Nesting = ap answer_in f.0 in
-        let t : RefusedAlso 14 s.words R a W' R' =
+        let t : RefusedAlso Nesting s.words R a W' R' =
         subst (λ (x : ReadAnswer). ThenListed l.image l.text cap W x s.words R a W' R') e s.then in (
           ap (λ (x : ListAnswer). lists x (rows_given x R')) t.answer_is,
           subst (λ (w : List ℕ). Inv ev cap rest (read_turn ev false l).left B n w) (sym t.words_are) f.1,

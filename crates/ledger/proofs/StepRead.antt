@@ -3,6 +3,8 @@
 --     inv_empty    the invariant where no pair is held and the table is zeroed
 --     sheet_step   a reading that passed questions 1 to 8
 --     read_step    a reading
+use Rattle.grammar.proofs.Refusals.{refused_with}
+use Rattle.grammar.specs.Refusals.{number_in}
 use Rattle.std.specs.Prelude.{Ok, Err}
 use Rattle.grammar.specs.declared.refusal.Refusal.TheVariants.{Nesting}
 use Prim.Native.Nat.{ℕ, suc, ◌+◌, ◌≤◌, ◌<◌}
@@ -33,8 +35,7 @@ use Rattle.packrat.proofs.TrueTables.{over_of_fresh, fresh_of_over, bodies_over}
 use Rattle.editing.specs.Text.{opened}
 use Rattle.editing.specs.Table.{table_size, cleared_table}
 use Rattle.editing.proofs.Loans.{cleared_long, cleared_tail, cleared_word}
-use Rattle.promises.specs.Answers.{ReadAnswer}
-use Rattle.promises.specs.Answers.{read_number, sheet_reading}
+use Rattle.promises.specs.Answers.{ReadAnswer, sheet_reading}
 use Rattle.promises.specs.Reading.{AnswersWith, SheetRead, ReadPromise}
 use Rattle.ledger.specs.Ledger.{Evaluations, Ledger, Turn, reading, reads, opened_ledger, value_in, reached_in, pairs_of}
 use Rattle.ledger.specs.Ledger.{passes14, read_turn, turn}
@@ -76,11 +77,6 @@ inv_empty ev cap img accepted text W rest small fits whole e =
       closed = λ r q f z u y i. absurd (true≢false (sym f));
       after_table = cleared_tail lent ∙ e;
     }
-
--- An answer with a number above 0 is the refusal with that number.
-refused_is : (a : ReadAnswer) (k : ℕ) → read_number a ≡ suc k → a ≡ ReadAnswer.Refused (suc k)
-refused_is (Ok x) k e = absurd (omega arith)
-refused_is (Err j) k e = ap Err e
 
 module _ {ev : Evaluations} {cap : ℕ} {rest : List ℕ} {l : Ledger} {B : List ℕ} {n : ℕ} {W : List ℕ} (v : Inv ev cap rest l B n W)
     {a : ReadAnswer} {W' : List ℕ} (sr : SheetRead l.image l.text cap W a W')
@@ -210,11 +206,11 @@ module _ {ev : Evaluations} {cap : ℕ} {rest : List ℕ} {l : Ledger} {B : List
     -- And where it is.
     module _ (k : 4096 < z.nesting) where
       answer-14 : a ≡ Err Nesting
-      answer-14 = refused_is a 13 (sr.too_deep (not_foreign v) (record { value = z; evaluated = e; above = k }))
+      answer-14 = refused_with a Nesting (sr.too_deep (not_foreign v) (record { value = z; evaluated = e; above = k }))
 
       inv-deep : Inv ev cap rest (read_turn ev false l).left B n W'
       inv-deep =
-          rw (sr.zeroed 14 answer-14, v.bytes_are, v.length_is)
+          rw (sr.zeroed Nesting answer-14, v.bytes_are, v.length_is)
           (inv_empty ev cap l.image l.accepted l.text W rest v.small v.text_fits v.whole v.after_table)
 
     abbrev pub Stepped : Turn → Type 0

@@ -1,16 +1,14 @@
 -- What follows from demand 3, for every list of calls from an accepted opening: which numbers occur, and what a reading or a listing
 -- answers beside the plain reading of the same text.
+use Rattle.grammar.specs.Refusals.{number_in}
 use Rattle.std.specs.Prelude.{Ok, Err}
 use Rattle.grammar.specs.declared.refusal.Refusal.TheVariants.{Rows}
 use Rattle.std.specs.Prelude.{ℕ, ◌≡◌, Bool, true, false, List, [], ◌∷◌, ◌⊎◌, length, take, leb}
 use Rattle.grammar.specs.Questions.{Accepted}
 use Rattle.reading.specs.Plain.{PlainAnswer}
 use Rattle.reading.specs.Plain.{PlainRead}
-use Rattle.promises.specs.Answers.{OpenAnswer}
-use Rattle.promises.specs.Answers.{ReadAnswer}
-use Rattle.promises.specs.Answers.{ListAnswer}
+use Rattle.promises.specs.Answers.{OpenAnswer, ReadAnswer, ListAnswer}
 use Rattle.promises.specs.declared.SheetReading.{SheetReading}
-use Rattle.promises.specs.Answers.{edit_number, read_number, look_up_number, list_number}
 use Rattle.promises.specs.Promises.{OpenPromise}
 use Rattle.promises.specs.Reading.{ReadPromise}
 use Rattle.promises.specs.Listing.{ListPromise}
@@ -19,10 +17,10 @@ use Rattle.ledger.specs.Demand.{loan, rows_given, Trace}
 
 -- The number of a reply is 0 or one of the questions that the ledger asks: 1 to 8, 12 and 13 are not among them.
 abbrev pub LedgersNumber : Reply → Type 0
-LedgersNumber (edits a) = (edit_number a ≡ 0) ⊎ ((edit_number a ≡ 9) ⊎ (edit_number a ≡ 10))
-LedgersNumber (reads a) = (read_number a ≡ 0) ⊎ (read_number a ≡ 14)
-LedgersNumber (finds a) = (look_up_number a ≡ 0) ⊎ (look_up_number a ≡ 11)
-LedgersNumber (lists a rows) = (list_number a ≡ 0) ⊎ ((list_number a ≡ 14) ⊎ (list_number a ≡ 15))
+LedgersNumber (edits a) = (number_in a ≡ 0) ⊎ ((number_in a ≡ 9) ⊎ (number_in a ≡ 10))
+LedgersNumber (reads a) = (number_in a ≡ 0) ⊎ (number_in a ≡ 14)
+LedgersNumber (finds a) = (number_in a ≡ 0) ⊎ (number_in a ≡ 11)
+LedgersNumber (lists a rows) = (number_in a ≡ 0) ⊎ ((number_in a ≡ 14) ⊎ (number_in a ≡ 15))
 
 abbrev pub All : (Reply → Type 0) → List Reply → Type 0
 All P [] = Unit {0}
@@ -38,10 +36,8 @@ OnlyTheseNumbers =
 
 -- The answer of a plain reading as one of a session that evaluated so many pairs.
 abbrev pub in_session : PlainAnswer → (evaluations : ℕ) → ReadAnswer
-in_session (Ok x) count =
-    Ok
-    (record { outcome = x.outcome; length = x.length; examined = x.examined; nesting = x.nesting; evaluations = count })
-in_session (Err k) count = Err k
+in_session (Ok x) count = Ok (record { reading = x; evaluations = count })
+in_session (Err r) count = Err r
 
 -- A reading after any list of calls, and the plain reading of the text that it was lent: both are refused with 14 or none is, and otherwise
 -- outcome, length, examined and nesting are the same; evaluations are the pairs that a fresh reading reaches and that were not held.
@@ -57,7 +53,7 @@ AsPlain =
     → (x : PlainAnswer)
     → PlainRead img' (take n' B') x
     → (a ≡ in_session x (new_pairs ev (left_by ev (length B₀) (opened_ledger img accepted text) calls)))
-    × ((read_number a ≡ 0) ⊎ (read_number a ≡ 14))
+    × ((number_in a ≡ 0) ⊎ (number_in a ≡ 14))
     × (take n' B' ≡ (left_by ev (length B₀) (opened_ledger img accepted text) calls).text)
 
 -- The answer of a plain reading as that of a listing in a session that evaluated so many pairs, of a text with rows of these words, where
@@ -69,9 +65,9 @@ rows_if false x rows = Err Rows
 abbrev pub in_listing : PlainAnswer → (evaluations slots : ℕ) (rows : List ℕ) → ListAnswer
 in_listing (Ok x) count slots rows =
     rows_if (leb (length rows) slots)
-    (record { outcome = x.outcome; length = x.length; examined = x.examined; nesting = x.nesting; evaluations = count })
+    (record { reading = x; evaluations = count })
     rows
-in_listing (Err k) count slots rows = Err k
+in_listing (Err r) count slots rows = Err r
 
 -- "To it a listing is a reading": a listing after any list of calls is refused with 14 where the plain reading is; otherwise it answers what
 -- the plain reading answers, with the number of the text's rows, which are in the row slots then, or 15 exactly where they do not fit.
@@ -89,4 +85,4 @@ ListsAsPlain =
     → (a
     ≡ in_listing x (new_pairs ev (left_by ev (length B₀) (opened_ledger img accepted text) calls)) (length R)
     (rows_in ev (left_by ev (length B₀) (opened_ledger img accepted text) calls)))
-    × (list_number a ≡ 0 → rows_given a R'' ≡ rows_in ev (left_by ev (length B₀) (opened_ledger img accepted text) calls))
+    × (number_in a ≡ 0 → rows_given a R'' ≡ rows_in ev (left_by ev (length B₀) (opened_ledger img accepted text) calls))

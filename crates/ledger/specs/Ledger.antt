@@ -13,12 +13,8 @@ use Rattle.records.specs.Words.{word_of}
 use Rattle.rows.specs.Rows.{Row, rows_of, row_words}
 use Rattle.editing.specs.Text.{new_length, edited}
 use Rattle.editing.specs.Pairs.{stands_after}
-use Rattle.promises.specs.Answers.{EditAnswer}
-use Rattle.promises.specs.Answers.{LookUpAnswer}
-use Rattle.promises.specs.Answers.{ReadAnswer}
-use Rattle.promises.specs.Answers.{ListAnswer}
+use Rattle.promises.specs.Answers.{EditAnswer, LookUpAnswer, ReadAnswer, ListAnswer, sheet_reading}
 use Rattle.promises.specs.declared.SheetReading.{SheetReading}
-use Rattle.promises.specs.Answers.{sheet_reading}
 
 -- What the ledger knows of a text by an accepted image: the evaluation of each pair by Ford's rules without records, which pairs are
 -- reached, and the rows of the start pair's evaluation. Any functions that give these will do; proofs/Fresh.antt has such functions, and

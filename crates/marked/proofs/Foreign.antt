@@ -1,6 +1,7 @@
 -- Witnesses for the guards of a reading's and a listing's promise over words that are not true: on "12a" by D2, what keeps the reading's
 -- promise answers what an untrue start word says; where the start word is held and impossible, a reading and a listing give 12.
 -- Assumes nothing.
+use Rattle.grammar.specs.Refusals.{number_in}
 use Rattle.std.specs.Prelude.{Ok, Err}
 use Rattle.grammar.specs.declared.refusal.Refusal.TheVariants.{Records}
 use Prim.Native.Nat.{ℕ}
@@ -18,9 +19,7 @@ use Rattle.records.specs.Words.{value_of, matched_of, nesting_of, examined_of, l
 use Rattle.records.specs.Slots.{slot_of}
 use Rattle.packrat.specs.Over.{over}
 use Rattle.reading.specs.declared.plain.Outcome.{Outcome}
-use Rattle.promises.specs.Answers.{ReadAnswer}
-use Rattle.promises.specs.Answers.{ListAnswer}
-use Rattle.promises.specs.Answers.{read_number}
+use Rattle.promises.specs.Answers.{ReadAnswer, ListAnswer}
 use Rattle.promises.specs.Questions.{of_sheet}
 use Rattle.promises.specs.Reading.{SheetRead, ReadPromise}
 use Rattle.promises.specs.Listing.{ListPromise}
@@ -51,12 +50,12 @@ read p = p.read (asked p.first)
 pub untrue_word_taken :
     {a : ReadAnswer} {W' : List ℕ}
     → ReadPromise D2 text12a 3 (lent_words 0xC000000200010001) a W'
-    → a ≡ Ok (record { outcome = Outcome.Part; length = 1; examined = 1; nesting = 1; evaluations = 0 })
+    → a ≡ Ok (record { reading = record { outcome = Outcome.Part; length = 1; examined = 1; nesting = 1 }; evaluations = 0 })
 unfolding over value_of matched_of nesting_of examined_of length_of spare_of possible slot_of rules start bodies_of is_in sum_to D2
 untrue_word_taken p = ((read p).determinate (value_of 0xC000000200010001) (ev_record refl) (omega arith)).answer_is
 
 pub impossible_word_refused :
-    {a : ReadAnswer} {W' : List ℕ} → ReadPromise D2 text12a 3 (lent_words 0xC000000000000000) a W' → read_number a ≡ 12
+    {a : ReadAnswer} {W' : List ℕ} → ReadPromise D2 text12a 3 (lent_words 0xC000000000000000) a W' → number_in a ≡ 12
 unfolding matched_of nesting_of examined_of length_of spare_of possible slot_of rules start D2
 impossible_word_refused p = (read p).impossible refl refl
 

@@ -153,7 +153,7 @@ module _ (k : ℕ) (short : k ≤ 65535) where
                 refl,
               ),
             ));
-        values = (omega arith, λ e. record { value = opening k; evaluated = start_value; above = h });
+        values = λ e. record { value = opening k; evaluated = start_value; above = h };
       }
 
 pub m10_read : PlainRead M10 (brackets 1364) (Ok (record { outcome = Outcome.Whole; length = 1364; examined = 1365; nesting = 4095 }))
@@ -165,4 +165,4 @@ m10_refused = refuse_brackets 1365 (omega arith) (omega arith)
 pub deep_holds : SessionSays M10 (brackets 1365) 1365 calls_deep replies_deep
 deep_holds =
     session_deep M10 (brackets 1365) 1365 (accepted m10_accepted) (omega arith) (let e = long 1365 in omega arith)
-    (m10_refused.values.1 refl) 1
+    (m10_refused.values refl) 1

@@ -3,10 +3,7 @@ use Rattle.std.specs.Prelude.{Ok, Err}
 use Rattle.grammar.specs.declared.refusal.Refusal.TheVariants.{EditRange, EditRoom, Nesting, Pair, Rows}
 use Rattle.std.specs.Prelude.{ℕ, List, [], ◌∷◌}
 use Rattle.reading.specs.declared.plain.Outcome.{Outcome}
-use Rattle.promises.specs.Answers.{EditAnswer}
-use Rattle.promises.specs.Answers.{LookUpAnswer}
-use Rattle.promises.specs.Answers.{ReadAnswer}
-use Rattle.promises.specs.Answers.{ListAnswer}
+use Rattle.promises.specs.Answers.{EditAnswer, LookUpAnswer, ReadAnswer, ListAnswer}
 use Rattle.ledger.specs.Ledger.{Call, edit, reading, look_up, listing, Reply, edits, reads, finds, lists}
 
 -- A reading's reply, an edit's, and a look-up's.
@@ -14,7 +11,7 @@ abbrev pub answers : Outcome → (length examined nesting evaluations : ℕ) →
 answers outcome length examined nesting evaluations =
     reads
     (Ok
-    (record { outcome = outcome; length = length; examined = examined; nesting = nesting; evaluations = evaluations }))
+    (record { reading = record { outcome = outcome; length = length; examined = examined; nesting = nesting }; evaluations = evaluations }))
 
 abbrev pub stand : (length standing : ℕ) → Reply
 stand length standing = edits (Ok (record { length = length; standing = standing }))
@@ -28,7 +25,7 @@ listed outcome length examined nesting evaluations rows words =
     lists
     (Ok
     (record {
-      reading = record { outcome = outcome; length = length; examined = examined; nesting = nesting; evaluations = evaluations };
+      reading = record { reading = record { outcome = outcome; length = length; examined = examined; nesting = nesting }; evaluations = evaluations };
       rows = rows;
     }))
     words

@@ -4,8 +4,12 @@
 --     refused_listed                    where it is refused
 --     impossible_listed                 where the start word is held and impossible
 --     lists_unasked, lists_done         the whole promise: where one of questions 1 to 8 fails, and where none does
+use Rattle.grammar.specs.declared.refusal.Refusal.{Refusal}
+use Rattle.grammar.specs.Refusals.{number}
+use Rattle.grammar.proofs.Refusals.{number_bounds, same_refusal}
+use Rattle.grammar.specs.Refusals.{number_in}
 use Rattle.std.specs.Prelude.{Ok, Err}
-use Rattle.grammar.specs.declared.refusal.Refusal.TheVariants.{Rows}
+use Rattle.grammar.specs.declared.refusal.Refusal.TheVariants.{Records, Rows}
 use Prim.Native.Nat.{ℕ, ◌≤◌}
 use native.Mathlib.Omega.{arith}
 use mathlib.Core.Path.{◌≡◌, refl, sym, ap, ◌∙◌, subst}
@@ -28,14 +32,12 @@ use Rattle.packrat.specs.Session.{start_run}
 use Rattle.packrat.proofs.TrueReads.{start_reads, start_deep}
 use Rattle.rows.specs.Rows.{rows_of, row_words}
 use Rattle.rows.specs.Walk.{walked, stopped, Trail, trail, start_v}
-use Rattle.rows.specs.Bounds.{Number, impossible, too_deep, no_slot}
+use Rattle.rows.specs.Bounds.{Stops, impossible, too_deep, no_slot}
 use Rattle.rows.specs.Fits.{Fits, rows_fit, too_many}
 use Rattle.rows.proofs.Listed.{reading_lists}
 use Rattle.editing.specs.Table.{table_size, cleared_table}
-use Rattle.promises.specs.Answers.{ReadAnswer}
-use Rattle.promises.specs.Answers.{ListAnswer}
+use Rattle.promises.specs.Answers.{ReadAnswer, ListAnswer, sheet_reading}
 use Rattle.promises.specs.declared.SheetReading.{SheetReading}
-use Rattle.promises.specs.Answers.{read_number, sheet_reading}
 use Rattle.promises.specs.Questions.{of_sheet}
 use Rattle.promises.specs.Reading.{NotForeign, SheetRead}
 use Rattle.promises.specs.Listing.{GivesRows, listed, no_slots, zeroed, RefusedAlso, ThenListed, SheetListed, ListPromise}
@@ -48,7 +50,7 @@ given (trail a ws) = ws
 
 abbrev stop_of : Trail → ℕ
 stop_of (trail (walked m l c) ws) = 0
-stop_of (trail (stopped k) ws) = k
+stop_of (trail (stopped r) ws) = number r
 
 -- The table and the answer that a run left.
 abbrev left_in : Out → List ℕ
@@ -56,7 +58,7 @@ left_in (out a t c) = t
 
 abbrev refusal_of : Out → ℕ
 refusal_of (out (answered z) t c) = 0
-refusal_of (out (refused k) t c) = k
+refusal_of (out (refused r) t c) = number r
 
 -- What a walk that fits or not says of the rows.
 all_written :
@@ -70,14 +72,14 @@ all_written x (too_many h t e) f = absurd (let z : 0 ≡ 15 = ap stop_of (sym f 
 
 none_written :
     (x : SheetReading) {m : Bool} {len : ℕ} {ws R e : List ℕ} {o : Trail}
-    → Fits (length R) 0 m len ws o → o ≡ trail (stopped 15) e → GivesRows x ws R (Err Rows) R
+    → Fits (length R) 0 m len ws o → o ≡ trail (stopped Rows) e → GivesRows x ws R (Err Rows) R
 none_written x (rows_fit h e) f = absurd (let z : 15 ≡ 0 = ap stop_of (sym f ∙ e) in omega arith)
 none_written x (too_many h t e) f = record { written = λ l. absurd (omega arith); too_many = λ l. (refl, refl) }
 
 no_other :
-    {m : Bool} {len k room : ℕ} {ws e : List ℕ} {o : Trail} → (k ≡ 0 → ⊥) → (k ≡ 15 → ⊥) → Fits room 0 m len ws o → o ≡ trail (stopped k) e → ⊥
-no_other z n (rows_fit h e) f = z (ap stop_of (sym f ∙ e))
-no_other z n (too_many h t e) f = n (ap stop_of (sym f ∙ e))
+    {m : Bool} {len room : ℕ} {r : Refusal} {ws e : List ℕ} {o : Trail} → (number r ≡ 15 → ⊥) → Fits room 0 m len ws o → o ≡ trail (stopped r) e → ⊥
+no_other {r = r} n (rows_fit h e) f = let b = number_bounds r in absurd (let z : number r ≡ 0 = ap stop_of (sym f ∙ e) in omega arith)
+no_other n (too_many h t e) f = n (ap stop_of (sym f ∙ e))
 
 module _ (img text : List ℕ) (cap : ℕ) (W R : List ℕ) (accepted : Accepted img) (small : cap ≤ 65535) (fits : length text ≤ cap)
     (whole : table_size (rules img) cap ≤ length W) {ws : List ℕ} (loaded : Loaded img ws)
@@ -92,7 +94,7 @@ module _ (img text : List ℕ) (cap : ℕ) (W R : List ℕ) (accepted : Accepted
         (sheet_read img text cap W accepted small fits whole)
 
     pub refused_listed :
-        {k count : ℕ} {table : List ℕ} → start_run img text W 0 ≡ out (refused k) table count
+        {k : Refusal} {count : ℕ} {table : List ℕ} → start_run img text W 0 ≡ out (refused k) table count
         → SheetListed img text cap W R (Err k) (cleared_table (rules img) cap table) R
     refused_listed {k} {count} {table} e =
         record {
@@ -146,9 +148,9 @@ module _ (img text : List ℕ) (cap : ℕ) (W R : List ℕ) (accepted : Accepted
           }
 
       pub stopped_listed :
-          {k : ℕ} {rows : List ℕ} → start_v (length R) img ws text words 0 (length text) ≡ trail (stopped k) rows
-          → Number k
-          → SheetListed img text cap W R (Err k) (stopped_words (eqb k 15) img cap words) R
+          {k : Refusal} {rows : List ℕ} → start_v (length R) img ws text words 0 (length text) ≡ trail (stopped k) rows
+          → Stops k
+          → SheetListed img text cap W R (Err k) (stopped_words (eqb (number k) 15) img cap words) R
       stopped_listed w no_slot =
           record {
             reading = Ok (sheet_reading (length text) z count);
@@ -168,7 +170,7 @@ module _ (img text : List ℕ) (cap : ℕ) (W R : List ℕ) (accepted : Accepted
             then =
                 record {
                   ends = zeroed (inl refl);
-                  rows_are = λ f y d. absurd (no_other (λ z. omega arith) (λ z. omega arith) (walk-fits f y d) w);
+                  rows_are = λ f y d. absurd (no_other (λ z. omega arith) (walk-fits f y d) w);
                 };
           }
       stopped_listed w too_deep =
@@ -179,7 +181,7 @@ module _ (img text : List ℕ) (cap : ℕ) (W R : List ℕ) (accepted : Accepted
             then =
                 record {
                   ends = zeroed (inr refl);
-                  rows_are = λ f y d. absurd (no_other (λ z. omega arith) (λ z. omega arith) (walk-fits f y d) w);
+                  rows_are = λ f y d. absurd (no_other (λ z. omega arith) (walk-fits f y d) w);
                 };
           }
 
@@ -188,25 +190,25 @@ module _ {img text : List ℕ} {cap : ℕ} {W R : List ℕ} {a : ListAnswer} {W'
     (h : is_held (word_at img W (start img) 0) ≡ true) (p : possible (word_at img W (start img) 0) 0 (length text) ≡ false)
   where
     by_answer :
-        (r : ReadAnswer) → s.reading ≡ r → read_number r ≡ 12 → ThenListed img text cap W r s.words R a W' R'
-        → RefusedAlso 12 (cleared_table (rules img) cap W) R a W' R'
+        (r : ReadAnswer) → s.reading ≡ r → number_in r ≡ 12 → ThenListed img text cap W r s.words R a W' R'
+        → RefusedAlso Records (cleared_table (rules img) cap W) R a W' R'
     by_answer (Ok x) f e t = absurd (omega arith)
     by_answer (Err k) f e t =
         record {
-          answer_is = t.answer_is ∙ ap Err e;
+          answer_is = t.answer_is ∙ ap Err (same_refusal e);
           words_are = t.words_are ∙ s.reads.zeroed k f;
           slots_are = t.slots_are;
         }
 
-    pub impossible_listed : RefusedAlso 12 (cleared_table (rules img) cap W) R a W' R'
+    pub impossible_listed : RefusedAlso Records (cleared_table (rules img) cap W) R a W' R'
     impossible_listed = by_answer s.reading refl (s.reads.impossible h p) s.then
 
 -- A listing that fails one of questions 1 to 8.
 pub lists_unasked :
-    (img B : List ℕ) (n : ℕ) (W R : List ℕ) (k : ℕ) → 1 ≤ k → First (of_sheet img (length B) n (length W)) k
-    → ListPromise img B n W R (Err k) W R
-lists_unasked img B n W R k h f =
-    record { number = k; first = f; refused = λ l. (refl, refl, refl); listed = λ e. absurd (omega arith) }
+    (img B : List ℕ) (n : ℕ) (W R : List ℕ) (r : Refusal) → First (of_sheet img (length B) n (length W)) (number r)
+    → ListPromise img B n W R (Err r) W R
+lists_unasked img B n W R r f =
+    record { number = number r; first = f; refused = λ l. (refl, refl, refl); listed = λ e. absurd (let b = number_bounds r in omega arith) }
 
 -- One that passes them.
 pub lists_done :

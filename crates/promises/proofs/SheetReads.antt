@@ -3,9 +3,14 @@
 --     sheet_read       of a text in a buffer of cap bytes, where questions 1 to 8 hold
 --     reads_are        of the first n bytes of a buffer
 --     reads_answered, reads_refused    the same by cases of the run
---     reads_word, reads_number         the same by cases of the word that the evaluator answers
+--     reads_word, reads_refusal        the same by cases of what the evaluator answers
 --     reads_unasked    where one of questions 1 to 8 fails
-use Rattle.std.specs.Prelude.{Ok, Err}
+use Rattle.grammar.specs.Refusals.{number_in}
+use Rattle.grammar.specs.declared.refusal.Refusal.{Refusal}
+use Rattle.grammar.specs.declared.refusal.Refusal.TheVariants.{Records, Nesting}
+use Rattle.grammar.specs.Refusals.{number}
+use Rattle.grammar.proofs.Refusals.{number_bounds}
+use Rattle.std.specs.Prelude.{Result, Ok, Err}
 use Prim.Native.Nat.{ℕ, ◌+◌, ◌≤◌, ◌<◌, ◌^◌}
 use native.Mathlib.Omega.{arith}
 use native.Mathlib.Nat.{mul-le-mul}
@@ -35,8 +40,8 @@ use Rattle.packrat.proofs.TrueReads.{start_deep, only_14}
 use Rattle.packrat.specs.Session.{start_run}
 use Rattle.editing.specs.Table.{table_size, TableLent, cleared_table}
 use Rattle.editing.proofs.Loans.{cleared_long, cleared_tail}
-use Rattle.promises.specs.Answers.{ReadAnswer}
-use Rattle.promises.specs.Answers.{read_number, sheet_reading}
+use Rattle.promises.specs.declared.SheetReading.{SheetReading}
+use Rattle.promises.specs.Answers.{ReadAnswer, sheet_reading}
 use Rattle.promises.specs.Questions.{Question8, of_sheet}
 use Rattle.promises.specs.Reading.{NotForeign, AnswersWith, SheetRead, ReadPromise}
 use Rattle.promises.specs.Run.{answer_of, words_of}
@@ -96,12 +101,12 @@ module _ (img text : List ℕ) (cap : ℕ) (W : List ℕ) (accepted : Accepted i
 
     deep :
         NotForeign img text W → TooDeep img text
-        → read_number (answer_of (length text) (start_run img text W 0)) ≡ 14
+        → number_in (answer_of (length text) (start_run img text W 0)) ≡ 14
     deep f t =
         let x = start_deep img text W accepted short f.true_words t.evaluated t.above 0 in
-        ap (λ (o : Out). read_number (answer_of (length text) o)) x.is
+        ap (λ (o : Out). number_in (answer_of (length text) o)) x.is
 
-    not-12 : NotForeign img text W → (k : ℕ) → Made (refused k) → k ≡ 14
+    not-12 : NotForeign img text W → (k : Refusal) → Made (refused k) → k ≡ Nesting
     not-12 f k e =
         only_14 img text W accepted short f.true_words (start img) 0 accepted.lawful.counts.start_rule (omega arith) 4096
         (omega arith) 0 k
@@ -117,25 +122,25 @@ module _ (img text : List ℕ) (cap : ℕ) (W : List ℕ) (accepted : Accepted i
             record {
               as_long = rw e framed.as_long;
               after_table = rw e rest-same;
-              in_text = λ x f. let g : z.length ≡ x.length = cc (e, f) in omega (arith, w.in_text);
+              in_text = λ x f. let g : x ≡ sheet_reading (length text) z framed.counted = cc (e, f) in let l = ap (λ (y : SheetReading). y.reading.length) g in omega (arith, w.in_text);
               numbers = λ k f. absurd (let z : ◌≡◌ {A = ℕ} 0 1 = cc (ap (answer_of (length text)) e, f) in omega arith);
               zeroed = λ k f. absurd (let z : ◌≡◌ {A = ℕ} 0 1 = cc (ap (answer_of (length text)) e, f) in omega arith);
-              impossible = λ h p. ap (λ (o : Out). read_number (answer_of (length text) o)) (pair_impossible img text (node_m img text 4096) 4096 (start img) 0 W 0 h p);
+              impossible = λ h p. ap (λ (o : Out). number_in (answer_of (length text) o)) (pair_impossible img text (node_m img text 4096) 4096 (start img) 0 W 0 h p);
               determinate = determinate;
               too_deep = deep;
-              never_12 = λ n f. let z = sym (ap (λ (o : Out). read_number (answer_of (length text) o)) e) ∙ f in omega arith;
+              never_12 = λ n f. let z = sym (ap (λ (o : Out). number_in (answer_of (length text) o)) e) ∙ f in omega arith;
             }
         go (refused k) e w =
             record {
               as_long = rw e (cleared_long lent ∙ framed.as_long);
               after_table = rw e (cleared_tail lent ∙ rest-same);
               in_text = λ x f. absurd (let z : ◌≡◌ {A = ℕ} 0 1 = cc (ap (answer_of (length text)) e, f) in omega arith);
-              numbers = λ j f. let g : k ≡ j = cc (ap (answer_of (length text)) e, f) in subst (λ (i : ℕ). (i ≡ 12) ⊎ (i ≡ 14)) g w;
+              numbers = λ j f. let g : k ≡ j = cc (ap (answer_of (length text)) e, f) in subst (λ (i : Refusal). (i ≡ Records) ⊎ (i ≡ Nesting)) g w;
               zeroed = λ j f. rw e (ap (λ (l : List ℕ). replicate (table_size (rules img) cap) 0 ++ l) rest-same);
-              impossible = λ h p. ap (λ (o : Out). read_number (answer_of (length text) o)) (pair_impossible img text (node_m img text 4096) 4096 (start img) 0 W 0 h p);
+              impossible = λ h p. ap (λ (o : Out). number_in (answer_of (length text) o)) (pair_impossible img text (node_m img text 4096) 4096 (start img) 0 W 0 h p);
               determinate = determinate;
               too_deep = deep;
-              never_12 = λ n f. let g : k ≡ 12 = sym (ap (λ (o : Out). read_number (answer_of (length text) o)) e) ∙ f in let h = not-12 n k e in omega arith;
+              never_12 = λ n f. let g : number k ≡ 12 = sym (ap (λ (o : Out). number_in (answer_of (length text) o)) e) ∙ f in let h = ap number (not-12 n k e) in omega arith;
             }
 
 -- The same as the whole promise, of the first n bytes of a buffer.
@@ -170,32 +175,39 @@ reads_answered img B n W accepted q z W' count e =
 
 pub reads_refused :
     (img B : List ℕ) (n : ℕ) (W : List ℕ) → Accepted img → Question8 img (length B) n (length W)
-    → (k : ℕ) (table : List ℕ) (count : ℕ)
+    → (k : Refusal) (table : List ℕ) (count : ℕ)
     → start_run img (take n B) W 0 ≡ out (refused k) table count
     → ReadPromise img B n W (Err k) (cleared_table (rules img) (length B) table)
 reads_refused img B n W accepted q k table count e =
     subst (λ (o : Out). ReadPromise img B n W (answer_of n o) (words_of img (length B) o)) e (reads_are img B n W accepted q)
 
--- The same by the word that the evaluator answers: a held word is an evaluation, a word below 16 is a refusal's number.
-module _ (img B : List ℕ) (n : ℕ) (W : List ℕ) (accepted : Accepted img) (q : Question8 img (length B) n (length W)) {word : ℕ}
-    {table : List ℕ} {count : ℕ} (g : Gives (length (take n B)) 0 4096 (start_run img (take n B) W 0) word table count)
+-- The same by what the evaluator answers: the word of an evaluation, or a refusal.
+module _ (img B : List ℕ) (n : ℕ) (W : List ℕ) (accepted : Accepted img) (q : Question8 img (length B) n (length W))
   where
     short-part : length (take n B) ≤ 65535
     short-part = rw (length-take-le n B q.text_fits) (omega (arith, q.text_fits, q.short))
 
-    pub reads_word : 16 ≤ word → ReadPromise img B n W (Ok (sheet_reading n (value_of word) count)) table
-    reads_word h =
-        let f = found short-part (omega arith) g h in
+    -- What the evaluator gave of the start pair.
+    abbrev Given : Result ℕ Refusal → List ℕ → ℕ → Type 0
+    Given r table count = Gives (length (take n B)) 0 4096 (start_run img (take n B) W 0) r table count
+
+    pub reads_word :
+        {word count : ℕ} {table : List ℕ} → Given (Ok word) table count
+        → ReadPromise img B n W (Ok (sheet_reading n (value_of word) count)) table
+    reads_word {count = count} {table} g =
+        let f = found short-part (omega arith) g in
         subst (λ (z : Evaluation). ReadPromise img B n W (Ok (sheet_reading n z count)) table)
         (sym (says short-part (omega arith) f))
         (reads_answered img B n W accepted q f.value table count f.is)
 
-    pub reads_number : word < 16 → ReadPromise img B n W (Err word) (cleared_table (rules img) (length B) table)
-    reads_number h = let f = was_refused short-part (omega arith) g h in reads_refused img B n W accepted q word table count f.is
+    pub reads_refusal :
+        {r : Refusal} {count : ℕ} {table : List ℕ} → Given (Err r) table count
+        → ReadPromise img B n W (Err r) (cleared_table (rules img) (length B) table)
+    reads_refusal {r} {count} {table} g = reads_refused img B n W accepted q r table count (was_refused short-part (omega arith) g)
 
 -- A reading that fails one of questions 1 to 8.
 pub reads_unasked :
-    (img B : List ℕ) (n : ℕ) (W : List ℕ) (k : ℕ) → 1 ≤ k → First (of_sheet img (length B) n (length W)) k
-    → ReadPromise img B n W (Err k) W
-reads_unasked img B n W k h f =
-    record { number = k; first = f; refused = λ l. (refl, refl); read = λ e. absurd (omega arith) }
+    (img B : List ℕ) (n : ℕ) (W : List ℕ) (r : Refusal) → First (of_sheet img (length B) n (length W)) (number r)
+    → ReadPromise img B n W (Err r) W
+reads_unasked img B n W r f =
+    record { number = number r; first = f; refused = λ l. (refl, refl); read = λ e. absurd (let b = number_bounds r in omega arith) }

@@ -1,7 +1,9 @@
 -- The listing's promise, for all images, lengths, buffers, table contents and row slots. The text is the first n bytes of the buffer B. The
 -- words W and the row slots R are lent; the listing leaves W' and R'. B it cannot change.
+use Rattle.grammar.specs.declared.refusal.Refusal.{Refusal}
+use Rattle.grammar.specs.Refusals.{number_in}
 use Rattle.std.specs.Prelude.{Ok, Err}
-use Rattle.grammar.specs.declared.refusal.Refusal.TheVariants.{Rows}
+use Rattle.grammar.specs.declared.refusal.Refusal.TheVariants.{Records, Nesting, Rows}
 use Rattle.std.specs.Prelude.{ℕ, ◌≤◌, ◌<◌, ◌≡◌, List, ◌++◌, ◌⊎◌, length, take, drop}
 use Rattle.grammar.specs.declared.Evaluation.{Evaluation}
 use Rattle.grammar.specs.Image.{rules, start}
@@ -9,10 +11,8 @@ use Rattle.grammar.specs.Evaluates.{Fresh, a_pair}
 use Rattle.grammar.specs.Questions.{First}
 use Rattle.rows.specs.Rows.{rows_of, row_words}
 use Rattle.editing.specs.Table.{cleared_table}
-use Rattle.promises.specs.Answers.{ReadAnswer}
-use Rattle.promises.specs.Answers.{ListAnswer}
+use Rattle.promises.specs.Answers.{ReadAnswer, ListAnswer}
 use Rattle.promises.specs.declared.SheetReading.{SheetReading}
-use Rattle.promises.specs.Answers.{list_number}
 use Rattle.promises.specs.Questions.{of_sheet}
 use Rattle.promises.specs.Reading.{NotForeign, SheetRead}
 
@@ -34,11 +34,11 @@ pub data EndsAs (img : List ℕ) (cap : ℕ) (x : SheetReading) (words R : List 
       → length rows ≤ length R
       → EndsAs img cap x words R (Ok (record { reading = x; rows = length rows })) words (rows ++ drop (length rows) R)
   no_slots : EndsAs img cap x words R (Err Rows) words R
-  zeroed : {k : ℕ} → (k ≡ 12) ⊎ (k ≡ 14) → EndsAs img cap x words R (Err k) (cleared_table (rules img) cap words) R
+  zeroed : {r : Refusal} → (r ≡ Records) ⊎ (r ≡ Nesting) → EndsAs img cap x words R (Err r) (cleared_table (rules img) cap words) R
 
 -- A reading that is refused refuses the listing, which leaves what the reading left.
-pub record RefusedAlso (k : ℕ) (words R : List ℕ) (a : ListAnswer) (W' R' : List ℕ) : Type 0 where
-  pub answer_is : a ≡ Err k
+pub record RefusedAlso (r : Refusal) (words R : List ℕ) (a : ListAnswer) (W' R' : List ℕ) : Type 0 where
+  pub answer_is : a ≡ Err r
   pub words_are : W' ≡ words
   pub slots_are : R' ≡ R
 
@@ -53,7 +53,7 @@ pub record ListedAfter (img text : List ℕ) (cap : ℕ) (W : List ℕ) (x : She
 abbrev pub ThenListed :
     (img text : List ℕ) (cap : ℕ) (W : List ℕ) → ReadAnswer → (words R : List ℕ) → ListAnswer → (W' R' : List ℕ) → Type 0
 ThenListed img text cap W (Ok x) words R a W' R' = ListedAfter img text cap W x words R a W' R'
-ThenListed img text cap W (Err k) words R a W' R' = RefusedAlso k words R a W' R'
+ThenListed img text cap W (Err r) words R a W' R' = RefusedAlso r words R a W' R'
 
 -- A listing that passed questions 1 to 8: "Listing makes a reading, then writes the calls that made the match".
 pub record SheetListed (img text : List ℕ) (cap : ℕ) (W R : List ℕ) (a : ListAnswer) (W' R' : List ℕ) : Type 0 where
@@ -67,5 +67,5 @@ pub record SheetListed (img text : List ℕ) (cap : ℕ) (W R : List ℕ) (a : L
 pub record ListPromise (img B : List ℕ) (n : ℕ) (W R : List ℕ) (a : ListAnswer) (W' R' : List ℕ) : Type 0 where
   pub number : ℕ
   pub first : First (of_sheet img (length B) n (length W)) number
-  pub refused : 1 ≤ number → (list_number a ≡ number) × (W' ≡ W) × (R' ≡ R)
+  pub refused : 1 ≤ number → (number_in a ≡ number) × (W' ≡ W) × (R' ≡ R)
   pub listed : number ≡ 0 → SheetListed img (take n B) (length B) W R a W' R'

@@ -1,5 +1,8 @@
 -- The reading's promise, for all images, lengths, buffers and table contents. The text is the first n bytes of the buffer B. The words W
 -- are lent, and the reading leaves W'; B it cannot change.
+use Rattle.grammar.specs.declared.refusal.Refusal.{Refusal}
+use Rattle.grammar.specs.declared.refusal.Refusal.TheVariants.{Records, Nesting}
+use Rattle.grammar.specs.Refusals.{number_in}
 use Rattle.std.specs.Prelude.{Ok, Err}
 use Rattle.std.specs.Prelude.{ℕ, ◌≤◌, ◌≡◌, true, false, List, ◌⊎◌, length, take, drop}
 use Rattle.grammar.specs.declared.Evaluation.{Evaluation}
@@ -14,9 +17,8 @@ use Rattle.packrat.specs.True.{TrueTable}
 use Rattle.packrat.specs.Closed.{ClosedTable}
 use Rattle.packrat.specs.Stores.{Stores, evaluations}
 use Rattle.editing.specs.Table.{table_size, cleared_table}
-use Rattle.promises.specs.Answers.{ReadAnswer}
+use Rattle.promises.specs.Answers.{ReadAnswer, sheet_reading}
 use Rattle.promises.specs.declared.SheetReading.{SheetReading}
-use Rattle.promises.specs.Answers.{read_number, sheet_reading}
 use Rattle.promises.specs.Questions.{of_sheet}
 
 -- No foreign records: every held word of a pair of the text is true, its nesting is at most 4,096 (TrueTable), and the pairs that its
@@ -39,14 +41,14 @@ pub record SheetRead (img text : List ℕ) (cap : ℕ) (W : List ℕ) (a : ReadA
   pub as_long : length W' ≡ length W
   pub after_table : drop (table_size (rules img) cap) W' ≡ drop (table_size (rules img) cap) W
   -- "has a length of at most n, zeroes the table with 12 and 14", and is refused with nothing else;
-  pub in_text : (x : SheetReading) → a ≡ Ok x → x.length ≤ length text
-  pub numbers : (k : ℕ) → a ≡ Err k → (k ≡ 12) ⊎ (k ≡ 14)
-  pub zeroed : (k : ℕ) → a ≡ Err k → W' ≡ cleared_table (rules img) cap W
+  pub in_text : (x : SheetReading) → a ≡ Ok x → x.reading.length ≤ length text
+  pub numbers : (r : Refusal) → a ≡ Err r → (r ≡ Records) ⊎ (r ≡ Nesting)
+  pub zeroed : (r : Refusal) → a ≡ Err r → W' ≡ cleared_table (rules img) cap W
   -- "and gives 12 when the word of (start, 0) is held and impossible."
   pub impossible :
       is_held (word_at img W (start img) 0) ≡ true
       → possible (word_at img W (start img) 0) 0 (length text) ≡ false
-      → read_number a ≡ 12
+      → number_in a ≡ 12
   -- "A reading that is no listing isn't free where Ford's rules, each held pair that is called, and the start pair too, taking what its
   -- word says, true or not, give the start pair a nesting of at most 4,096 and meet only possible words and no star round of length 0".
   -- An evaluation over a table meets no other: an impossible word answers nothing, and a star with a matched round of length 0 has none
@@ -56,13 +58,13 @@ pub record SheetRead (img text : List ℕ) (cap : ℕ) (W : List ℕ) (a : ReadA
       → z.nesting ≤ 4096
       → AnswersWith img text W z (bodies_of d) a W'
   -- Over a table without foreign records: "14. Is the start pair's nesting at most 4,096? No: 14."
-  pub too_deep : NotForeign img text W → TooDeep img text → read_number a ≡ 14
+  pub too_deep : NotForeign img text W → TooDeep img text → number_in a ≡ 14
   -- "Over all other tables 12 is never given."
-  pub never_12 : NotForeign img text W → read_number a ≡ 12 → ⊥
+  pub never_12 : NotForeign img text W → number_in a ≡ 12 → ⊥
 
 -- What a reading promises: the first number of questions 1 to 8 that fails, and then every word as it was; or a reading of the text.
 pub record ReadPromise (img B : List ℕ) (n : ℕ) (W : List ℕ) (a : ReadAnswer) (W' : List ℕ) : Type 0 where
   pub number : ℕ
   pub first : First (of_sheet img (length B) n (length W)) number
-  pub refused : 1 ≤ number → (read_number a ≡ number) × (W' ≡ W)
+  pub refused : 1 ≤ number → (number_in a ≡ number) × (W' ≡ W)
   pub read : number ≡ 0 → SheetRead img (take n B) (length B) W a W'

@@ -5,13 +5,12 @@ use Rattle.std.specs.Prelude.{ℕ, Bool, true, false, List}
 use Rattle.grammar.specs.Image.{rules}
 use Rattle.packrat.specs.Model.{answered, refused, Out, out}
 use Rattle.editing.specs.Table.{cleared_table}
-use Rattle.promises.specs.Answers.{ReadAnswer}
-use Rattle.promises.specs.Answers.{sheet_reading}
+use Rattle.promises.specs.Answers.{ReadAnswer, sheet_reading}
 
--- An answered run is reported, of a text of n bytes, with the count of evaluated pairs; a refused one gives its number.
+-- An answered run is reported, of a text of n bytes, with the count of evaluated pairs; a refused one is refused by the same question.
 abbrev pub answer_of : (n : ℕ) → Out → ReadAnswer
 answer_of n (out (answered z) t count) = Ok (sheet_reading n z count)
-answer_of n (out (refused k) t count) = Err k
+answer_of n (out (refused r) t count) = Err r
 
 -- The words that the run left; those of a refused run with the table zeroed.
 abbrev pub words_of : (img : List ℕ) (cap : ℕ) → Out → List ℕ

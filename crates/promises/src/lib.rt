@@ -1,61 +1,39 @@
 // What the sheet's calls answer, and the promise of each. This crate has the types of the answers, definitions (specs/) and the theorems
-// that the calls cite (proofs/), and no code that runs.
+// that the calls cite (proofs/), and no code that runs. A call is refused by the first question that is answered no.
 #![tactic(auto)]
 
-use reading::plain::Outcome;
+use grammar::Refusal;
+use reading::plain::Reading;
 
 // "The answer is the text's length n."
-#[derive(Clone, Copy)]
-pub enum OpenAnswer {
-    Opened(usize),
-    Refused(u8),
-}
+pub type OpenAnswer = Result<usize, Refusal>;
 
 // "The answer gives the new length and the number of pairs standing."
-#[derive(Clone, Copy)]
+#[derive(Clone, Copy, Debug, PartialEq, Eq)]
 pub struct EditedSheet {
     pub length: usize,
     pub standing: usize,
 }
 
-#[derive(Clone, Copy)]
-pub enum EditAnswer {
-    Edited(EditedSheet),
-    Refused(u8),
-}
+pub type EditAnswer = Result<EditedSheet, Refusal>;
 
 // "it also gives length, examined length and nesting, and in a session evaluations"
-#[derive(Clone, Copy)]
+#[derive(Clone, Copy, Debug, PartialEq, Eq)]
 pub struct SheetReading {
-    pub outcome: Outcome,
-    pub length: usize,
-    pub examined: usize,
-    pub nesting: usize,
+    pub reading: Reading,
     pub evaluations: u64,
 }
 
-#[derive(Clone, Copy)]
-pub enum ReadAnswer {
-    Read(SheetReading),
-    Refused(u8),
-}
+pub type ReadAnswer = Result<SheetReading, Refusal>;
 
 // "The answer is the reading's and the number of rows."
-#[derive(Clone, Copy)]
+#[derive(Clone, Copy, Debug, PartialEq, Eq)]
 pub struct SheetListing {
     pub reading: SheetReading,
     pub rows: usize,
 }
 
-#[derive(Clone, Copy)]
-pub enum ListAnswer {
-    Listed(SheetListing),
-    Refused(u8),
-}
+pub type ListAnswer = Result<SheetListing, Refusal>;
 
 // "The program gives the slot's word whole."
-#[derive(Clone, Copy)]
-pub enum LookUpAnswer {
-    Word(u64),
-    Refused(u8),
-}
+pub type LookUpAnswer = Result<u64, Refusal>;

@@ -1,5 +1,7 @@
 -- The code of a plain reading's answer is injective: among answers that a plain reading of one text can give, the number tells which
 -- it was. Assumes nothing.
+use Rattle.grammar.specs.Refusals.{number}
+use Rattle.grammar.proofs.Refusals.{same_refusal, number_bounds}
 use Rattle.std.specs.Prelude.{Ok, Err}
 use Rattle.std.proofs.Common.{◌≡◌, ℕ, ◌^◌, ◌<◌, ◌≤◌, List, length, sym, refl, ap, ◌∙◌, inl, inr, true≢false, arith}
 use Rattle.grammar.specs.declared.Evaluation.{Evaluation}
@@ -22,7 +24,7 @@ Fits Whole n l = l ≡ n
 Fits Part n l = l < n
 Fits Nothing n l = Unit {0}
 
--- The answers that have a code: fields that fit, an outcome that fits the length; a number that is no held word.
+-- The answers that have a code: fields that fit, an outcome that fits the length; every refusal.
 pub record Codable (n : ℕ) (x : Reading) : Type 0 where
   pub nesting_fits : x.nesting < 2 ^ 13
   pub examined_fits : x.examined < 2 ^ 17
@@ -31,7 +33,7 @@ pub record Codable (n : ℕ) (x : Reading) : Type 0 where
 
 abbrev pub HasCode : ℕ → PlainAnswer → Type 0
 HasCode n (Ok x) = Codable n x
-HasCode n (Err k) = k < 256
+HasCode n (Err r) = Unit {0}
 
 -- The evaluation that a reading reports.
 abbrev evaluation_in : Reading → Evaluation
@@ -58,11 +60,11 @@ same_outcome n Nothing Part l p q e = absurd (true≢false (sym e))
 same_outcome n Nothing Nothing l p q e = refl
 
 pub code_injective : (n : ℕ) (a b : PlainAnswer) → HasCode n a → HasCode n b → code_of a ≡ code_of b → a ≡ b
-code_injective n (Err j) (Err k) p q e = ap Err e
+code_injective n (Err j) (Err k) p q e = ap Err (same_refusal e)
 code_injective n (Err j) (Ok x) p q e =
-    absurd (let h = word_held (evaluation_in x) (in_range q) in let w = code_is_word q in omega arith)
+    absurd (let b = number_bounds j in let h = word_held (evaluation_in x) (in_range q) in let w = code_is_word q in omega arith)
 code_injective n (Ok x) (Err k) p q e =
-    absurd (let h = word_held (evaluation_in x) (in_range p) in let w = code_is_word p in omega arith)
+    absurd (let b = number_bounds k in let h = word_held (evaluation_in x) (in_range p) in let w = code_is_word p in omega arith)
 code_injective n (Ok x) (Ok y) p q e =
     let same : evaluation_in x ≡ evaluation_in y =
     sym (value_back (evaluation_in x) (in_range p))
@@ -76,20 +78,6 @@ code_injective n (Ok x) (Ok y) p q e =
   where
     subst⁻ : (o : Outcome) → x.length ≡ y.length → Fits o n y.length → Fits o n x.length
     subst⁻ o l f = rw l f
-
--- Every answer that the plain reading promises has a code.
-number_small : (img text : List ℕ) (k : ℕ) → First (of_plain img text) k → k ≤ 14
-number_small img text k (inl a) = let d = a.1 in omega arith
-number_small img text k (inr (q1, inl a)) = let d = a.1 in omega arith
-number_small img text k (inr (q1, inr (q2, inl a))) = let d = a.1 in omega arith
-number_small img text k (inr (q1, inr (q2, inr (q3, inl a)))) = let d = a.1 in omega arith
-number_small img text k (inr (q1, inr (q2, inr (q3, inr (q4, inl a))))) = let d = a.1 in omega arith
-number_small img text k (inr (q1, inr (q2, inr (q3, inr (q4, inr (q5, inl a)))))) = let d = a.1 in omega arith
-number_small img text k (inr (q1, inr (q2, inr (q3, inr (q4, inr (q5, inr (q6, inl a))))))) = let d = a.1 in omega arith
-number_small img text k (inr (q1, inr (q2, inr (q3, inr (q4, inr (q5, inr (q6, inr (q7, inl a)))))))) = let d = a.1 in omega arith
-number_small img text k (inr (q1, inr (q2, inr (q3, inr (q4, inr (q5, inr (q6, inr (q7, inr (q8, inl a))))))))) =
-    let d = a.1 in omega arith
-number_small img text k (inr (q1, inr (q2, inr (q3, inr (q4, inr (q5, inr (q6, inr (q7, inr (q8, inr (q14, d)))))))))) = omega arith
 
 -- Question 8 and question 14 are passed where none fails.
 last_passed : (img text : List ℕ) → First (of_plain img text) 0 → ShortText text × DepthAllowed img text
@@ -111,8 +99,9 @@ outcome_fits Whole n z l e s = e ∙ s.1
 outcome_fits Part n z l e s = let h = s.1 in omega arith
 outcome_fits Nothing n z l e s = tt
 
+-- Every answer that the plain reading promises has a code.
 pub has_code : (img text : List ℕ) (r : PlainAnswer) → PlainRead img text r → HasCode (length text) r
-has_code img text (Err k) p = let h = number_small img text k p.first in omega arith
+has_code img text (Err r) p = tt
 has_code img text (Ok x) p =
     let q = last_passed img text p.first in
     let v = p.values in

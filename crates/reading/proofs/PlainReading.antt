@@ -1,7 +1,11 @@
 -- The plain reading: from the start pair's word to what is promised. Totality gives the evaluation, its nesting says which case it is.
 -- Assumes nothing.
+use Rattle.std.specs.Prelude as std
 use Rattle.std.specs.Prelude.{Ok, Err}
+use Rattle.grammar.specs.declared.refusal.Refusal.{Refusal}
 use Rattle.grammar.specs.declared.refusal.Refusal.TheVariants.{Loan, Nesting}
+use Rattle.grammar.specs.Refusals.{number}
+use Rattle.grammar.proofs.Refusals.{number_bounds}
 use Rattle.std.proofs.Common.{◌≡◌, ℕ, ◌<◌, ◌≤◌, List, [], ◌∷◌, length, sym, refl, ap, ◌∙◌, subst, inl, inr, arith}
 use Rattle.grammar.specs.declared.Evaluation.{Evaluation}
 use Rattle.grammar.specs.Image.{start}
@@ -36,33 +40,32 @@ module _ (img text : List ℕ) where
   last_two = record { number = 8; holds = ShortText text } ∷ record { number = 14; holds = DepthAllowed img text } ∷ []
 
   -- An image that is refused.
-  pub image_refused : (k : ℕ) → Checked img k → (k ≡ 0 → ⊥) → PlainRead img text (Err k)
-  image_refused k c ne =
-      let h : 1 ≤ k = omega (arith, ne) in
+  pub image_refused : (r : Refusal) → Checked img (number r) → PlainRead img text (Err r)
+  image_refused r c =
       record {
-        first = refused_before (of_image img) last_two k h c.first;
-        values = (h, λ e. absurd (not-14 c.first e));
+        first = refused_before (of_image img) last_two (number r) (number_bounds r).0 c.first;
+        values = λ e. absurd (not-14 (number r) c.first (ap number e));
       }
     where
-      not-14 : First (of_image img) k → k ≡ 14 → ⊥
-      not-14 (inl a) e = let d = a.1 in omega arith
-      not-14 (inr (q1, inl a)) e = let d = a.1 in omega arith
-      not-14 (inr (q1, inr (q2, inl a))) e = let d = a.1 in omega arith
-      not-14 (inr (q1, inr (q2, inr (q3, inl a)))) e = let d = a.1 in omega arith
-      not-14 (inr (q1, inr (q2, inr (q3, inr (q4, inl a))))) e = let d = a.1 in omega arith
-      not-14 (inr (q1, inr (q2, inr (q3, inr (q4, inr (q5, inl a)))))) e = let d = a.1 in omega arith
-      not-14 (inr (q1, inr (q2, inr (q3, inr (q4, inr (q5, inr (q6, inl a))))))) e = let d = a.1 in omega arith
-      not-14 (inr (q1, inr (q2, inr (q3, inr (q4, inr (q5, inr (q6, inr (q7, d)))))))) e = omega arith
+      not-14 : (k : ℕ) → First (of_image img) k → k ≡ 14 → ⊥
+      not-14 k (inl a) e = let d = a.1 in omega arith
+      not-14 k (inr (q1, inl a)) e = let d = a.1 in omega arith
+      not-14 k (inr (q1, inr (q2, inl a))) e = let d = a.1 in omega arith
+      not-14 k (inr (q1, inr (q2, inr (q3, inl a)))) e = let d = a.1 in omega arith
+      not-14 k (inr (q1, inr (q2, inr (q3, inr (q4, inl a))))) e = let d = a.1 in omega arith
+      not-14 k (inr (q1, inr (q2, inr (q3, inr (q4, inr (q5, inl a)))))) e = let d = a.1 in omega arith
+      not-14 k (inr (q1, inr (q2, inr (q3, inr (q4, inr (q5, inr (q6, inl a))))))) e = let d = a.1 in omega arith
+      not-14 k (inr (q1, inr (q2, inr (q3, inr (q4, inr (q5, inr (q6, inr (q7, d)))))))) e = omega arith
 
   module _ (c : Checked img 0) where
     pub text_refused : 65535 < length text → PlainRead img text (Err Loan)
     text_refused h =
         record {
           first = then_asked (of_image img) last_two 8 (numbers img) c.first (inl ((λ q. let s = q.short in omega arith), refl));
-          values = (omega arith, λ e. absurd (omega arith));
+          values = λ e. absurd (let d = ap number e in omega arith);
         }
 
-    module _ (short : length text ≤ 65535) {word : ℕ} (s : StartWord img text word) where
+    module _ (short : length text ≤ 65535) {given-start : std.Result ℕ Refusal} (s : StartWord img text given-start) where
       start_exists : Exists img text (a_pair (start img)) 0
       start_exists = let a = accepted c in total_pair img text a (start img) a.lawful.counts.start_rule 0 (omega arith)
 
@@ -80,13 +83,13 @@ module _ (img text : List ℕ) where
           let l = (accepted c).lawful in
           pair_over img text [] l.words short (start img) 0 start-over l.counts.start_rule (omega arith) 4096 (omega arith) [] (grown_none img text []) 0
 
-      pub depth_refused : word < 16 → PlainRead img text (Err Nesting)
-      depth_refused h = go given
+      pub depth_refused : (r : Refusal) → given-start ≡ Err r → PlainRead img text (Err Nesting)
+      depth_refused r h = go given
         where
           go : Given → PlainRead img text (Err Nesting)
           go (fine t d k g i e) =
-              let f = was_refused short (omega arith) s.gives h in
-              absurd (let z : ◌≡◌ {A = ℕ} 0 1 = cc (f.is, e) in omega arith)
+              let f = was_refused short (omega arith) (rw h at s.gives) in
+              absurd (let z : ◌≡◌ {A = ℕ} 0 1 = cc (f, e) in omega arith)
           go (deep t d k e) =
               record {
                 first =
@@ -101,18 +104,18 @@ module _ (img text : List ℕ) where
                         refl,
                       ),
                     ));
-                values = (omega arith, λ e. record { value = start_exists.value; evaluated = start_exists.evaluated; above = k });
+                values = (λ e. record { value = start_exists.value; evaluated = start_exists.evaluated; above = k });
               }
 
-      pub answered_reading : 16 ≤ word → (x : Reading) → x ≡ reading_of (length text) (value_of word) → PlainRead img text (Ok x)
-      answered_reading h x ex = go given
+      pub answered_reading : {word : ℕ} → given-start ≡ Ok word → (x : Reading) → x ≡ reading_of (length text) (value_of word) → PlainRead img text (Ok x)
+      answered_reading {word} h x ex = go given
         where
           go : Given → PlainRead img text (Ok x)
           go (deep t d k e) =
-              let f = found short (omega arith) s.gives h in
+              let f = found short (omega arith) (rw h at s.gives) in
               absurd (let z : ◌≡◌ {A = ℕ} 0 1 = cc (f.is, e) in omega arith)
           go (fine t d k g i e) =
-              let f = found short (omega arith) s.gives h in
+              let f = found short (omega arith) (rw h at s.gives) in
               let same : f.value ≡ start_exists.value = cc (f.is, e) in
               let word_says : value_of word ≡ start_exists.value = says short (omega arith) f ∙ same in
               let w = fresh_within start_exists.evaluated (omega arith) in

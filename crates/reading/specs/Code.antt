@@ -1,7 +1,7 @@
 -- The number that the export answers. A refusal is its number; an answered reading has the record's layout: held, matched, zero bits,
 -- nesting, examined, length.
-use Rattle.std.specs.Prelude.{Ok, Err}
-use Rattle.std.specs.Prelude.{◌≡◌, ℕ, Bool, true, false, List}
+use Rattle.grammar.specs.Refusals.{number}
+use Rattle.std.specs.Prelude.{◌≡◌, ℕ, Bool, true, false, List, Ok, Err}
 use Rattle.records.specs.Words.{record_word}
 use Rattle.reading.specs.declared.plain.Outcome.{Outcome}
 use Rattle.reading.specs.declared.plain.Outcome.TheVariants.{Whole, Part, Nothing}
@@ -14,7 +14,7 @@ matched_in Part = true
 matched_in Nothing = false
 
 abbrev pub code_of : PlainAnswer → ℕ
-code_of (Err k) = k
+code_of (Err r) = number r
 code_of (Ok x) =
     record_word
     (record {

@@ -1,6 +1,8 @@
 -- The plain reading: what it answers, and when it refuses.
-use Rattle.std.specs.Prelude.{Ok, Err}
-use Rattle.std.specs.Prelude.{◌≡◌, ℕ, ◌<◌, ◌≤◌, Bool, true, false, List, [], ◌∷◌, ◌++◌, length, ◌==◌}
+use Rattle.grammar.specs.declared.refusal.Refusal.{Refusal}
+use Rattle.grammar.specs.declared.refusal.Refusal.TheVariants.{Nesting}
+use Rattle.grammar.specs.Refusals.{number_in}
+use Rattle.std.specs.Prelude.{◌≡◌, ℕ, ◌<◌, ◌≤◌, Bool, true, false, List, [], ◌∷◌, ◌++◌, length, ◌==◌, Result, Ok, Err}
 use Rattle.grammar.specs.declared.Evaluation.{Evaluation}
 use Rattle.grammar.specs.Image.{start}
 use Rattle.grammar.specs.Evaluates.{Fresh, a_pair}
@@ -45,10 +47,9 @@ of_plain img text =
     of_image img
     ++ record { number = 8; holds = ShortText text } ∷ record { number = 14; holds = DepthAllowed img text } ∷ []
 
--- The number of each case of an answer; an answered reading has none.
-abbrev pub number_of : PlainAnswer → ℕ
-number_of (Ok x) = 0
-number_of (Err k) = k
+-- A reading, or the refusal by the question that failed.
+abbrev pub PlainAnswer : Type 0
+PlainAnswer = Result Reading Refusal
 
 -- The start pair's evaluation, as the reading reports it.
 pub record Reported (img text : List ℕ) (x : Reading) : Type 0 where
@@ -56,14 +57,14 @@ pub record Reported (img text : List ℕ) (x : Reading) : Type 0 where
   pub evaluated : Fresh img text (a_pair (start img)) 0 value
   pub reports : Reports (length text) value x
 
--- The values of each case. A refusal has a number, and 14 says that there is an evaluation which is too deep.
+-- The values of each case. The refusal with 14 says that there is an evaluation which is too deep.
 abbrev pub Values : (img text : List ℕ) → PlainAnswer → Type 0
 Values img text (Ok x) = Reported img text x
-Values img text (Err k) = (1 ≤ k) × (k ≡ 14 → TooDeep img text)
+Values img text (Err r) = r ≡ Nesting → TooDeep img text
 
 -- What a plain reading promises.
 pub record PlainRead (img text : List ℕ) (r : PlainAnswer) : Type 0 where
-  pub first : First (of_plain img text) (number_of r)
+  pub first : First (of_plain img text) (number_in r)
   pub values : Values img text r
 
 -- The outcome as a function: the answer of a sheet's reading is made by it (crate `promises`, `sheet_reading`). It is the one that `Says` names,

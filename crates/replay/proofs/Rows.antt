@@ -1,14 +1,13 @@
 -- The rows that a listing's answer counts are slots that it was lent: so many words of them can be printed. Assumes nothing.
+use Rattle.grammar.specs.Refusals.{number_in}
 use Rattle.std.specs.Prelude.{Ok, Err}
 use Prim.Native.Nat.{ℕ, zero, suc, ◌≤◌}
 use native.Mathlib.Omega.{arith}
 use mathlib.Core.Path.{◌≡◌, refl, ap}
 use mathlib.Core.List.{List}
 use lib.ListN.{length, take, drop, length-append}
-use Rattle.promises.specs.Answers.{ReadAnswer}
-use Rattle.promises.specs.Answers.{ListAnswer}
+use Rattle.promises.specs.Answers.{ReadAnswer, ListAnswer}
 use Rattle.promises.specs.declared.SheetReading.{SheetReading}
-use Rattle.promises.specs.Answers.{list_number}
 use Rattle.promises.specs.Listing.{EndsAs, listed, no_slots, zeroed, ThenListed, SheetListed, ListPromise}
 use Rattle.answered.specs.After.{rows_in}
 
@@ -20,7 +19,7 @@ ended no_slots = omega arith
 ended (zeroed h) = omega arith
 
 -- An answer with a number has no rows.
-none : (a : ListAnswer) {k : ℕ} → list_number a ≡ k → 1 ≤ k → rows_in a ≡ 0
+none : (a : ListAnswer) {k : ℕ} → number_in a ≡ k → 1 ≤ k → rows_in a ≡ 0
 none (Ok x) e h = omega (arith, e, h)
 none (Err q) e h = refl
 
@@ -32,7 +31,7 @@ module _ (img B : List ℕ) (n : ℕ) (W R : List ℕ) (a : ListAnswer) (W' R' :
 
   by_number :
       (number : ℕ)
-      → (1 ≤ number → list_number a ≡ number)
+      → (1 ≤ number → number_in a ≡ number)
       → (number ≡ 0 → SheetListed img (take n B) (length B) W R a W' R')
       → rows_in a ≤ length R'
   by_number zero r l = after_reading (l refl).reading (l refl).words (l refl).then

@@ -21,8 +21,7 @@ use Rattle.listing.specs.declared.list.Listed.{Listed}
 use Rattle.listing.specs.declared.list.Listed.TheVariants.{Rows, Refused}
 use Rattle.listing.specs.Listed.{Written, NotWritten, ListedIn, ListedOver}
 use Rattle.editing.specs.Table.{cleared_table}
-use Rattle.promises.specs.Answers.{ListAnswer}
-use Rattle.promises.specs.Answers.{sheet_reading}
+use Rattle.promises.specs.Answers.{ListAnswer, sheet_reading}
 use Rattle.promises.specs.Questions.{Question8, of_sheet}
 use Rattle.promises.specs.Listing.{ListPromise}
 use Rattle.promises.specs.Run.{stopped_words}

@@ -2,7 +2,7 @@
 ghost use Rattle.promises.specs.Promises.{EditPromise};
 
 use crate::questions;
-use grammar::numbers;
+use grammar::Refusal;
 use promises::{EditAnswer, EditedSheet};
 
 // Refused with 1 to 10, it leaves buffer and table as they were.
@@ -19,22 +19,15 @@ pub fn edit(
 {
     let cap = buffer.len();
     let k = replacement.len();
-    let number = questions::asked(image, cap, n, table.len());
-    if number != 0 {
-        return EditAnswer::Refused(number);
-    }
-    if e < s {
-        return EditAnswer::Refused(numbers::EDIT_RANGE);
-    }
-    if n < e {
-        return EditAnswer::Refused(numbers::EDIT_RANGE);
+    let rules = questions::asked(image, cap, n, table.len())?;
+    if e < s || n < e {
+        return Err(Refusal::EditRange);
     }
     // n' itself is not computed: it could wrap for a k that no memory has.
     if cap - (n - (e - s)) < k {
-        return EditAnswer::Refused(numbers::EDIT_ROOM);
+        return Err(Refusal::EditRoom);
     }
-    let header = image::header_of(image);
-    let standing = table::edit_table(table, header.rules, cap, n, s, e, k);
+    let standing = table::edit_table(table, rules, cap, n, s, e, k);
     let length = text::edit_text(buffer, n, s, e, replacement);
-    EditAnswer::Edited(EditedSheet { length, standing })
+    Ok(EditedSheet { length, standing })
 }

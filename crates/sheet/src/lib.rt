@@ -2,10 +2,10 @@
 // number and table content is answered or refused, in the order of the questions.
 #![tactic(auto)]
 
-mod answering;
 pub mod edit;
 pub mod list;
 pub mod look_up;
+mod making;
 pub mod open;
 mod questions;
 pub mod read;

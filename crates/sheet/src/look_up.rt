@@ -2,7 +2,7 @@
 ghost use Rattle.promises.specs.Promises.{LookUpPromise};
 
 use crate::questions;
-use grammar::numbers;
+use grammar::Refusal;
 use promises::LookUpAnswer;
 
 // Refused with 1 to 8 or 11.
@@ -16,17 +16,9 @@ pub fn look_up(
 ) -> LookUpAnswer
     ensures { LookUpPromise image.now buffer.now n table.now rule position result }
 {
-    let number = questions::asked(image, buffer.len(), n, table.len());
-    if number != 0 {
-        return LookUpAnswer::Refused(number);
+    let rules = questions::asked(image, buffer.len(), n, table.len())?;
+    if rules <= rule || n < position {
+        return Err(Refusal::Pair);
     }
-    let header = image::header_of(image);
-    let rules = header.rules;
-    if rules <= rule {
-        return LookUpAnswer::Refused(numbers::PAIR);
-    }
-    if n < position {
-        return LookUpAnswer::Refused(numbers::PAIR);
-    }
-    LookUpAnswer::Word(memo::look(table, rules, rule, position))
+    Ok(memo::look(table, rules, rule, position))
 }

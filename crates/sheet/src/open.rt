@@ -9,12 +9,8 @@ pub fn open(image: &[u8], text: &[u8], buffer: &mut [u8], table: &mut [u64]) -> 
     ensures { OpenPromise image.now text.now buffer.old table.old result buffer.new table.new }
 {
     let cap = buffer.len();
-    let number = questions::asked(image, cap, text.len(), table.len());
-    if number != 0 {
-        return OpenAnswer::Refused(number);
-    }
-    let header = image::header_of(image);
+    let rules = questions::asked(image, cap, text.len(), table.len())?;
     text::fill(buffer, text);
-    table::clear_table(table, header.rules, cap);
-    OpenAnswer::Opened(text.len())
+    table::clear_table(table, rules, cap);
+    Ok(text.len())
 }
