@@ -33,7 +33,7 @@ answered ready g =
     (says_itself ready.short (omega arith) g, omega (arith, nesting_allowed ready.short (omega arith) g))
 
 -- What `?` returns.
-pub left_with : {r : Result ℕ Refusal} {k : Refusal} → IsErr r × IsErrAnd r (λ y. y ≡ k) → r ≡ Err k
+pub left_with : {A : Type 0} {r : Result A Refusal} {k : Refusal} → IsErr r × IsErrAnd r (λ y. y ≡ k) → r ≡ Err k
 left_with {r = Ok x} h = absurd h.1
 left_with {r = Err y} h = ap Err h.1
 
