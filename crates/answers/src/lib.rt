@@ -9,23 +9,14 @@ ghost use Rattle.records.specs.Joinable.{Joinable};
 // The word of the empty node's evaluation: matched, nesting 1.
 pub const EMPTY_HERE: u64 = records::HELD_MATCHED + records::ONE_NESTING;
 
-pub fn larger(a: usize, b: usize) -> usize
-    ensures { result ≡ max a b }
-{
-    if a < b { b } else { a }
-}
-
 // The word of an evaluation. Its fields fit, so that none loses bits.
 pub fn answer(matched: bool, nesting: usize, examined: usize, length: usize) -> u64
     requires { (nesting < 8192) × (examined < 131072) × (length < 65536) }
     ensures { result ≡ word_of (record { matched = matched; length = length; examined = examined; nesting = nesting }) }
 {
     let fields = nesting * records::NESTING_UNIT + examined * records::EXAMINED_UNIT + length;
-    if matched {
-        records::HELD_MATCHED + fields as u64
-    } else {
-        records::HELD + fields as u64
-    }
+    let held = if matched { records::HELD_MATCHED } else { records::HELD };
+    held + fields as u64
 }
 
 // "A then B: if A fails, A's examined;"
@@ -33,12 +24,7 @@ pub fn first_failed(x: u64) -> u64
     requires { nesting_of x ≤ 4096 }
     ensures { result ≡ word_of (first_failed (value_of x)) }
 {
-    answer(
-        false,
-        1 + records::nesting_of(x),
-        records::examined_of(x),
-        0,
-    )
+    answer(false, 1 + records::nesting_of(x), records::examined_of(x), 0)
 }
 
 // "else the larger of A's examined and A's length + B's examined; lengths add."
@@ -47,8 +33,8 @@ pub fn in_sequence(x: u64, y: u64) -> u64
     ensures { result ≡ word_of (in_sequence (value_of x) (value_of y)) }
 {
     let before = records::length_of(x);
-    let nesting = 1 + larger(records::nesting_of(x), records::nesting_of(y));
-    let examined = larger(records::examined_of(x), before + records::examined_of(y));
+    let nesting = 1 + records::nesting_of(x).max(records::nesting_of(y));
+    let examined = records::examined_of(x).max(before + records::examined_of(y));
     if records::matched_of(y) {
         answer(true, nesting, examined, before + records::length_of(y))
     } else {
@@ -69,8 +55,8 @@ pub fn second_choice(x: u64, y: u64) -> u64
     requires { (nesting_of x ≤ 4096) × (nesting_of y ≤ 4096) }
     ensures { result ≡ word_of (second_choice (value_of x) (value_of y)) }
 {
-    let nesting = 1 + larger(records::nesting_of(x), records::nesting_of(y));
-    let examined = larger(records::examined_of(x), records::examined_of(y));
+    let nesting = 1 + records::nesting_of(x).max(records::nesting_of(y));
+    let examined = records::examined_of(x).max(records::examined_of(y));
     answer(
         records::matched_of(y),
         nesting,

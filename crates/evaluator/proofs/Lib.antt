@@ -1,2 +1,3 @@
--- What the evaluator's functions share.
+-- The words of terminals; what a step of a run leaves to the next.
 pub mod Terminals
+pub mod Steps

@@ -1,6 +1,6 @@
 -- A word that stands for a terminal: its answer is the terminal's, and table and count stay; and the words that are told by their first
 -- byte. Assumes nothing.
-use Rattle.std.proofs.Common.{◌≡◌, ℕ, ◌-◌, ◌/◌, ◌^◌, ◌<◌, List, length, refl, ◌∙◌, arith}
+use Rattle.std.proofs.Common.{Ok, ◌≡◌, ℕ, ◌-◌, ◌/◌, ◌^◌, ◌<◌, List, length, refl, ◌∙◌, arith}
 use Rattle.grammar.specs.declared.node.NodeFields.{NodeFields}
 use Rattle.grammar.specs.declared.node.Terminal.{Terminal}
 use Rattle.grammar.specs.declared.node.Node.TheVariants.{Text}
@@ -25,7 +25,7 @@ pub terminal_goes :
     → 0 < left
     → word_node w ≡ Text t
     → r ≡ word_of (terminal_at t text at)
-    → Gives (length text) at left (word_m ws text (left - 1) w at table count) r table count
+    → Gives (length text) at left (word_m ws text (left - 1) w at table count) (Ok r) table count
 unfolding kind_m
 terminal_goes ws text left w at table count {t} ready some is e =
     let s = shape t text at ready.here in

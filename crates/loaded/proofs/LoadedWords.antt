@@ -12,7 +12,7 @@ use Rattle.grammar.specs.Image.{node_word, fields_of, fields_at, kind, rules, no
 use Rattle.grammar.specs.Questions.{Question2, Question3}
 use Rattle.grammar.proofs.Nodes.{is_empty, kind_of_call, rule_of_call}
 use Rattle.grammar.proofs.Writes.{all_the_same}
-use Rattle.image.specs.Linked.{linked_word}
+use Rattle.image.specs.Linked.{linked_word, LinkedWords}
 use Rattle.image.proofs.PastTheEnd.{past_word32}
 use Rattle.image.proofs.Linked.{linked, same_node}
 use Rattle.packrat.specs.Loaded.{word_node, LoadedWord, Loaded}
@@ -38,30 +38,6 @@ module _ (img : List ℕ) (n : ℕ) where
         root_is = λ r c. absurd (let d = kind_of_call (fields_at img n) c in omega arith);
       }
 
--- While a grammar is loaded: the first n words are there, the others are still 0.
-pub record LoadedTo (img : List ℕ) (n k word : ℕ) : Type 0 where
-  pub below : k < n → LoadedWord img k word
-  pub past : n ≤ k → word ≡ 0
-
-pub none_loaded : (img : List ℕ) (m k : ℕ) → LoadedTo img 0 k (get_or (replicate m 0) k 0)
-none_loaded img m k = record { below = λ l. absurd (omega arith); past = λ l. all_the_same m k 0 }
-
-pub next_loaded :
-    (img xs : List ℕ) (n v : ℕ)
-    → n < length xs
-    → LoadedWord img n v
-    → ((k : ℕ) → LoadedTo img n k (get_or xs k 0))
-    → (k : ℕ) → LoadedTo img (n + 1) k (get_or (set xs n v) k 0)
-next_loaded img xs n v l w h k = go (eqb k n) refl
-  where
-    go : (b : Bool) → eqb k n ≡ b → LoadedTo img (n + 1) k (get_or (set xs n v) k 0)
-    go true e =
-        rw (eqb-true k n e, get_or-set_same xs n v 0 l) (record { below = λ m. w; past = λ m. absurd (omega arith) })
-    go false e =
-        let other = eqb-false k n e in
-        rw (get_or-set_other xs n k v 0 other)
-        (record { below = λ m. (h k).below (omega (arith, other)); past = λ m. (h k).past (omega arith) })
-
 -- All words, and after them the number of rules.
 pub loaded :
     (img xs : List ℕ) (r : ℕ)
@@ -69,7 +45,7 @@ pub loaded :
     → Question3 img
     → length xs ≡ 4097
     → r ≡ rules img
-    → ((k : ℕ) → LoadedTo img (nodes img) k (get_or xs k 0))
+    → LinkedWords img xs
     → Loaded img (set xs 4096 r)
 loaded img xs r q2 q3 l e h =
     record { rules_are = get_or-set_same xs 4096 r 0 (omega arith) ∙ e; words_are = λ k. go k (eqb k 4096) refl (ltb k (nodes img)) refl }
@@ -80,7 +56,7 @@ loaded img xs r q2 q3 l e h =
         rw (at, get_or-set_same xs 4096 r 0 (omega arith))
         (past_word img 4096 q3 (omega (arith, q2.few_nodes)) (omega (arith, e, q2.few_rules)))
     go k false d true f =
-        rw (get_or-set_other xs 4096 k r 0 (eqb-false k 4096 d)) ((h k).below (ltb-true k (nodes img) f))
+        rw (get_or-set_other xs 4096 k r 0 (eqb-false k 4096 d), h.word_of k (ltb-true k (nodes img) f)) (linked_loaded img k)
     go k false d false f =
         let past = ltb-false k (nodes img) f in
-        rw (get_or-set_other xs 4096 k r 0 (eqb-false k 4096 d), (h k).past past) (past_word img k q3 past (omega arith))
+        rw (get_or-set_other xs 4096 k r 0 (eqb-false k 4096 d), h.past k past) (past_word img k q3 past (omega arith))

@@ -19,12 +19,7 @@ pub fn look(table: &[u64], rules: usize, rule: usize, position: usize) -> u64
     requires { (rules < 2 ^ 32) × (rule < 4096) × (position ≤ 65535) }
     ensures { result ≡ get_or table.now (slot_of rules rule position) 0 }
 {
-    let slot = slot_of(rules, rule, position);
-    if slot < table.len() {
-        table[slot]
-    } else {
-        Record::EMPTY
-    }
+    table.get(slot_of(rules, rule, position)).copied().unwrap_or(Record::EMPTY)
 }
 
 pub fn put(table: &mut [u64], rules: usize, rule: usize, position: usize, word: u64)
@@ -32,6 +27,7 @@ pub fn put(table: &mut [u64], rules: usize, rule: usize, position: usize, word: 
     ensures { table.new ≡ set table.old (slot_of rules rule position) word }
 {
     let slot = slot_of(rules, rule, position);
+    // By index: `get_mut` promises nothing of the table after the store.
     if slot < table.len() {
         table[slot] = word;
     }

@@ -83,15 +83,19 @@ module _ (img text : List ℕ) where
           let l = (accepted c).lawful in
           pair_over img text [] l.words short (start img) 0 start-over l.counts.start_rule (omega arith) 4096 (omega arith) [] (grown_none img text []) 0
 
-      pub depth_refused : (r : Refusal) → given-start ≡ Err r → PlainRead img text (Err Nesting)
-      depth_refused r h = go given
+      -- Over no records only the nesting refuses it.
+      pub start_refused : (r : Refusal) → given-start ≡ Err r → PlainRead img text (Err r)
+      start_refused r h = go given
         where
-          go : Given → PlainRead img text (Err Nesting)
+          go : Given → PlainRead img text (Err r)
           go (fine t d k g i e) =
               let f = was_refused short (omega arith) (rw h at s.gives) in
               absurd (let z : ◌≡◌ {A = ℕ} 0 1 = cc (f, e) in omega arith)
           go (deep t d k e) =
-              record {
+              let f = was_refused short (omega arith) (rw h at s.gives) in
+              let r_is : r ≡ Nesting = cc (f, e) in
+              rw r_is
+              (record {
                 first =
                     then_asked (of_image img) last_two 14 (numbers img) c.first
                     (inr (
@@ -105,7 +109,7 @@ module _ (img text : List ℕ) where
                       ),
                     ));
                 values = (λ e. record { value = start_exists.value; evaluated = start_exists.evaluated; above = k });
-              }
+              })
 
       pub answered_reading : {word : ℕ} → given-start ≡ Ok word → (x : Reading) → x ≡ reading_of (length text) (value_of word) → PlainRead img text (Ok x)
       answered_reading {word} h x ex = go given

@@ -1,42 +1,31 @@
 // An answer of a plain reading as one number, for the Rust host: a refusal is its number; an answered reading has bit 63 set, bit 62
 // for matched, and nesting, examined and length in the record's fields.
-ghost use Rattle.std.specs.Prelude.{◌≡◌};
-ghost use Rattle.reading.specs.Code.{code_of, matched_in};
+ghost use Rattle.std.specs.Prelude.{◌≡◌, Ok};
+ghost use Rattle.reading.specs.Code.{code_of};
 
-use crate::plain::{Outcome, PlainAnswer};
+use crate::plain::{Outcome, Reading};
+use grammar::Refusal;
 use records::Record;
 
-fn matched_in(outcome: Outcome) -> bool
-    ensures { result ≡ matched_in outcome }
-{
-    match outcome {
-        Outcome::Whole => true,
-        Outcome::Part => true,
-        Outcome::Nothing => false,
+impl From<Reading> for u64 {
+    ghost from_gives = { λ x code. code ≡ code_of (Ok x) };
+
+    fn from(reading: Reading) -> u64 {
+        u64::from(Record {
+            matched: reading.outcome != Outcome::Nothing,
+            spare: 0,
+            nesting: reading.nesting,
+            examined: reading.examined,
+            length: reading.length,
+        })
     }
 }
 
-fn wide(number: u8) -> u64
-    ensures { result ≡ number }
-{
-    number as u64
-}
-
-pub fn code_of(answer: PlainAnswer) -> u64
+pub fn code_of(answer: Result<Reading, Refusal>) -> u64
     ensures { result ≡ code_of answer }
 {
     match answer {
-        PlainAnswer::Refused(number) => wide(number),
-        PlainAnswer::Read(reading) => {
-            let outcome = reading.outcome;
-            let record = Record {
-                matched: matched_in(outcome),
-                spare: 0,
-                nesting: reading.nesting,
-                examined: reading.examined,
-                length: reading.length,
-            };
-            record.word()
-        }
+        Ok(reading) => u64::from(reading),
+        Err(refusal) => u64::from(refusal),
     }
 }

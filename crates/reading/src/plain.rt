@@ -6,17 +6,28 @@ ghost use Rattle.reading.specs.Plain.{PlainRead, outcome_of, reading_of};
 ghost use Rattle.packrat.specs.Session.{StartWord};
 
 use crate::start;
-use grammar::numbers;
+use grammar::Refusal;
+use std::fmt;
 
-// "A reading is whole (matched, length n), part (matched, shorter) or none"
-#[derive(Clone, Copy)]
+// "A reading is whole (matched, length n), part (matched, shorter) or none". The numbers are those of include/bannelgo.h.
+#[derive(Clone, Copy, Debug, PartialEq, Eq)]
 pub enum Outcome {
-    Whole,
-    Part,
-    Nothing,
+    Whole = 2,
+    Part = 1,
+    Nothing = 0,
 }
 
-#[derive(Clone, Copy)]
+impl fmt::Display for Outcome {
+    fn fmt<W: fmt::Write>(&self, f: &mut fmt::Formatter<W>) -> fmt::Result {
+        f.write_str(match self {
+            Outcome::Whole => "whole",
+            Outcome::Part => "part",
+            Outcome::Nothing => "none",
+        })
+    }
+}
+
+#[derive(Clone, Copy, Debug, PartialEq, Eq)]
 pub struct Reading {
     pub outcome: Outcome,
     pub length: usize,
@@ -24,27 +35,20 @@ pub struct Reading {
     pub nesting: usize,
 }
 
-// A reading, or the number of the question that failed.
-#[derive(Clone, Copy)]
-pub enum PlainAnswer {
-    Read(Reading),
-    Refused(u8),
-}
-
 pub fn outcome_of(matched: bool, length: usize, n: usize) -> Outcome
     ensures { result ≡ outcome_of matched (length == n) }
 {
     if !matched {
-        return Outcome::Nothing;
+        Outcome::Nothing
+    } else if length == n {
+        Outcome::Whole
+    } else {
+        Outcome::Part
     }
-    if length == n {
-        return Outcome::Whole;
-    }
-    Outcome::Part
 }
 
 // What a held word says of a text of n bytes.
-fn reading_of(word: u64, n: usize) -> Reading
+pub fn reading_of(word: u64, n: usize) -> Reading
     ensures { result ≡ reading_of n (value_of word) }
 {
     let length = records::length_of(word);
@@ -59,30 +63,22 @@ fn reading_of(word: u64, n: usize) -> Reading
 }
 
 // The start pair's word over no records: that of its rule's body.
-fn start_word(image: &[u8], text: &[u8]) -> u64
+fn start_word(image: &[u8], text: &[u8]) -> Result<u64, Refusal>
     requires { Accepted image.now × (length text.now ≤ 65535) }
     ensures { StartWord image.now text.now result }
 {
-    let mut table = [0u64; 0];
-    let mut count = 0u64;
-    start::start_body(image, text, &mut table, &mut count)
+    start::start_body(image, text, &mut [], &mut 0)
 }
 
 // The reading of a text by a grammar. Refuses an image with its number 1 to 7, a text above 65,535 bytes with 8, and a start pair
 // whose nesting is above 4,096 with 14.
-pub fn plain_reading(image: &[u8], text: &[u8]) -> PlainAnswer
+pub fn plain_reading(image: &[u8], text: &[u8]) -> Result<Reading, Refusal>
     ensures { PlainRead image.now text.now result }
 {
-    let number = checker::check(image);
-    if number != 0 {
-        return PlainAnswer::Refused(number);
-    }
+    checker::check(image)?;
     if records::MAX_CAP < text.len() {
-        return PlainAnswer::Refused(numbers::LOAN);
+        return Err(Refusal::Loan);
     }
-    let word = start_word(image, text);
-    if word < numbers::BOUND {
-        return PlainAnswer::Refused(numbers::NESTING);
-    }
-    PlainAnswer::Read(reading_of(word, text.len()))
+    let word = start_word(image, text)?;
+    Ok(reading_of(word, text.len()))
 }

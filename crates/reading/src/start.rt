@@ -4,17 +4,26 @@ ghost use Rattle.std.specs.Prelude.{◌≤◌, length};
 ghost use Rattle.grammar.specs.Questions.{Accepted};
 ghost use Rattle.packrat.specs.Session.{BodyOver};
 
+use evaluator::Run;
+use grammar::Refusal;
 use records::Record;
 
-// Its word, or the number of a refusal; `count` goes up by the pairs that are evaluated.
-pub fn start_body(image: &[u8], text: &[u8], table: &mut [u64], count: &mut u64) -> u64
+// Its word, or a refusal; `count` goes up by the pairs that are evaluated.
+pub fn start_body(image: &[u8], text: &[u8], table: &mut [u64], count: &mut u64) -> Result<u64, Refusal>
     requires { Accepted image.now × (length text.now ≤ 65535) }
     ensures { BodyOver image.now text.now table.old count.old result table.new count.new }
 {
     let words = loaded::load(image);
     let header = image::header_of(image);
     let body = image::rule_at(image, header.start);
-    let root = body.root;
-    let word = words[root];
-    evaluator::eval_word(&words, &text, table, count, word, 0, Record::MAX_NESTING)
+    let mut run = Run {
+        words: &words,
+        rules: words[4096],
+        text,
+        table,
+        count: *count,
+    };
+    let answer = run.eval_word(words[body.root], 0, Record::MAX_NESTING);
+    *count = run.count;
+    answer
 }

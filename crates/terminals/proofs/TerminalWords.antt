@@ -1,6 +1,5 @@
 -- The words of a terminal that matches and of one that fails. Assumes nothing.
 use Prim.Native.Nat.{ℕ, ◌≤◌, ◌<◌}
-use native.Mathlib.Omega.{arith}
 use mathlib.Core.Path.{◌≡◌, sym, ap, ◌∙◌}
 use mathlib.Core.Bool.{Bool, true, false, ◌&&◌, ◌||◌, cond, and-false}
 use mathlib.Core.List.{List, []}
@@ -11,7 +10,6 @@ use Rattle.grammar.specs.declared.node.Terminal.TheVariants.{Range, Folded}
 use Rattle.grammar.specs.Image.{byte_at}
 use Rattle.grammar.specs.Between.{between}
 use Rattle.grammar.specs.Terminal.{other_case, accepts, later_of, has_at, taken, continued, not_taken, terminal_at}
-use Rattle.grammar.proofs.Between as bytes
 use Rattle.grammar.proofs.Terminals.{has_not, has_there, by_byte}
 use Rattle.records.specs.Words.{word_of}
 
@@ -36,21 +34,17 @@ module _ (t : Terminal) (text : List ℕ) (p : ℕ) where
   unfolding word_of
   end_word h = sym (ap word_of (by_first_test (has_not (accepts t) text p h)))
 
--- What a byte range takes, and what is below it or above it.
-module _ (from to byte : ℕ) where
-  pub inside : from ≤ byte → byte ≤ to → accepts (Range from to) byte ≡ true
+-- The tests of the code, of the byte that was read, are those of the definitions: of a byte range, and of a folded one, which tests the
+-- byte's other case too.
+module _ (from to : ℕ) {read byte : ℕ} {own b : Bool} (e : read ≡ byte) (f : own ≡ between from to read) where
+  pub range_test : own ≡ b → accepts (Range from to) byte ≡ b
   unfolding accepts
-  inside h k = bytes.inside from to byte h k
+  range_test t = ap (between from to) (sym e) ∙ sym f ∙ t
 
-  pub below : byte < from → accepts (Range from to) byte ≡ false
+  pub folded_test : {other : ℕ} {others : Bool} → other ≡ other_case read → others ≡ between from to other → (own || others) ≡ b → accepts (Folded from to) byte ≡ b
   unfolding accepts
-  below h = bytes.outside from to byte (λ a b. omega arith)
-
-  pub above : to < byte → accepts (Range from to) byte ≡ false
-  unfolding accepts
-  above h = bytes.outside from to byte (λ a b. omega arith)
-
-  -- The test of a folded range, of the byte and of its other case.
-  pub folds : {b : Bool} → (between from to byte || between from to (other_case byte)) ≡ b → accepts (Folded from to) byte ≡ b
-  unfolding accepts
-  folds e = e
+  folded_test {other} g h t =
+      sym (ap (λ (x : ℕ). between from to x || between from to (other_case x)) e)
+      ∙ sym (ap (λ (x : ℕ). between from to read || between from to x) g)
+      ∙ sym (ap (λ (x : Bool). own || x) h ∙ ap (λ (x : Bool). x || between from to other) f)
+      ∙ t

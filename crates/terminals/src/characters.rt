@@ -23,10 +23,10 @@ const ONE_OF_FOUR: u64 = ONE_OF_THREE + records::ONE_EXAMINED;
 fn has_at(text: &[u8], lowest: usize, highest: usize, place: usize) -> bool
     ensures { result ≡ has_at (is_in (lowest to highest)) text.now place }
 {
-    if crate::end_of(text) <= place {
+    let Some(&byte) = text.get(place) else {
         return false;
-    }
-    crate::is_between(lowest, highest, crate::byte_at(text, place))
+    };
+    crate::is_between(lowest, highest, usize::from(byte))
 }
 
 // From the first byte on, which has so many later bytes: the next one is from `lowest` to `highest`, the others from 0x80 to 0xBF.
@@ -78,13 +78,12 @@ pub fn is_ascii(text: &[u8], at: usize) -> bool
     has_at(text, 0x00, 0x7F, at)
 }
 
-// "Kind 1 now matches one character as RFC 3629 defines it" (02, R-5). The text is lent as evaluator and walk have it: a slice would be
-// copied for the call.
-pub fn any_character(text: &&[u8], at: usize) -> u64
-    ensures { result ≡ word_of (terminal_at Any text.now.now at) }
+// "Kind 1 now matches one character as RFC 3629 defines it" (02, R-5).
+pub fn any_character(text: &[u8], at: usize) -> u64
+    ensures { result ≡ word_of (terminal_at Any text.now at) }
 {
-    if crate::end_of(*text) <= at {
+    let Some(&first) = text.get(at) else {
         return crate::NO_BYTE;
-    }
-    by_first(*text, crate::byte_at(*text, at), at)
+    };
+    by_first(text, usize::from(first), at)
 }

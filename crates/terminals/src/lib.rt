@@ -3,61 +3,34 @@
 
 pub mod characters;
 
-ghost use Rattle.std.specs.Prelude.{◌<◌, ◌≡◌, length};
+ghost use Rattle.std.specs.Prelude.{◌≡◌};
 ghost use Rattle.grammar.specs.declared.node.Terminal.TheVariants.{Range, Folded};
-ghost use Rattle.grammar.specs.Image.{byte_at, range_by};
 ghost use Rattle.grammar.specs.Between.{between};
 ghost use Rattle.grammar.specs.Terminal.{other_case, terminal_at};
 ghost use Rattle.records.specs.Words.{word_of};
+
+use grammar::Terminal;
 
 // A match of one byte, and a failure that examined one place.
 pub const ONE_BYTE: u64 = records::HELD_MATCHED + records::ONE_NESTING + records::ONE_EXAMINED + 1;
 
 const NO_BYTE: u64 = records::HELD + records::ONE_NESTING + records::ONE_EXAMINED;
 
-// The end of the text: "A text has n bytes, positions 0 to n; position n is the end." Evaluator, walk and terminals ask it here, and the
-// byte at a position below.
-pub fn end_of(text: &[u8]) -> usize
-    ensures { result ≡ length text.now }
+// Whether a byte is one of those from one to another.
+fn is_between(from: usize, to: usize, byte: usize) -> bool
+    ensures { result ≡ between from to byte }
 {
-    text.len()
-}
-
-fn wide(byte: u8) -> usize
-    ensures { result ≡ byte }
-{
-    byte as usize
-}
-
-// The byte at a position of the text.
-fn byte_at(text: &[u8], at: usize) -> usize
-    requires { at < length text.now }
-    ensures { result ≡ byte_at text.now at }
-{
-    wide(text[at])
+    (from..=to).contains(&byte)
 }
 
 // "2 byte from A to B inclusive", without the fold bit.
 pub fn byte_between(text: &[u8], from: usize, to: usize, at: usize) -> u64
     ensures { result ≡ word_of (terminal_at (Range from to) text.now at) }
 {
-    if end_of(text) <= at {
+    let Some(&byte) = text.get(at) else {
         return NO_BYTE;
-    }
-    let byte = byte_at(text, at);
-    if byte < from {
-        return NO_BYTE;
-    }
-    if to < byte {
-        return NO_BYTE;
-    }
-    ONE_BYTE
-}
-
-fn is_between(from: usize, to: usize, byte: usize) -> bool
-    ensures { result ≡ between from to byte }
-{
-    (from <= byte) & (byte <= to)
+    };
+    if is_between(from, to, usize::from(byte)) { ONE_BYTE } else { NO_BYTE }
 }
 
 // The other ASCII case of a letter; any other byte stands for itself.
@@ -77,23 +50,20 @@ fn other_case(byte: usize) -> usize
 pub fn byte_folded(text: &[u8], from: usize, to: usize, at: usize) -> u64
     ensures { result ≡ word_of (terminal_at (Folded from to) text.now at) }
 {
-    if end_of(text) <= at {
+    let Some(&byte) = text.get(at) else {
         return NO_BYTE;
-    }
-    let byte = byte_at(text, at);
-    if is_between(from, to, byte) | is_between(from, to, other_case(byte)) {
-        return ONE_BYTE;
-    }
-    NO_BYTE
+    };
+    let byte = usize::from(byte);
+    if is_between(from, to, byte) | is_between(from, to, other_case(byte)) { ONE_BYTE } else { NO_BYTE }
 }
 
-// Kind 2, by its zero bits, the lowest of which is the fold bit.
-pub fn byte_range(text: &[u8], zero: usize, from: usize, to: usize, at: usize) -> u64
-    ensures { result ≡ word_of (terminal_at (range_by zero from to) text.now at) }
+// What a terminal does at a position.
+pub fn terminal(text: &[u8], terminal: Terminal, at: usize) -> u64
+    ensures { result ≡ word_of (terminal_at terminal text.now at) }
 {
-    if zero % 2 == 1 {
-        byte_folded(text, from, to, at)
-    } else {
-        byte_between(text, from, to, at)
+    match terminal {
+        Terminal::Any => characters::any_character(text, at),
+        Terminal::Range(from, to) => byte_between(text, from, to, at),
+        Terminal::Folded(from, to) => byte_folded(text, from, to, at),
     }
 }

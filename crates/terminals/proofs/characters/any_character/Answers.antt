@@ -9,22 +9,15 @@ use Rattle.terminals.proofs.TerminalWords.{end_word}
 use Rattle.terminals.proofs.CharacterWords.{goes_by_first}
 use Rattle.terminals.proofs.characters.any_character.Goals as goal
 
-pub returns-then-end_of-at : goal.returns-then-end_of-at
-returns-then-end_of-at c =
+pub returns-in_default : goal.returns-in_default
+returns-in_default c =
     let a = c.args in
-    end_word Any a.text.now.now a.at (omega (arith, c.end_of.ensures, c.if-end_of-at.true))
-
-pub byte_at-requires : goal.byte_at-requires
-byte_at-requires c =
-    omega (arith, c.end_of.ensures, c.if-end_of-at.false)
-
-pub by_first-requires : goal.by_first-requires
-by_first-requires c =
-    omega (arith, c.end_of.ensures, c.if-end_of-at.false)
+    end_word Any a.text.now a.at (omega (arith, c.in_default.ensures.lookup))
 
 pub returns : goal.returns
 returns c =
     let a = c.args in
+    let read = c.in-Some.ensures.lookup.3 in
     c.by_first.ensures
-    ∙ ap (λ (byte : ℕ). word_of (continued (later_bytes byte) a.text.now.now a.at 1)) c.byte_at.ensures
-    ∙ sym (ap word_of (goes_by_first a.text.now.now a.at (omega (arith, c.end_of.ensures, c.if-end_of-at.false))))
+    ∙ ap (λ (byte : ℕ). word_of (continued (later_bytes byte) a.text.now a.at 1)) (c.from.ensures ∙ read.1 0)
+    ∙ sym (ap word_of (goes_by_first a.text.now a.at read.0))

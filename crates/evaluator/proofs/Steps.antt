@@ -1,0 +1,124 @@
+-- What a step of a run gives to the next: an answered word's bounds, the run after a step, the children of a node.
+-- Assumes nothing.
+use Rattle.std.specs.Prelude.{Option, Some, None, Ok, Err, Result, IsErr, IsErrAnd}
+use Rattle.std.specs.Option.{ok_or}
+use Rattle.std.proofs.Common.{Bool, true, false, cond, ◌≡◌, ℕ, zero, suc, ◌+◌, ◌-◌, ◌≤◌, ◌<◌, List, length, get_or, refl, sym, ap, ◌∙◌, subst, arith}
+use Rattle.grammar.specs.declared.refusal.Refusal.{Refusal}
+use Rattle.grammar.specs.declared.refusal.Refusal.TheVariants.{Records}
+use Rattle.grammar.specs.declared.node.NodeFields.{NodeFields}
+use Rattle.grammar.specs.declared.node.Node.{Node}
+use Rattle.grammar.specs.declared.node.Node.TheVariants.{Empty, Text, Sequence, Choice, Star, NotPredicate, Call, Unlawful}
+use Rattle.grammar.specs.Image.{fields_of, node_of}
+use Rattle.grammar.proofs.Nodes.{is_empty, is_any, is_range, is_sequence, is_choice, is_star, is_not, is_call, is_unlawful}
+use Rattle.image.specs.Fields.{SameFields}
+use Rattle.records.specs.declared.Record.{Record}
+use Rattle.records.specs.Words.{word_of, value_of, nesting_of, possible, record_of, decoded}
+use Rattle.records.specs.Slots.{slot_of}
+use Rattle.packrat.specs.Model.{Out}
+use Rattle.packrat.specs.Loaded.{rules_in}
+use Rattle.packrat.specs.Gives as packrat
+use Rattle.packrat.specs.Gives.{Gives}
+use Rattle.packrat.proofs.Runs.{nesting_allowed, says_itself}
+use Rattle.evaluator.specs.declared.Run.{Run}
+use Rattle.evaluator.specs.Runs.{node_run, Ready, Kept}
+
+-- An answered word says its evaluation and nothing else, and its nesting is allowed.
+pub answered :
+    {text : List ℕ} {at next left r d : ℕ} {o : Out} {u : List ℕ}
+    → packrat.Ready text at (left + 1)
+    → Gives (length text) next left o (Ok r) u d
+    → (r ≡ word_of (value_of r)) × (nesting_of r ≤ 4096)
+answered ready g =
+    let most = ready.most in
+    (says_itself ready.short (omega arith) g, omega (arith, nesting_allowed ready.short (omega arith) g))
+
+-- What `?` returns.
+pub left_with : {A : Type 0} {r : Result A Refusal} {k : Refusal} → IsErr r × IsErrAnd r (λ y. y ≡ k) → r ≡ Err k
+left_with {r = Ok x} h = absurd h.1
+left_with {r = Err y} h = ap Err h.1
+
+-- What a step gives over the run that it finds, it gives over the run before.
+pub before :
+    (p q : Run) (i : ℕ) (t : List ℕ) (c : ℕ) {left at next d : ℕ} {r : Result ℕ Refusal} {u : List ℕ}
+    → Kept p q
+    → at ≡ next
+    → Gives (length q.text.now) at left (node_run q left i at t c) r u d
+    → Gives (length p.text.now) next left (node_run p left i next t c) r u d
+before p q i t c kept e g = rw (sym kept.1, sym kept.2, sym e) g
+
+pub kept_on : (p q s : Run) → Kept p q → Kept q s → Kept p s
+kept_on p q s k l = (l.0 ∙ k.0, l.1 ∙ k.1, l.2 ∙ k.2, l.3 ∙ k.3)
+
+-- So it finds the run ready for what is evaluated inside, at a place of the text.
+pub ready_after :
+    (p q : Run) {at next left : ℕ} → Kept p q → Ready p at (left + 1) → next ≤ length p.text.now → Ready q next left
+ready_after p q kept ready here =
+    let pre = ready.1 in
+    let most = pre.most in
+    (kept.3 ∙ ready.0 ∙ sym (ap rules_in kept.1), record { short = rw kept.2 pre.short; here = rw kept.2 here; most = omega arith })
+
+-- The pair's word, by the number of rules that is among the words.
+pub looked_up :
+    (p : Run) (rule at : ℕ) {word : ℕ}
+    → p.rules ≡ rules_in p.words.now
+    → word ≡ get_or p.table.now (slot_of p.rules rule at) 0
+    → word ≡ get_or p.table.now (slot_of (rules_in p.words.now) rule at) 0
+looked_up p rule at e w = w ∙ ap (λ (n : ℕ). get_or p.table.now (slot_of n rule at) 0) e
+
+-- What the decoder's answer says of a held word: it is possible, or it is not.
+module _ (word at n : ℕ) {o : Option Record} {given : Result Record Refusal} (e : o ≡ decoded word at n) (v : given ≡ ok_or o Records) where
+  pub was_met : {r : Record} → given ≡ Ok r → (possible word at n ≡ true) × (r ≡ record_of word)
+  was_met {r} w = go (possible word at n) (sym (ap (λ (o : Option Record). ok_or o Records) e) ∙ sym v ∙ w)
+    where
+      go : (b : Bool) → ok_or (cond b (Some (record_of word)) None) Records ≡ Ok r → (b ≡ true) × (r ≡ record_of word)
+      go true d = (refl, cc)
+      go false d = absurd (let z : ◌≡◌ {A = ℕ} 0 1 = cc in omega arith)
+
+  pub was_missed : {k : Refusal} → given ≡ Err k → (possible word at n ≡ false) × (k ≡ Records)
+  was_missed {k} w = go (possible word at n) (sym (ap (λ (o : Option Record). ok_or o Records) e) ∙ sym v ∙ w)
+    where
+      go : (b : Bool) → ok_or (cond b (Some (record_of word)) None) Records ≡ Err k → (b ≡ false) × (k ≡ Records)
+      go true d = absurd (let z : ◌≡◌ {A = ℕ} 0 1 = cc in omega arith)
+      go false d = (refl, cc)
+
+-- The numbers in a node are below 4096 where its fields are.
+abbrev pub Few : Node → Type 0
+Few Empty = Unit {0}
+Few (Text t) = Unit {0}
+Few (Sequence a b) = (a < 4096) × (b < 4096)
+Few (Choice a b) = (a < 4096) × (b < 4096)
+Few (Star a) = a < 4096
+Few (NotPredicate a) = a < 4096
+Few (Call r) = r < 4096
+Few Unlawful = Unit {0}
+
+pub few : (f : NodeFields) {m : Node} → f.a < 4096 → f.b < 4096 → node_of f ≡ m → Few m
+few f {m} a b e = subst Few e (go f.kind refl)
+  where
+    go : (k : ℕ) → f.kind ≡ k → Few (node_of f)
+    go zero k = subst Few (sym (is_empty f k)) tt
+    go (suc zero) k = subst Few (sym (is_any f k)) tt
+    go (suc (suc zero)) k = subst Few (sym (is_range f k)) tt
+    go (suc (suc (suc zero))) k = subst Few (sym (is_sequence f k)) (a, b)
+    go (suc (suc (suc (suc zero)))) k = subst Few (sym (is_choice f k)) (a, b)
+    go (suc (suc (suc (suc (suc zero))))) k = subst Few (sym (is_star f k)) a
+    go (suc (suc (suc (suc (suc (suc zero)))))) k = subst Few (sym (is_not f k)) a
+    go (suc (suc (suc (suc (suc (suc (suc zero))))))) k = subst Few (sym (is_call f k)) a
+    go (suc (suc (suc (suc (suc (suc (suc (suc j)))))))) k = subst Few (sym (is_unlawful f (omega arith))) tt
+
+-- What a word's node has inside is evaluated with an allowance that is one less.
+pub inside :
+    (p : Run) (word : ℕ) {at left : ℕ} {f : NodeFields} {n m : Node}
+    → Ready p at left × (0 < left)
+    → SameFields f (fields_of word)
+    → n ≡ node_of f
+    → n ≡ m
+    → Ready p at (left - 1 + 1) × Few m
+inside p word {f = f} pre same e is =
+    let ready = pre.0.1 in
+    let some = pre.1 in
+    let most = ready.most in
+    (
+      (pre.0.0, record { short = ready.short; here = ready.here; most = omega arith }),
+      few f (omega (arith, same.its_a)) (omega (arith, same.its_b)) (sym e ∙ is),
+    )

@@ -1,0 +1,2 @@
+-- What a run of the evaluator has and keeps.
+pub mod Runs
