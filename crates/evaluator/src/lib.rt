@@ -161,7 +161,7 @@ impl<'a> Run<'a> {
             if left < held.nesting {
                 return Err(Refusal::Nesting);
             }
-            return Ok(u64::from(held));
+            return Ok(held.word());
         }
         let value = self.eval_node(root, at, left)?;
         memo::put(self.table, rules, rule, at, value);

@@ -15,7 +15,7 @@ fn met(word: u64, n: usize) -> Result<u64, Refusal>
     ensures { result ≡ (if possible word 0 n then Ok (record_word (record_of word)) else Err Records) }
 {
     let held = Record::from_word(word, 0, n).ok_or(Refusal::Records)?;
-    Ok(u64::from(held))
+    Ok(held.word())
 }
 
 // Its word, or a refusal; `count` goes up by the pairs that are evaluated.

@@ -156,7 +156,7 @@ pub eval_rule-returns-then-is_held-clause-gives : goal.eval_rule-returns-then-is
 eval_rule-returns-then-is_held-clause-gives t c =
     let m = was_met _ _ _ c.from_word.ensures c.ok_or.ensures.value c.in_ok-held.was in
     let e = ap (λ (r : Record). r.nesting) m.1 in
-    rule_met _ _ _ _ _ _ _ _ _ (looked_up c.args.self.now _ _ c.requires.0.0 c.look-word.ensures) (sym c.is_held.ensures ∙ c.if-is_held.true) m.0 (omega (arith, e, c.if-left-held.false)) (c.from.ensures ∙ ap record_word m.1)
+    rule_met _ _ _ _ _ _ _ _ _ (looked_up c.args.self.now _ _ c.requires.0.0 c.look-word.ensures) (sym c.is_held.ensures ∙ c.if-is_held.true) m.0 (omega (arith, e, c.if-left-held.false)) (c.word.ensures ∙ ap record_word m.1)
 
 pub eval_rule-returns-in_err-value-clause-gives : goal.eval_rule-returns-in_err-value-clause-gives
 eval_rule-returns-in_err-value-clause-gives t c =
