@@ -66,20 +66,20 @@ pub looked_up :
 looked_up p rule at e w = w ∙ ap (λ (n : ℕ). get_or p.table.now (slot_of n rule at) 0) e
 
 -- What the decoder's answer says of a held word: it is possible, or it is not.
-module _ (word at n : ℕ) {o : Option Record} {given : Result Record Refusal} (e : o ≡ decoded word at n) (v : given ≡ ok_or o Records) where
-  pub was_met : {r : Record} → given ≡ Ok r → (possible word at n ≡ true) × (r ≡ record_of word)
-  was_met {r} w = go (possible word at n) (sym (ap (λ (o : Option Record). ok_or o Records) e) ∙ sym v ∙ w)
+module _ (word at n : ℕ) where
+  pub was_met : {r : Record} → Some r ≡ decoded word at n → (possible word at n ≡ true) × (r ≡ record_of word)
+  was_met {r} w = go (possible word at n) w
     where
-      go : (b : Bool) → ok_or (cond b (Some (record_of word)) None) Records ≡ Ok r → (b ≡ true) × (r ≡ record_of word)
+      go : (b : Bool) → Some r ≡ cond b (Some (record_of word)) None → (b ≡ true) × (r ≡ record_of word)
       go true d = (refl, cc)
       go false d = absurd (let z : ◌≡◌ {A = ℕ} 0 1 = cc in omega arith)
 
-  pub was_missed : {k : Refusal} → given ≡ Err k → (possible word at n ≡ false) × (k ≡ Records)
-  was_missed {k} w = go (possible word at n) (sym (ap (λ (o : Option Record). ok_or o Records) e) ∙ sym v ∙ w)
+  pub was_missed : None ≡ decoded word at n → possible word at n ≡ false
+  was_missed w = go (possible word at n) w
     where
-      go : (b : Bool) → ok_or (cond b (Some (record_of word)) None) Records ≡ Err k → (b ≡ false) × (k ≡ Records)
+      go : (b : Bool) → ◌≡◌ {A = Option Record} None (cond b (Some (record_of word)) None) → b ≡ false
       go true d = absurd (let z : ◌≡◌ {A = ℕ} 0 1 = cc in omega arith)
-      go false d = (refl, cc)
+      go false d = refl
 
 -- The numbers in a node are below 4096 where its fields are.
 abbrev pub Few : Node → Type 0

@@ -157,7 +157,9 @@ impl<'a> Run<'a> {
         let table = &mut *self.table;
         let word = memo::look(table, rules, rule, at);
         if records::is_held(word) {
-            let held = Record::from_word(word, at, self.text.len()).ok_or(Refusal::Records)?;
+            let Some(held) = Record::from_word(word, at, self.text.len()) else {
+                return Err(Refusal::Records);
+            };
             if left < held.nesting {
                 return Err(Refusal::Nesting);
             }

@@ -140,28 +140,27 @@ eval_sequence-returns-clause-gives t c =
     (before c.args.self.now c.eval_node.new.self _ _ _ c.eval_node.ensures.kept (ap (λ (l : ℕ). c.args.at + l) c.length_of.ensures.0) c.in_ok-y.ensures.gives)
     c.in_sequence.ensures
 
-pub eval_rule-returns-in_err-held-clause-gives : goal.eval_rule-returns-in_err-held-clause-gives
-eval_rule-returns-in_err-held-clause-gives t c =
-    let m = was_missed _ _ _ c.from_word.ensures c.ok_or.ensures.value c.in_err-held.was in
-    rw (left_with c.from_residual.ensures, m.1)
-    (rule_impossible _ _ _ _ _ _ _ _ _ (looked_up c.args.self.now _ _ c.requires.0.0 c.look-word.ensures) (sym c.is_held.ensures ∙ c.if-is_held.true) m.0)
+pub eval_rule-returns-in_default-clause-gives : goal.eval_rule-returns-in_default-clause-gives
+eval_rule-returns-in_default-clause-gives t c =
+    rule_impossible _ _ _ _ _ _ _ _ _ (looked_up c.args.self.now _ _ c.requires.0.0 c.look-word.ensures) (sym c.is_held.ensures ∙ c.if-is_held.true)
+    (was_missed _ _ _ (sym c.in_default.is ∙ c.from_word.ensures))
 
 pub eval_rule-returns-then-left-held-clause-gives : goal.eval_rule-returns-then-left-held-clause-gives
 eval_rule-returns-then-left-held-clause-gives t c =
-    let m = was_met _ _ _ c.from_word.ensures c.ok_or.ensures.value c.in_ok-held.was in
+    let m = was_met _ _ _ (sym c.in-Some.is ∙ c.from_word.ensures) in
     let e = ap (λ (r : Record). r.nesting) m.1 in
     rule_too_deep _ _ _ _ _ _ _ _ _ (looked_up c.args.self.now _ _ c.requires.0.0 c.look-word.ensures) (sym c.is_held.ensures ∙ c.if-is_held.true) m.0 (omega (arith, e, c.if-left-held.true))
 
 pub eval_rule-returns-then-is_held-clause-gives : goal.eval_rule-returns-then-is_held-clause-gives
 eval_rule-returns-then-is_held-clause-gives t c =
-    let m = was_met _ _ _ c.from_word.ensures c.ok_or.ensures.value c.in_ok-held.was in
+    let m = was_met _ _ _ (sym c.in-Some.is ∙ c.from_word.ensures) in
     let e = ap (λ (r : Record). r.nesting) m.1 in
     rule_met _ _ _ _ _ _ _ _ _ (looked_up c.args.self.now _ _ c.requires.0.0 c.look-word.ensures) (sym c.is_held.ensures ∙ c.if-is_held.true) m.0 (omega (arith, e, c.if-left-held.false)) (c.word.ensures ∙ ap record_word m.1)
 
 pub eval_rule-returns-in_err-value-clause-gives : goal.eval_rule-returns-in_err-value-clause-gives
 eval_rule-returns-in_err-value-clause-gives t c =
     let pre = c.requires.0.1 in
-    rw (left_with c.from_residual-in_err-value.ensures)
+    rw (left_with c.from_residual.ensures)
     (rule_refused _ _ _ _ _ _ _ _ _ (looked_up c.args.self.now _ _ c.requires.0.0 c.look-word.ensures) pre.short pre.most (sym c.is_held.ensures ∙ c.if-is_held.false) c.in_err-value.ensures.gives)
 
 pub eval_rule-returns-clause-gives : goal.eval_rule-returns-clause-gives
