@@ -4,9 +4,12 @@
 --     and_then                 a step after a step that was answered
 --     and_stop                 a refusal ends what follows
 --     same_walk, same_parts    a step of what a step left is one of the same walk
---     kept_on                  what two steps keep
---     steady, smaller          what a step may assume after another, and with a smaller allowance
+--     steady, kept_on          what it may assume, and what both keep
+--     smaller                  what a step of a smaller allowance may assume
+--     exits                    what the exit of a `?` answers
 use Rattle.std.specs.Prelude.{Option, Some, None, Result, Ok, Err}
+use Rattle.std.specs.Result.{IsErrAnd}
+use Rattle.std.proofs.lemmas.Result.{err_from_is_err_and}
 use Prim.Native.Nat.{ℕ, suc, ◌+◌, ◌≤◌}
 use native.Mathlib.Omega.{arith}
 use mathlib.Core.Path.{◌≡◌, refl, sym, ap, ◌∙◌, subst}
@@ -152,40 +155,49 @@ and_stop {k = k} f g e i =
     }
 
 -- A step of what a step left is one of the same walk, and may assume what the first step did.
-module _ (w v : Walk) (kept : Kept w v) where
+module _ {w v : Walk} (kept : Kept w v) where
   pub same_walk :
       (left i p lo hi k : ℕ) {c : ℕ} {l : List ℕ} {r : Result (Option ℕ) Refusal} {l' : List ℕ} {d : ℕ}
       → Gives c l r l' d (nodes_of v left i p lo hi k c) → Gives c l r l' d (nodes_of w left i p lo hi k c)
   same_walk left i p lo hi k {c} =
       just
-      (λ j. node_v (sym kept.5 j) (sym kept.1 j) (sym kept.3 j) (sym kept.4 j) left i p lo hi k c)
+      (λ j. node_v (sym kept.room_is j) (sym kept.words_are j) (sym kept.text_is j) (sym kept.table_is j) left i p lo hi k c)
 
   pub same_parts :
       (left i p lo hi k : ℕ) {c : ℕ} {l : List ℕ} {r : Result (Option ℕ) Refusal} {l' : List ℕ} {d : ℕ}
       → Gives c l r l' d (parts_of v left i p lo hi k c) → Gives c l r l' d (parts_of w left i p lo hi k c)
   same_parts left i p lo hi k {c} =
       just
-      (λ j. part_v (length (sym kept.3 j)) (node_v (sym kept.5 j) (sym kept.1 j) (sym kept.3 j) (sym kept.4 j) left) i p lo hi k c)
+      (λ j. part_v (length (sym kept.text_is j)) (node_v (sym kept.room_is j) (sym kept.words_are j) (sym kept.text_is j) (sym kept.table_is j) left) i p lo hi k c)
 
   pub steady :
-      {at depth allowance p k left : ℕ} → Steady w at depth allowance → p ≤ length w.text.now → v.count ≤ w.room → k + left ≤ 4097
+      {at k allowance p left : ℕ} → Steady w at k allowance → p ≤ length w.text.now → v.count ≤ w.room → left ≤ allowance
       → Steady v p k left
-  steady s here few shallow =
-      let long = ap length kept.3 in
+  steady s here few less =
+      let long = ap length kept.text_is in
       record {
         short = omega (arith, s.short);
         here = omega arith;
-        rules_are = kept.2 ∙ s.rules_are ∙ sym (ap rules_in kept.1);
-        few_rules = omega (arith, kept.2, s.few_rules);
-        few = omega (arith, kept.5);
-        shallow = shallow;
+        rules_are = kept.rules_are ∙ s.rules_are ∙ sym (ap rules_in kept.words_are);
+        few_rules = omega (arith, kept.rules_are, s.few_rules);
+        few = omega (arith, kept.room_is);
+        shallow = omega (arith, s.shallow);
       }
 
-pub kept_on : (u w v : Walk) → Kept u w → Kept w v → Kept u v
-kept_on u w v k j = (j.0 ∙ k.0, j.1 ∙ k.1, j.2 ∙ k.2, j.3 ∙ k.3, j.4 ∙ k.4, j.5 ∙ k.5)
+  pub kept_on : {u : Walk} → Kept u w → Kept u v
+  kept_on k =
+      record {
+        slots_are = kept.slots_are ∙ k.slots_are;
+        words_are = kept.words_are ∙ k.words_are;
+        rules_are = kept.rules_are ∙ k.rules_are;
+        text_is = kept.text_is ∙ k.text_is;
+        table_is = kept.table_is ∙ k.table_is;
+        room_is = kept.room_is ∙ k.room_is;
+      }
 
-pub smaller : {w : Walk} {at depth allowance : ℕ} → Steady w at depth allowance → {left : ℕ} → left ≤ allowance → Steady w at depth left
-smaller s h =
+-- The same of a smaller allowance.
+pub smaller : {w : Walk} {at k allowance : ℕ} → Steady w at k allowance → {left : ℕ} → left ≤ allowance → Steady w at k left
+smaller s less =
     record {
       short = s.short;
       here = s.here;
@@ -194,3 +206,7 @@ smaller s h =
       few = s.few;
       shallow = omega (arith, s.shallow);
     }
+
+-- What the exit of a `?` answers.
+pub exits : {T : Type 0} {q : Result T Refusal} {e : Refusal} → IsErrAnd q (λ f. f ≡ e) → q ≡ Err e
+exits {q = q} h = let p = err_from_is_err_and q h in p.1 ∙ ap Err p.2

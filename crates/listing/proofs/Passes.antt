@@ -1,25 +1,19 @@
 -- The counting pass and the writing pass are the same walk: they agree over every table. Assumes nothing.
-use Rattle.std.specs.Prelude.{Option, Some, None, Result, Ok, Err}
-use Prim.Native.Nat.{ℕ, ◌+◌, ◌≤◌}
+use Rattle.std.specs.Prelude.{Option, Result, Ok, Err}
+use Prim.Native.Nat.{ℕ, ◌+◌}
 use native.Mathlib.Omega.{arith}
 use mathlib.Core.Path.{◌≡◌, refl, sym, ap, ◌∙◌, subst}
-use mathlib.Core.List.{List, [], ◌++◌}
+use mathlib.Core.List.{List, ◌++◌}
 use lib.ListN.{length, drop}
-use lib.Seq.{sets, sets-eq}
+use lib.Seq.{sets-eq}
 use Rattle.grammar.specs.declared.refusal.Refusal.{Refusal}
 use Rattle.rows.specs.Walk.{Walked, walked, stopped, Trail, trail}
 use Rattle.rows.specs.Bounds.{Stops, Bounded}
 use Rattle.listing.specs.Gives.{coded, Gives}
-use Rattle.listing.specs.Listed.{counted, Passed, Written, NotWritten, ListedAs}
-use Rattle.listing.proofs.Gives.{halted, on_trail}
+use Rattle.listing.specs.Listed.{counted, Passed, NotWritten, ListedAs}
+use Rattle.listing.proofs.Gives.{on_trail}
 
--- A pass from the walk that it is: a refusal is the walk's, and otherwise the count is that of the rows.
-pub pass_stopped :
-    {l : List ℕ} {r : Result (Option ℕ) Refusal} {q : Result ℕ Refusal} {l' : List ℕ} {d : ℕ} {o : Trail} {e : Refusal}
-    → Gives 0 l r l' d o → r ≡ Err e → q ≡ Err e → Passed l q l' o
-pass_stopped {e = e} g i j =
-    let h = halted g i in record { answer = stopped e; words = h.words; is = h.is; given_is = j; written = h.written }
-
+-- A pass from the walk that it is, where the walk is not refused: the count is that of the rows.
 pub pass_counted :
     {n room p : ℕ} {l : List ℕ} {r : Result (Option ℕ) Refusal} {l' left : List ℕ} {d : ℕ} {o : Trail} {x : Option ℕ}
     → Bounded n room p 0 o → Gives 0 l r l' d o → r ≡ Ok x → left ≡ l' → Passed l (Ok d) left o

@@ -53,14 +53,13 @@ abbrev pub nowhere : Window
 nowhere = record { lo = 0; hi = 0 }
 
 -- What a step keeps: the slots that are lent, the grammar, the text, the table and the room.
-abbrev pub Kept : Walk → Walk → Type 0
-Kept w v =
-    (v.rows.ghost_name ≡ w.rows.ghost_name)
-    × (v.words.now ≡ w.words.now)
-    × (v.rules ≡ w.rules)
-    × (v.text.now ≡ w.text.now)
-    × (v.table.now ≡ w.table.now)
-    × (v.room ≡ w.room)
+pub record Kept (w v : Walk) : Type 0 where
+  pub slots_are : v.rows.ghost_name ≡ w.rows.ghost_name
+  pub words_are : v.words.now ≡ w.words.now
+  pub rules_are : v.rules ≡ w.rules
+  pub text_is : v.text.now ≡ w.text.now
+  pub table_is : v.table.now ≡ w.table.now
+  pub room_is : v.room ≡ w.room
 
 -- What a step may assume: a text that is short enough, a position in it, the grammar's number of rules, no more rows than fit, and an
 -- allowance under which the depth fits its field.

@@ -1,6 +1,6 @@
 use mathlib.Core.Path.{sym, ap, ◌∙◌}
 use mathlib.Core.Bool.{Bool}
-use Rattle.std.specs.Prelude.{Some, None}
+use Rattle.std.specs.Prelude.{Some}
 use Rattle.records.specs.Words.{value_of, length_of}
 use Rattle.listing.specs.Gives.{length_or}
 use Rattle.listing.proofs.bytes.told.Goals as goal

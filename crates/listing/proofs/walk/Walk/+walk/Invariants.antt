@@ -1,8 +1,7 @@
 -- The cycle of the walk. The measure is three times the allowance, a node below a part, a part below the kinds.
-use Rattle.grammar.specs.declared.node.Node.TheVariants.{Star}
-use Rattle.listing.specs.Gives.{Kept, inside_of}
+use Rattle.listing.specs.Gives.{Kept}
 use Rattle.listing.proofs.Paths.{Rounds}
-use Rattle.std.proofs.Common.{◌≡◌, ◌+◌, ◌-◌, ◌*◌, ◌≤◌, length}
+use Rattle.std.proofs.Common.{◌+◌, ◌-◌, ◌*◌, length}
 use Rattle.listing.proofs.walk.Walk.+walk.Given as goal
 
 abbrev pub decreases-walk_choice : goal.decreases-walk_choice
@@ -28,8 +27,7 @@ decreases-walk_star l = 3 * l.left + 2
 
 abbrev pub invariant-walk_star-loop-x : goal.invariant-walk_star-loop-x
 invariant-walk_star-loop-x l =
-    Kept l.fn.self l.self
-    × Rounds l.fn.self l.left l.a l.at l.window.lo l.window.hi l.depth l.fn.self.count l.fn.self.rows.now (inside_of l.fn.self l.left 0 (Star l.a) l.at l.window.lo l.window.hi l.depth l.fn.self.count) l.before l.self.rows.now l.self.count
+    Kept l.fn.self l.self × Rounds l.fn.self l.left l.a l.at l.window l.depth l.before l.self
 
 abbrev pub decreases-walk_star-loop-x : goal.decreases-walk_star-loop-x
 decreases-walk_star-loop-x l = length l.self.text.now - (l.at + l.before)
