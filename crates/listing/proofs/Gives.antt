@@ -21,7 +21,7 @@ use Rattle.grammar.specs.declared.refusal.Refusal.{Refusal}
 use Rattle.rows.specs.Walk.{Walked, walked, stopped, Trail, trail, bind, after, part_v, node_v}
 use Rattle.rows.specs.Bounds.{May, Bounded}
 use Rattle.packrat.specs.Loaded.{rules_in}
-use Rattle.listing.specs.declared.walk.Walk.{Walk}
+use Rattle.listing.specs.declared.state.Walk.{Walk}
 use Rattle.listing.specs.Gives.{coded, Gives, Kept, Steady, nodes_of, parts_of}
 
 -- One run of stores after another.
@@ -36,21 +36,19 @@ pub on_trail : {n room p c : ℕ} {o : Trail} {a : Walked} {ws : List ℕ} → B
 on_trail {n} {room} {p} {c} b e = subst (OnTrail n room p c) (sym b.is ∙ e) (b.may, b.fit)
 
 -- A match of that length.
-pub record Found (n room p c : ℕ) (l : List ℕ) (x : ℕ) (l' : List ℕ) (d : ℕ) (o : Trail) : Type 0 where
+pub record Found (n p c : ℕ) (l : List ℕ) (x : ℕ) (l' : List ℕ) (d : ℕ) (o : Trail) : Type 0 where
   pub words : List ℕ
   pub is : o ≡ trail (walked true x d) words
   pub written : l' ≡ sets l c words
   pub counted : d ≡ c + length words
   pub in_text : p + x ≤ n
-  pub few : d ≤ room
 
-pub record Failed (room c : ℕ) (l l' : List ℕ) (d : ℕ) (o : Trail) : Type 0 where
+pub record Failed (c : ℕ) (l l' : List ℕ) (d : ℕ) (o : Trail) : Type 0 where
   pub len : ℕ
   pub words : List ℕ
   pub is : o ≡ trail (walked false len d) words
   pub written : l' ≡ sets l c words
   pub counted : d ≡ c + length words
-  pub few : d ≤ room
 
 pub record Halted (c : ℕ) (l : List ℕ) (r : Refusal) (l' : List ℕ) (d : ℕ) (o : Trail) : Type 0 where
   pub words : List ℕ
@@ -59,12 +57,12 @@ pub record Halted (c : ℕ) (l : List ℕ) (r : Refusal) (l' : List ℕ) (d : �
   pub counted : d ≡ c + length words
 
 module _ {c : ℕ} {l : List ℕ} {r : Result (Option ℕ) Refusal} {l' : List ℕ} {d : ℕ} {o : Trail} (g : Gives c l r l' d o) where
-  pub found : {n room p x : ℕ} → Bounded n room p c o → r ≡ Ok (Some x) → Found n room p c l x l' d o
+  pub found : {n room p x : ℕ} → Bounded n room p c o → r ≡ Ok (Some x) → Found n p c l x l' d o
   found {n} {room} {p} {x} b h = go g.answer g.words g.is (sym g.given_is ∙ h) g.written g.counted
     where
       go :
           (a : Walked) (ws : List ℕ) → o ≡ trail a ws → coded a ≡ Ok (Some x) → l' ≡ sets l c ws → d ≡ c + length ws
-          → Found n room p c l x l' d o
+          → Found n p c l x l' d o
       go (walked true len e) ws is given written counted =
           let t = on_trail b is in
           let same : e ≡ d = omega (arith, t.0.counted) in
@@ -75,17 +73,16 @@ module _ {c : ℕ} {l : List ℕ} {r : Result (Option ℕ) Refusal} {l' : List �
             written = written;
             counted = counted;
             in_text = omega (arith, t.0.in_text);
-            few = omega (arith, t.1);
           }
       go (walked false len e) ws is given written counted = absurd (let z : ◌≡◌ {A = ℕ} 0 1 = cc in omega arith)
       go (stopped k) ws is given written counted = absurd (let z : ◌≡◌ {A = ℕ} 0 1 = cc in omega arith)
 
-  pub failed : {n room p : ℕ} → Bounded n room p c o → r ≡ Ok None → Failed room c l l' d o
+  pub failed : {n room p : ℕ} → Bounded n room p c o → r ≡ Ok None → Failed c l l' d o
   failed {n} {room} {p} b h = go g.answer g.words g.is (sym g.given_is ∙ h) g.written g.counted
     where
       go :
           (a : Walked) (ws : List ℕ) → o ≡ trail a ws → coded a ≡ Ok None → l' ≡ sets l c ws → d ≡ c + length ws
-          → Failed room c l l' d o
+          → Failed c l l' d o
       go (walked true len e) ws is given written counted = absurd (let z : ◌≡◌ {A = ℕ} 0 1 = cc in omega arith)
       go (walked false len e) ws is given written counted =
           let t = on_trail b is in
@@ -96,7 +93,6 @@ module _ {c : ℕ} {l : List ℕ} {r : Result (Option ℕ) Refusal} {l' : List �
             is = is ∙ ap (λ (k : ℕ). trail (walked false len k) ws) same;
             written = written;
             counted = counted;
-            few = omega (arith, t.1);
           }
       go (stopped k) ws is given written counted = absurd (let z : ◌≡◌ {A = ℕ} 0 1 = cc in omega arith)
 
@@ -171,18 +167,8 @@ module _ {w v : Walk} (kept : Kept w v) where
       (λ j. part_v (length (sym kept.text_is j)) (node_v (sym kept.room_is j) (sym kept.words_are j) (sym kept.text_is j) (sym kept.table_is j) left) i p lo hi k c)
 
   pub steady :
-      {at k allowance p left : ℕ} → Steady w at k allowance → p ≤ length w.text.now → v.count ≤ w.room → left ≤ allowance
-      → Steady v p k left
-  steady s here few less =
-      let long = ap length kept.text_is in
-      record {
-        short = omega (arith, s.short);
-        here = omega arith;
-        rules_are = kept.rules_are ∙ s.rules_are ∙ sym (ap rules_in kept.words_are);
-        few_rules = omega (arith, kept.rules_are, s.few_rules);
-        few = omega (arith, kept.room_is);
-        shallow = omega (arith, s.shallow);
-      }
+      {at k allowance p left : ℕ} → Steady w.text.now at k allowance → p ≤ length w.text.now → left ≤ allowance → Steady v.text.now p k left
+  steady s here less = let long = ap length kept.text_is in record { here = omega arith; shallow = omega (arith, s.shallow) }
 
   pub kept_on : {u : Walk} → Kept u w → Kept u v
   kept_on k =
@@ -196,16 +182,8 @@ module _ {w v : Walk} (kept : Kept w v) where
       }
 
 -- The same of a smaller allowance.
-pub smaller : {w : Walk} {at k allowance : ℕ} → Steady w at k allowance → {left : ℕ} → left ≤ allowance → Steady w at k left
-smaller s less =
-    record {
-      short = s.short;
-      here = s.here;
-      rules_are = s.rules_are;
-      few_rules = s.few_rules;
-      few = s.few;
-      shallow = omega (arith, s.shallow);
-    }
+pub smaller : {text : List ℕ} {at k allowance : ℕ} → Steady text at k allowance → {left : ℕ} → left ≤ allowance → Steady text at k left
+smaller s less = record { here = s.here; shallow = omega (arith, s.shallow) }
 
 -- What the exit of a `?` answers.
 pub exits : {T : Type 0} {q : Result T Refusal} {e : Refusal} → IsErrAnd q (λ f. f ≡ e) → q ≡ Err e

@@ -17,7 +17,7 @@ use Rattle.rows.specs.Walk.{walked, stopped, Trail, trail, Walker, bind, after, 
 use Rattle.rows.specs.Walk.{after_round, rounds_v, kind_v}
 use Rattle.rows.specs.Bounds.{Bounded}
 use Rattle.rows.proofs.Bounds.{Stays, part_bounded, node_bounded}
-use Rattle.listing.specs.declared.walk.Walk.{Walk}
+use Rattle.listing.specs.declared.state.Walk.{Walk}
 use Rattle.listing.specs.declared.slots.Window.{Window}
 use Rattle.listing.specs.Gives.{Gives, Kept, Steady, nodes_of, parts_of, inside_of}
 use Rattle.listing.proofs.Gives.{sets_both, Found, found, failed, at_once, just, and_then, and_stop, same_walk, same_parts}
@@ -54,7 +54,7 @@ stays w left = node_bounded w.room w.words.now w.text.now w.table.now left
 parts_stay : (w : Walk) (left : ℕ) → Stays (length w.text.now) w.room (parts_of w left)
 parts_stay w left = part_bounded (length w.text.now) w.room (nodes_of w left) (stays w left)
 
-module _ {w : Walk} {at k allowance : ℕ} (s : Steady w at k allowance) {v : Walk} (kept : Kept w v) (left : ℕ) where
+module _ {w v : Walk} (kept : Kept w v) {at k allowance : ℕ} (s : Steady w.text.now at k allowance) (left : ℕ) where
   abbrev n : ℕ
   n = length w.text.now
 
@@ -64,11 +64,11 @@ module _ {w : Walk} {at k allowance : ℕ} (s : Steady w at k allowance) {v : Wa
   -- A node came first.
   module _ (a lo hi : ℕ) {r : Answer} (g : Gives w.count w.rows.now r v.rows.now v.count (nodes_of w left a at lo hi k w.count)) where
     bounds : Bounded n w.room at w.count (nodes_of w left a at lo hi k w.count)
-    bounds = stays w left a at lo hi k w.count s.here s.few
+    bounds = stays w left a at lo hi k w.count s.here w.few
 
     pub node_found :
         {x : ℕ} → r ≡ Ok (Some x)
-        → Found (length w.text.now) w.room at w.count w.rows.now x v.rows.now v.count (nodes_of w left a at lo hi k w.count)
+        → Found (length w.text.now) at w.count w.rows.now x v.rows.now v.count (nodes_of w left a at lo hi k w.count)
     node_found i = found g bounds i
 
     then_b : ℕ → Bool → ℕ → ℕ → Trail
@@ -95,7 +95,7 @@ module _ {w : Walk} {at k allowance : ℕ} (s : Steady w at k allowance) {v : Wa
         second = same_walk kept left _ _ _ _ _ g2
 
         its_bounds : Bounded n w.room (at + x) v.count (nodes_of w left b (at + x) lo hi k v.count)
-        its_bounds = let f = node_found i in stays w left b (at + x) lo hi k v.count f.in_text f.few
+        its_bounds = stays w left b (at + x) lo hi k v.count (node_found i).in_text (omega (arith, v.few, kept.room_is))
 
         join : Bool → ℕ → ℕ → Trail
         join m l c = joined m x l c
@@ -200,7 +200,7 @@ module _ {w : Walk} {at k allowance : ℕ} (s : Steady w at k allowance) {v : Wa
     else_b b m l c = after_choice m l (ev b at lo hi k) c
 
     first_bounds : Bounded n w.room at w.count (parts_of w left a at lo hi k w.count)
-    first_bounds = parts_stay w left a at lo hi k w.count s.here s.few
+    first_bounds = parts_stay w left a at lo hi k w.count s.here w.few
 
     pub choice_stops :
         (root b : ℕ) {e : Refusal} {q : Answer} → r ≡ Err e → q ≡ Err e
@@ -215,9 +215,6 @@ module _ {w : Walk} {at k allowance : ℕ} (s : Steady w at k allowance) {v : Wa
     choice_first root b {x} i =
         let f = found g first_bounds i in
         and_then f.words (else_b b) f.is f.written f.counted (at_once (walked true x v.count) refl refl)
-
-    pub choice_failed : r ≡ Ok None → v.count ≤ w.room
-    choice_failed i = (failed g first_bounds i).few
 
     pub choice_second :
         (root b : ℕ) {y : Answer} {l2 : List ℕ} {e : ℕ} → r ≡ Ok None
@@ -238,10 +235,9 @@ pub record Rounds (w : Walk) (left a at : ℕ) (t : Window) (k before : ℕ) (v 
   pub written : v.rows.now ≡ sets w.rows.now w.count words
   pub counted : v.count ≡ w.count + length words
   pub in_text : at + before ≤ length w.text.now
-  pub few : v.count ≤ w.room
 
 pub star_start :
-    {w : Walk} {left a at k allowance : ℕ} {t : Window} → Steady w at k allowance → Rounds w left a at t k 0 w
+    {w : Walk} {left a at k allowance : ℕ} {t : Window} → Steady w.text.now at k allowance → Rounds w left a at t k 0 w
 unfolding kind_v
 star_start {w} {left} {a} {at} {k} {t = t} s =
     record {
@@ -252,7 +248,6 @@ star_start {w} {left} {a} {at} {k} {t = t} s =
       written = refl;
       counted = omega arith;
       in_text = omega (arith, s.here);
-      few = s.few;
     }
 
 module _ {w v : Walk} (kept : Kept w v) {left a at : ℕ} {t : Window} {k before : ℕ} (s : Rounds w left a at t k before v) {r : Answer}
@@ -271,7 +266,7 @@ module _ {w v : Walk} (kept : Kept w v) {left a at : ℕ} {t : Window} {k before
     round = same_parts kept left _ _ _ _ _ g
 
     round_bounds : Bounded long w.room (at + before) v.count (parts_of w left a (at + before) t.lo t.hi k v.count)
-    round_bounds = parts_stay w left a (at + before) t.lo t.hi k v.count s.in_text s.few
+    round_bounds = parts_stay w left a (at + before) t.lo t.hi k v.count s.in_text (omega (arith, v.few, kept.room_is))
 
     -- There is fuel for a round.
     opened :
@@ -301,7 +296,7 @@ module _ {w v : Walk} (kept : Kept w v) {left a at : ℕ} {t : Window} {k before
         opened (λ f. and_then x.words (step_of f) x.is x.written x.counted (at_once (walked true before u.count) refl refl))
 
     module _ {x : ℕ} (i : r ≡ Ok (Some x)) where
-      its_round : Found long w.room (at + before) v.count v.rows.now x u.rows.now u.count (parts_of w left a (at + before) t.lo t.hi k v.count)
+      its_round : Found long (at + before) v.count v.rows.now x u.rows.now u.count (parts_of w left a (at + before) t.lo t.hi k v.count)
       its_round = found round round_bounds i
 
       pub star_in_text : at + before + x ≤ length w.text.now
@@ -320,7 +315,7 @@ module _ {w v : Walk} (kept : Kept w v) {left a at : ℕ} {t : Window} {k before
       unfolding rounds_v after_round step_of bind
       star_more ne = go s.fuel s.enough s.is
         where
-          y : Found long w.room (at + before) v.count v.rows.now x u.rows.now u.count (parts_of w left a (at + before) t.lo t.hi k v.count)
+          y : Found long (at + before) v.count v.rows.now x u.rows.now u.count (parts_of w left a (at + before) t.lo t.hi k v.count)
           y = its_round
 
           go :
@@ -340,5 +335,4 @@ module _ {w v : Walk} (kept : Kept w v) {left a at : ℕ} {t : Window} {k before
                 written = y.written ∙ (λ i. sets (s.written i) (s.counted i) y.words) ∙ sym (sets_both w.rows.now w.count s.words y.words);
                 counted = let j = length-append s.words y.words in omega (arith, y.counted, s.counted);
                 in_text = omega (arith, y.in_text);
-                few = y.few;
               }

@@ -30,7 +30,7 @@ use Rattle.rows.specs.Window.{touches}
 use Rattle.rows.specs.Walk.{walked, stopped, Trail, trail, bind, after, met, entered, pair_v, kind_v, node_v}
 use Rattle.rows.specs.Bounds.{Bounded}
 use Rattle.rows.proofs.Bounds.{node_bounded}
-use Rattle.listing.specs.declared.walk.Walk.{Walk}
+use Rattle.listing.specs.declared.state.Walk.{Walk}
 use Rattle.listing.specs.Gives.{Gives, Steady, told_length, nodes_of, rules_of, inside_of}
 use Rattle.listing.proofs.Gives.{found, failed, at_once, just, and_then, and_stop}
 use Rattle.listing.proofs.Paths.{prefixed}
@@ -43,7 +43,7 @@ held_in_text word at n {h} from =
     let q = ap (λ (q : Record). q.length) known.1 in
     omega arith
 
-module _ {w : Walk} {at k allowance : ℕ} (s : Steady w at k allowance) (left root r lo hi : ℕ) {word : ℕ}
+module _ (w : Walk) {at k allowance : ℕ} (s : Steady w.text.now at k allowance) (left root r lo hi : ℕ) {word : ℕ}
     (word_is : word ≡ get_or w.table.now (slot_of w.rules r at) 0)
   where
     abbrev n : ℕ
@@ -66,7 +66,7 @@ module _ {w : Walk} {at k allowance : ℕ} (s : Steady w at k allowance) (left r
     unfolding pair_v
     opens =
         ap (λ (v : ℕ). met (is_held v && possible v at n) (matched_of v) w.count (Inner (length_of v)))
-        (sym (word_is ∙ ap (λ (m : ℕ). get_or w.table.now (slot_of m r at) 0) s.rules_are))
+        (sym (word_is ∙ ap (λ (m : ℕ). get_or w.table.now (slot_of m r at) 0) w.rules_are))
 
     pub rule_empty :
         is_held word ≡ false
@@ -140,8 +140,8 @@ module _ {w : Walk} {at k allowance : ℕ} (s : Steady w at k allowance) (left r
               fits : row_word (record { rule = r % 256; depth = k; start = at; length = h.length }) ≡ row
               fits =
                   let deep : k ≡ k % 2 ^ 16 = omega (arith, s.shallow) in
-                  let there : at ≡ at % 2 ^ 16 = omega (arith, s.here, s.short) in
-                  let long : h.length ≡ h.length % 2 ^ 16 = omega (arith, held_in_text word at n from, s.short) in
+                  let there : at ≡ at % 2 ^ 16 = omega (arith, s.here, w.short) in
+                  let long : h.length ≡ h.length % 2 ^ 16 = omega (arith, held_in_text word at n from, w.short) in
                   (λ i. row_word (record { rule = r % 256; depth = deep i; start = there i; length = long i })) ∙ sym row_is
 
               with_row :
@@ -223,7 +223,7 @@ module _ (word : ℕ) {f : NodeFields} (s : SameFields f (fields_of word)) {m : 
   second_small = let p = (parts_are f).1 in let q = ap second_of is in omega (arith, s.its_b)
 
 -- A node: without an allowance, and by its word.
-module _ {w : Walk} {at k left : ℕ} (s : Steady w at k left) (i lo hi : ℕ) where
+module _ (w : Walk) {at k left : ℕ} (s : Steady w.text.now at k left) (i lo hi : ℕ) where
   pub node_too_deep : left ≡ 0 → Gives w.count w.rows.now (Err Nesting) w.rows.now w.count (nodes_of w left i at lo hi k w.count)
   node_too_deep e =
       subst (λ (m : ℕ). Gives w.count w.rows.now (Err Nesting) w.rows.now w.count (nodes_of w m i at lo hi k w.count)) (sym e)

@@ -1,13 +1,12 @@
 -- What a step of the walk promises: its answer, the row slots and the count are those of the walk as a function (crate rows).
 use Rattle.grammar.specs.declared.refusal.Refusal.{Refusal}
-use Rattle.std.specs.Prelude.{ℕ, ◌+◌, ◌≤◌, ◌<◌, ◌^◌, ◌≡◌, Bool, true, false, List, length, Option, Some, None, Result, Ok, Err}
+use Rattle.std.specs.Prelude.{ℕ, ◌+◌, ◌≤◌, ◌≡◌, Bool, true, false, List, length, Option, Some, None, Result, Ok, Err}
 use Rattle.std.proofs.lemmas.List.Edits.{sets}
 use Rattle.grammar.specs.declared.Evaluation.{Evaluation}
 use Rattle.grammar.specs.declared.node.Node.{Node}
-use Rattle.packrat.specs.Loaded.{rules_in}
 use Rattle.rows.specs.Walk.{Walked, walked, stopped, Trail, trail, Walker, part_v, node_v, rule_v, inside_v}
 use Rattle.listing.specs.declared.slots.Window.{Window}
-use Rattle.listing.specs.declared.walk.Walk.{Walk}
+use Rattle.listing.specs.declared.state.Walk.{Walk}
 
 -- An answer: the length of a match, none for a failure, or the refusal.
 abbrev pub length_or : Bool → ℕ → Option ℕ
@@ -61,12 +60,7 @@ pub record Kept (w v : Walk) : Type 0 where
   pub table_is : v.table.now ≡ w.table.now
   pub room_is : v.room ≡ w.room
 
--- What a step may assume: a text that is short enough, a position in it, the grammar's number of rules, no more rows than fit, and an
--- allowance under which the depth fits its field.
-pub record Steady (w : Walk) (at depth allowance : ℕ) : Type 0 where
-  pub short : length w.text.now ≤ 65535
-  pub here : at ≤ length w.text.now
-  pub rules_are : w.rules ≡ rules_in w.words.now
-  pub few_rules : w.rules < 2 ^ 32
-  pub few : w.count ≤ w.room
+-- What a step may assume: a position in the text, and an allowance under which the depth fits its field.
+pub record Steady (text : List ℕ) (at depth allowance : ℕ) : Type 0 where
+  pub here : at ≤ length text
   pub shallow : depth + allowance ≤ 4097

@@ -4,7 +4,7 @@ ghost use Rattle.rows.specs.Walk.{rule_v};
 ghost use Rattle.listing.specs.Listed.{Passed, ListedIn};
 
 use crate::slots::Window;
-use crate::walk::Walk;
+use crate::state::Walk;
 use grammar::Refusal;
 use records::Record;
 

@@ -7,21 +7,10 @@ ghost use Rattle.listing.specs.Gives.{Steady, Kept, Walks, nodes_of, parts_of, r
 ghost use Rattle.listing.specs.Gives.{nowhere};
 
 use crate::slots::{Row, Window};
+use crate::state::Walk;
 use crate::{bytes, slots};
 use grammar::{Node, Refusal};
 use records::Record;
-
-// A loaded grammar with its number of rules, the text, the records, the row slots, the rows so far, and how many may be given.
-#[derive(Drop)]
-pub struct Walk<'a> {
-    pub words: &'a [u32; 4097],
-    pub rules: usize,
-    pub text: &'a [u8],
-    pub table: &'a [u64],
-    pub rows: &'a mut [u64],
-    pub count: usize,
-    pub room: usize,
-}
 
 impl<'a> Walk<'a> {
     // A node at a position.
@@ -34,7 +23,7 @@ impl<'a> Walk<'a> {
         depth: usize,
         left: usize,
     ) -> Result<Option<usize>, Refusal>
-        requires { Steady self.old at depth left × (node < 4096) }
+        requires { Steady self.old.text.now at depth left × (node < 4096) }
         ensures kept { Kept self.old self.new }
         ensures gives { Walks self.old result self.new (nodes_of self.old left node) at window depth }
     {
@@ -66,7 +55,7 @@ impl<'a> Walk<'a> {
         depth: usize,
         left: usize,
     ) -> Result<Option<usize>, Refusal>
-        requires { Steady self.old at depth (left + 1) × (a < 4096) × (b < 4096) }
+        requires { Steady self.old.text.now at depth (left + 1) × (a < 4096) × (b < 4096) }
         ensures kept { Kept self.old self.new }
         ensures gives { Walks self.old result self.new (inside_of self.old left b (Sequence a b)) at window depth }
     {
@@ -90,7 +79,7 @@ impl<'a> Walk<'a> {
         depth: usize,
         left: usize,
     ) -> Result<Option<usize>, Refusal>
-        requires { Steady self.old at depth (left + 1) × (a < 4096) × (b < 4096) }
+        requires { Steady self.old.text.now at depth (left + 1) × (a < 4096) × (b < 4096) }
         ensures kept { Kept self.old self.new }
         ensures gives { Walks self.old result self.new (inside_of self.old left b (Choice a b)) at window depth }
     {
@@ -109,7 +98,7 @@ impl<'a> Walk<'a> {
         depth: usize,
         left: usize,
     ) -> Result<Option<usize>, Refusal>
-        requires { Steady self.old at depth (left + 1) × (a < 4096) }
+        requires { Steady self.old.text.now at depth (left + 1) × (a < 4096) }
         ensures kept { Kept self.old self.new }
         ensures gives { Walks self.old result self.new (inside_of self.old left 0 (NotPredicate a)) at nowhere depth }
     {
@@ -129,7 +118,7 @@ impl<'a> Walk<'a> {
         depth: usize,
         left: usize,
     ) -> Result<Option<usize>, Refusal>
-        requires { Steady self.old at depth (left + 1) × (a < 4096) }
+        requires { Steady self.old.text.now at depth (left + 1) × (a < 4096) }
         ensures kept { Kept self.old self.new }
         ensures gives { Walks self.old result self.new (inside_of self.old left 0 (Star a)) at window depth }
     {
@@ -155,7 +144,7 @@ impl<'a> Walk<'a> {
         depth: usize,
         left: usize,
     ) -> Result<Option<usize>, Refusal>
-        requires { Steady self.old at depth left × (a < 4096) }
+        requires { Steady self.old.text.now at depth left × (a < 4096) }
         ensures kept { Kept self.old self.new }
         ensures gives { Walks self.old result self.new (parts_of self.old left a) at window depth }
     {
@@ -179,7 +168,7 @@ impl<'a> Walk<'a> {
         depth: usize,
         left: usize,
     ) -> Result<Option<usize>, Refusal>
-        requires { Steady self.old at depth (left + 1) × (rule < 4096) × (root < 4096) }
+        requires { Steady self.old.text.now at depth (left + 1) × (rule < 4096) × (root < 4096) }
         ensures kept { Kept self.old self.new }
         ensures gives { Walks self.old result self.new (rules_of self.old left root rule) at window depth }
     {

@@ -2,7 +2,7 @@
 use Rattle.listing.specs.Gives.{Kept}
 use Rattle.listing.proofs.Paths.{Rounds}
 use Rattle.std.proofs.Common.{◌+◌, ◌-◌, ◌*◌, length}
-use Rattle.listing.proofs.walk.Walk.+walk.Given as goal
+use Rattle.listing.proofs.state.Walk.+walk.Given as goal
 
 abbrev pub decreases-walk_choice : goal.decreases-walk_choice
 decreases-walk_choice l = 3 * l.left + 2

@@ -1,33 +1,33 @@
 -- The goals of the walk's cycle, step by step. Each answer is a way of proofs/Paths or proofs/Rules. Assumes nothing.
 use Rattle.std.specs.Prelude.{Ok}
 use Rattle.listing.proofs.Gives.{steady, kept_on, smaller, exits}
-use Rattle.listing.proofs.Paths.{node_found, sequence_stops, sequence_fails, sequence_in_text, sequence_second_stops, sequence_second_fails, sequence_both, not_stops, not_fails, not_matches, part_stops, part_fails, part_missed, part_goes, choice_stops, choice_first, choice_failed, choice_second, star_start, star_stops, star_last, star_in_text, star_still, star_more}
+use Rattle.listing.proofs.Paths.{node_found, sequence_stops, sequence_fails, sequence_in_text, sequence_second_stops, sequence_second_fails, sequence_both, not_stops, not_fails, not_matches, part_stops, part_fails, part_missed, part_goes, choice_stops, choice_first, choice_second, star_start, star_stops, star_last, star_in_text, star_still, star_more}
 use Rattle.listing.proofs.Rules.{rule_empty, rule_impossible, rule_failed, held_in_text, rule_missed, rule_full, rule_stops, rule_goes, node_too_deep, node_goes, empty_goes, text_goes, unlawful_goes, first_small, second_small}
 use Rattle.rows.specs.Walk.{kind_v}
 use lib.ListN.{length}
 use mathlib.Core.Path.{refl, sym, ap, ◌∙◌}
 use native.Mathlib.Omega.{arith}
-use Rattle.listing.proofs.walk.Walk.+walk.Goals as goal
+use Rattle.listing.proofs.state.Walk.+walk.Goals as goal
 
 pub walk_choice-returns-in_err-x-clause-gives : goal.walk_choice-returns-in_err-x-clause-gives
 walk_choice-returns-in_err-x-clause-gives t c =
-    choice_stops c.requires.0 c.walk_part.ensures.kept _ _ _ _ c.walk_part.ensures.gives _ _ c.in_err-x.was (exits c.from_residual.ensures.1)
+    choice_stops c.walk_part.ensures.kept c.requires.0 _ _ _ _ c.walk_part.ensures.gives _ _ c.in_err-x.was (exits c.from_residual.ensures.1)
 
 pub walk_choice-returns-in-Some-clause-gives : goal.walk_choice-returns-in-Some-clause-gives
 walk_choice-returns-in-Some-clause-gives t c =
-    choice_first c.requires.0 c.walk_part.ensures.kept _ _ _ _ c.walk_part.ensures.gives _ _ (c.in_ok-x.was ∙ ap Ok c.in-Some.is)
+    choice_first c.walk_part.ensures.kept c.requires.0 _ _ _ _ c.walk_part.ensures.gives _ _ (c.in_ok-x.was ∙ ap Ok c.in-Some.is)
 
 pub walk_choice-walk_node-requires : goal.walk_choice-walk_node-requires
 walk_choice-walk_node-requires t c =
-    let few = choice_failed c.requires.0 c.walk_part.ensures.kept _ _ _ _ c.walk_part.ensures.gives (c.in_ok-x.was ∙ ap Ok c.in_default.is) in (omega arith, (steady c.walk_part.ensures.kept c.requires.0 c.requires.0.here few (omega arith), c.requires.2))
+    (omega arith, (steady c.walk_part.ensures.kept c.requires.0 c.requires.0.here (omega arith), c.requires.2))
 
 pub walk_choice-returns-clause-gives : goal.walk_choice-returns-clause-gives
 walk_choice-returns-clause-gives t c =
-    choice_second c.requires.0 c.walk_part.ensures.kept _ _ _ _ c.walk_part.ensures.gives _ _ (c.in_ok-x.was ∙ ap Ok c.in_default.is) c.walk_node.ensures.gives
+    choice_second c.walk_part.ensures.kept c.requires.0 _ _ _ _ c.walk_part.ensures.gives _ _ (c.in_ok-x.was ∙ ap Ok c.in_default.is) c.walk_node.ensures.gives
 
 pub walk_node-returns-then-left-eq0-clause-gives : goal.walk_node-returns-then-left-eq0-clause-gives
 walk_node-returns-then-left-eq0-clause-gives t c =
-    node_too_deep c.requires.0 _ _ _ c.if-left-eq0.true
+    node_too_deep c.args.self.now c.requires.0 _ _ _ c.if-left-eq0.true
 
 pub walk_node-walk_sequence-requires : goal.walk_node-walk_sequence-requires
 walk_node-walk_sequence-requires t c =
@@ -51,140 +51,140 @@ walk_node-walk_rule-requires t c =
 
 pub walk_node-returns-in-Empty-clause-gives : goal.walk_node-returns-in-Empty-clause-gives
 walk_node-returns-in-Empty-clause-gives t c =
-    empty_goes c.requires.0 _ _ _ c.if-left-eq0.false c.node_of-fields.ensures c.in-Empty.ensures
+    empty_goes c.args.self.now c.requires.0 _ _ _ c.if-left-eq0.false c.node_of-fields.ensures c.in-Empty.ensures
 
 pub walk_node-returns-in-Text-clause-gives : goal.walk_node-returns-in-Text-clause-gives
 walk_node-returns-in-Text-clause-gives t c =
-    text_goes c.requires.0 _ _ _ c.if-left-eq0.false c.node_of-fields.ensures c.in-Text.ensures c.leaf.ensures
+    text_goes c.args.self.now c.requires.0 _ _ _ c.if-left-eq0.false c.node_of-fields.ensures c.in-Text.ensures c.leaf.ensures
 
 pub walk_node-returns-in-Sequence-clause-gives : goal.walk_node-returns-in-Sequence-clause-gives
 unfolding kind_v
 walk_node-returns-in-Sequence-clause-gives t c =
-    node_goes c.requires.0 _ _ _ c.if-left-eq0.false c.node_of-fields.ensures c.in-Sequence.ensures c.walk_sequence.ensures.gives
+    node_goes c.args.self.now c.requires.0 _ _ _ c.if-left-eq0.false c.node_of-fields.ensures c.in-Sequence.ensures c.walk_sequence.ensures.gives
 
 pub walk_node-returns-in-Choice-clause-gives : goal.walk_node-returns-in-Choice-clause-gives
 unfolding kind_v
 walk_node-returns-in-Choice-clause-gives t c =
-    node_goes c.requires.0 _ _ _ c.if-left-eq0.false c.node_of-fields.ensures c.in-Choice.ensures c.walk_choice.ensures.gives
+    node_goes c.args.self.now c.requires.0 _ _ _ c.if-left-eq0.false c.node_of-fields.ensures c.in-Choice.ensures c.walk_choice.ensures.gives
 
 pub walk_node-returns-in-Star-clause-gives : goal.walk_node-returns-in-Star-clause-gives
 unfolding kind_v
 walk_node-returns-in-Star-clause-gives t c =
-    node_goes c.requires.0 _ _ _ c.if-left-eq0.false c.node_of-fields.ensures c.in-Star.ensures c.walk_star.ensures.gives
+    node_goes c.args.self.now c.requires.0 _ _ _ c.if-left-eq0.false c.node_of-fields.ensures c.in-Star.ensures c.walk_star.ensures.gives
 
 pub walk_node-returns-in-NotPredicate-clause-gives : goal.walk_node-returns-in-NotPredicate-clause-gives
 unfolding kind_v
 walk_node-returns-in-NotPredicate-clause-gives t c =
-    node_goes c.requires.0 _ _ _ c.if-left-eq0.false c.node_of-fields.ensures c.in-NotPredicate.ensures c.walk_not.ensures.gives
+    node_goes c.args.self.now c.requires.0 _ _ _ c.if-left-eq0.false c.node_of-fields.ensures c.in-NotPredicate.ensures c.walk_not.ensures.gives
 
 pub walk_node-returns-in-Call-clause-gives : goal.walk_node-returns-in-Call-clause-gives
 unfolding kind_v
 walk_node-returns-in-Call-clause-gives t c =
-    node_goes c.requires.0 _ _ _ c.if-left-eq0.false c.node_of-fields.ensures c.in-Call.ensures (rw c.node_of-fields.ensures.its_b at c.walk_rule.ensures.gives)
+    node_goes c.args.self.now c.requires.0 _ _ _ c.if-left-eq0.false c.node_of-fields.ensures c.in-Call.ensures (rw c.node_of-fields.ensures.its_b at c.walk_rule.ensures.gives)
 
 pub walk_node-returns-in-Unlawful-clause-gives : goal.walk_node-returns-in-Unlawful-clause-gives
 walk_node-returns-in-Unlawful-clause-gives t c =
-    unlawful_goes c.requires.0 _ _ _ c.if-left-eq0.false c.node_of-fields.ensures c.in-Unlawful.ensures
+    unlawful_goes c.args.self.now c.requires.0 _ _ _ c.if-left-eq0.false c.node_of-fields.ensures c.in-Unlawful.ensures
 
 pub walk_not-returns-in_err-walk_node-clause-gives : goal.walk_not-returns-in_err-walk_node-clause-gives
 walk_not-returns-in_err-walk_node-clause-gives t c =
-    not_stops c.requires.0 c.walk_node.ensures.kept _ _ (rw c.past.ensures at c.walk_node.ensures.gives) _ _ _ c.in_err-walk_node.was (exits c.from_residual.ensures.1)
+    not_stops c.walk_node.ensures.kept c.requires.0 _ _ (rw c.past.ensures at c.walk_node.ensures.gives) _ _ _ c.in_err-walk_node.was (exits c.from_residual.ensures.1)
 
 pub walk_not-returns-in-Some-clause-gives : goal.walk_not-returns-in-Some-clause-gives
 walk_not-returns-in-Some-clause-gives t c =
-    not_fails c.requires.0 c.walk_node.ensures.kept _ _ (rw c.past.ensures at c.walk_node.ensures.gives) _ _ _ (c.in_ok-walk_node.was ∙ ap Ok c.in-Some.is)
+    not_fails c.walk_node.ensures.kept c.requires.0 _ _ (rw c.past.ensures at c.walk_node.ensures.gives) _ _ _ (c.in_ok-walk_node.was ∙ ap Ok c.in-Some.is)
 
 pub walk_not-returns-in-None-clause-gives : goal.walk_not-returns-in-None-clause-gives
 walk_not-returns-in-None-clause-gives t c =
-    not_matches c.requires.0 c.walk_node.ensures.kept _ _ (rw c.past.ensures at c.walk_node.ensures.gives) _ _ _ (c.in_ok-walk_node.was ∙ ap Ok c.in-None.is)
+    not_matches c.walk_node.ensures.kept c.requires.0 _ _ (rw c.past.ensures at c.walk_node.ensures.gives) _ _ _ (c.in_ok-walk_node.was ∙ ap Ok c.in-None.is)
 
 pub walk_part-returns-in_err-x-clause-gives : goal.walk_part-returns-in_err-x-clause-gives
 walk_part-returns-in_err-x-clause-gives t c =
-    part_stops c.requires.0 c.walk_node.ensures.kept _ _ (rw c.past.ensures at c.walk_node.ensures.gives) _ _ c.in_err-x.was (exits c.from_residual.ensures.1)
+    part_stops c.walk_node.ensures.kept c.requires.0 _ _ (rw c.past.ensures at c.walk_node.ensures.gives) _ _ c.in_err-x.was (exits c.from_residual.ensures.1)
 
 pub walk_part-returns-in_default-clause-gives : goal.walk_part-returns-in_default-clause-gives
 walk_part-returns-in_default-clause-gives t c =
-    part_fails c.requires.0 c.walk_node.ensures.kept _ _ (rw c.past.ensures at c.walk_node.ensures.gives) _ _ (c.in_ok-x.was ∙ ap Ok c.in_default.is)
+    part_fails c.walk_node.ensures.kept c.requires.0 _ _ (rw c.past.ensures at c.walk_node.ensures.gives) _ _ (c.in_ok-x.was ∙ ap Ok c.in_default.is)
 
 pub walk_part-touches-requires : goal.walk_part-touches-requires
 walk_part-touches-requires t c =
-    omega (arith, (node_found c.requires.0 c.walk_node.ensures.kept _ _ _ _ c.walk_node.ensures.gives (c.in_ok-x.was ∙ ap Ok c.in-Some.is)).in_text, c.requires.0.short)
+    omega (arith, (node_found c.walk_node.ensures.kept c.requires.0 _ _ _ _ c.walk_node.ensures.gives (c.in_ok-x.was ∙ ap Ok c.in-Some.is)).in_text, c.args.self.now.short)
 
 pub walk_part-returns-then-not-touches-clause-gives : goal.walk_part-returns-then-not-touches-clause-gives
 walk_part-returns-then-not-touches-clause-gives t c =
-    part_missed c.requires.0 c.walk_node.ensures.kept _ _ (rw c.past.ensures at c.walk_node.ensures.gives) _ _ (c.in_ok-x.was ∙ ap Ok c.in-Some.is) (sym c.touches.ensures ∙ c.if-not-touches.true)
+    part_missed c.walk_node.ensures.kept c.requires.0 _ _ (rw c.past.ensures at c.walk_node.ensures.gives) _ _ (c.in_ok-x.was ∙ ap Ok c.in-Some.is) (sym c.touches.ensures ∙ c.if-not-touches.true)
 
 pub walk_part-walk_node-requires-2 : goal.walk_part-walk_node-requires-2
 walk_part-walk_node-requires-2 t c =
-    let few = (node_found c.requires.0 c.walk_node.ensures.kept _ _ _ _ c.walk_node.ensures.gives (c.in_ok-x.was ∙ ap Ok c.in-Some.is)).few in (omega arith, (steady c.walk_node.ensures.kept c.requires.0 c.requires.0.here few (omega arith), c.requires.1))
+    (omega arith, (steady c.walk_node.ensures.kept c.requires.0 c.requires.0.here (omega arith), c.requires.1))
 
 pub walk_part-returns-clause-gives : goal.walk_part-returns-clause-gives
 walk_part-returns-clause-gives t c =
-    part_goes c.requires.0 c.walk_node.ensures.kept _ _ (rw c.past.ensures at c.walk_node.ensures.gives) _ _ (c.in_ok-x.was ∙ ap Ok c.in-Some.is) (sym c.touches.ensures ∙ c.if-not-touches.false) c.walk_node-2.ensures.gives
+    part_goes c.walk_node.ensures.kept c.requires.0 _ _ (rw c.past.ensures at c.walk_node.ensures.gives) _ _ (c.in_ok-x.was ∙ ap Ok c.in-Some.is) (sym c.touches.ensures ∙ c.if-not-touches.false) c.walk_node-2.ensures.gives
 
 pub walk_rule-returns-then-not-is_held-clause-gives : goal.walk_rule-returns-then-not-is_held-clause-gives
 walk_rule-returns-then-not-is_held-clause-gives t c =
-    rule_empty c.requires.0 _ _ _ _ _ c.look-word.ensures (sym c.is_held.ensures ∙ c.if-not-is_held.true)
+    rule_empty c.args.self.now c.requires.0 _ _ _ _ _ c.look-word.ensures (sym c.is_held.ensures ∙ c.if-not-is_held.true)
 
 pub walk_rule-returns-in_default-clause-gives : goal.walk_rule-returns-in_default-clause-gives
 walk_rule-returns-in_default-clause-gives t c =
-    rule_impossible c.requires.0 _ _ _ _ _ c.look-word.ensures (sym c.in_default.is ∙ (rw c.end_of.ensures at c.from_word.ensures))
+    rule_impossible c.args.self.now c.requires.0 _ _ _ _ _ c.look-word.ensures (sym c.in_default.is ∙ (rw c.end_of.ensures at c.from_word.ensures))
 
 pub walk_rule-returns-then-not-held-clause-gives : goal.walk_rule-returns-then-not-held-clause-gives
 walk_rule-returns-then-not-held-clause-gives t c =
-    rule_failed c.requires.0 _ _ _ _ _ c.look-word.ensures (sym c.is_held.ensures ∙ c.if-not-is_held.false) (rw c.end_of.ensures at c.in-Some.ensures) c.if-not-held.true
+    rule_failed c.args.self.now c.requires.0 _ _ _ _ _ c.look-word.ensures (sym c.is_held.ensures ∙ c.if-not-is_held.false) (rw c.end_of.ensures at c.in-Some.ensures) c.if-not-held.true
 
 pub walk_rule-touches-requires : goal.walk_rule-touches-requires
 walk_rule-touches-requires t c =
-    omega (arith, held_in_text _ _ _ (rw c.end_of.ensures at c.in-Some.ensures), c.requires.0.short)
+    omega (arith, held_in_text _ _ _ (rw c.end_of.ensures at c.in-Some.ensures), c.args.self.now.short)
 
 pub walk_rule-returns-then-not-touches-clause-gives : goal.walk_rule-returns-then-not-touches-clause-gives
 walk_rule-returns-then-not-touches-clause-gives t c =
-    rule_missed c.requires.0 _ _ _ _ _ c.look-word.ensures (sym c.is_held.ensures ∙ c.if-not-is_held.false) (rw c.end_of.ensures at c.in-Some.ensures) c.if-not-held.false (sym c.touches.ensures ∙ c.if-not-touches.true)
+    rule_missed c.args.self.now c.requires.0 _ _ _ _ _ c.look-word.ensures (sym c.is_held.ensures ∙ c.if-not-is_held.false) (rw c.end_of.ensures at c.in-Some.ensures) c.if-not-held.false (sym c.touches.ensures ∙ c.if-not-touches.true)
 
 pub walk_rule-returns-then-self-clause-gives : goal.walk_rule-returns-then-self-clause-gives
 walk_rule-returns-then-self-clause-gives t c =
-    rule_full c.requires.0 _ _ _ _ _ c.look-word.ensures (sym c.is_held.ensures ∙ c.if-not-is_held.false) (rw c.end_of.ensures at c.in-Some.ensures) c.if-not-held.false (sym c.touches.ensures ∙ c.if-not-touches.false) c.if-self.true
+    rule_full c.args.self.now c.requires.0 _ _ _ _ _ c.look-word.ensures (sym c.is_held.ensures ∙ c.if-not-is_held.false) (rw c.end_of.ensures at c.in-Some.ensures) c.if-not-held.false (sym c.touches.ensures ∙ c.if-not-touches.false) c.if-self.true
 
 pub walk_rule-returns-in_err-walk_node-clause-gives : goal.walk_rule-returns-in_err-walk_node-clause-gives
 walk_rule-returns-in_err-walk_node-clause-gives t c =
-    rule_stops c.requires.0 _ _ _ _ _ c.look-word.ensures (sym c.is_held.ensures ∙ c.if-not-is_held.false) (rw c.end_of.ensures at c.in-Some.ensures) c.if-not-held.false (sym c.touches.ensures ∙ c.if-not-touches.false) c.if-self.false c.from.ensures (rw c.put.ensures at c.walk_node.ensures.gives) c.in_err-walk_node.was (exits c.from_residual.ensures.1)
+    rule_stops c.args.self.now c.requires.0 _ _ _ _ _ c.look-word.ensures (sym c.is_held.ensures ∙ c.if-not-is_held.false) (rw c.end_of.ensures at c.in-Some.ensures) c.if-not-held.false (sym c.touches.ensures ∙ c.if-not-touches.false) c.if-self.false c.from.ensures (rw c.put.ensures at c.walk_node.ensures.gives) c.in_err-walk_node.was (exits c.from_residual.ensures.1)
 
 pub walk_rule-returns-clause-gives : goal.walk_rule-returns-clause-gives
 walk_rule-returns-clause-gives t c =
-    rule_goes c.requires.0 _ _ _ _ _ c.look-word.ensures (sym c.is_held.ensures ∙ c.if-not-is_held.false) (rw c.end_of.ensures at c.in-Some.ensures) c.if-not-held.false (sym c.touches.ensures ∙ c.if-not-touches.false) c.if-self.false c.from.ensures (rw c.put.ensures at c.walk_node.ensures.gives) c.in_ok-walk_node.was
+    rule_goes c.args.self.now c.requires.0 _ _ _ _ _ c.look-word.ensures (sym c.is_held.ensures ∙ c.if-not-is_held.false) (rw c.end_of.ensures at c.in-Some.ensures) c.if-not-held.false (sym c.touches.ensures ∙ c.if-not-touches.false) c.if-self.false c.from.ensures (rw c.put.ensures at c.walk_node.ensures.gives) c.in_ok-walk_node.was
 
 pub walk_sequence-returns-in_err-x-clause-gives : goal.walk_sequence-returns-in_err-x-clause-gives
 walk_sequence-returns-in_err-x-clause-gives t c =
-    sequence_stops c.requires.0 c.walk_node.ensures.kept _ _ _ _ c.walk_node.ensures.gives _ _ c.in_err-x.was (exits c.from_residual.ensures.1)
+    sequence_stops c.walk_node.ensures.kept c.requires.0 _ _ _ _ c.walk_node.ensures.gives _ _ c.in_err-x.was (exits c.from_residual.ensures.1)
 
 pub walk_sequence-returns-in_default-clause-gives : goal.walk_sequence-returns-in_default-clause-gives
 walk_sequence-returns-in_default-clause-gives t c =
-    sequence_fails c.requires.0 c.walk_node.ensures.kept _ _ _ _ c.walk_node.ensures.gives _ _ (c.in_ok-x.was ∙ ap Ok c.in_default.is)
+    sequence_fails c.walk_node.ensures.kept c.requires.0 _ _ _ _ c.walk_node.ensures.gives _ _ (c.in_ok-x.was ∙ ap Ok c.in_default.is)
 
 pub walk_sequence-overflow_add-at : goal.walk_sequence-overflow_add-at
 walk_sequence-overflow_add-at t c =
-    omega (arith, (node_found c.requires.0 c.walk_node.ensures.kept _ _ _ _ c.walk_node.ensures.gives (c.in_ok-x.was ∙ ap Ok c.in-Some.is)).in_text, c.requires.0.short)
+    omega (arith, (node_found c.walk_node.ensures.kept c.requires.0 _ _ _ _ c.walk_node.ensures.gives (c.in_ok-x.was ∙ ap Ok c.in-Some.is)).in_text, c.args.self.now.short)
 
 pub walk_sequence-walk_node-requires-2 : goal.walk_sequence-walk_node-requires-2
 walk_sequence-walk_node-requires-2 t c =
-    let f = node_found c.requires.0 c.walk_node.ensures.kept _ _ _ _ c.walk_node.ensures.gives (c.in_ok-x.was ∙ ap Ok c.in-Some.is) in (omega arith, (steady c.walk_node.ensures.kept c.requires.0 f.in_text f.few (omega arith), c.requires.2))
+    let f = node_found c.walk_node.ensures.kept c.requires.0 _ _ _ _ c.walk_node.ensures.gives (c.in_ok-x.was ∙ ap Ok c.in-Some.is) in (omega arith, (steady c.walk_node.ensures.kept c.requires.0 f.in_text (omega arith), c.requires.2))
 
 pub walk_sequence-returns-in_err-y-clause-gives : goal.walk_sequence-returns-in_err-y-clause-gives
 walk_sequence-returns-in_err-y-clause-gives t c =
-    sequence_second_stops c.requires.0 c.walk_node.ensures.kept _ _ _ _ c.walk_node.ensures.gives (c.in_ok-x.was ∙ ap Ok c.in-Some.is) _ c.walk_node-2.ensures.gives _ c.in_err-y.was (exits c.from_residual-in_err-y.ensures.1)
+    sequence_second_stops c.walk_node.ensures.kept c.requires.0 _ _ _ _ c.walk_node.ensures.gives (c.in_ok-x.was ∙ ap Ok c.in-Some.is) _ c.walk_node-2.ensures.gives _ c.in_err-y.was (exits c.from_residual-in_err-y.ensures.1)
 
 pub walk_sequence-returns-in_default-2-clause-gives : goal.walk_sequence-returns-in_default-2-clause-gives
 walk_sequence-returns-in_default-2-clause-gives t c =
-    sequence_second_fails c.requires.0 c.walk_node.ensures.kept _ _ _ _ c.walk_node.ensures.gives (c.in_ok-x.was ∙ ap Ok c.in-Some.is) _ c.walk_node-2.ensures.gives _ (c.in_ok-y.was ∙ ap Ok c.in_default-2.is)
+    sequence_second_fails c.walk_node.ensures.kept c.requires.0 _ _ _ _ c.walk_node.ensures.gives (c.in_ok-x.was ∙ ap Ok c.in-Some.is) _ c.walk_node-2.ensures.gives _ (c.in_ok-y.was ∙ ap Ok c.in_default-2.is)
 
 pub walk_sequence-overflow_add-result : goal.walk_sequence-overflow_add-result
 walk_sequence-overflow_add-result t c =
-    omega (arith, sequence_in_text c.requires.0 c.walk_node.ensures.kept _ _ _ _ c.walk_node.ensures.gives (c.in_ok-x.was ∙ ap Ok c.in-Some.is) _ c.walk_node-2.ensures.gives (c.in_ok-y.was ∙ ap Ok c.in-Some-2.is), c.requires.0.short)
+    omega (arith, sequence_in_text c.walk_node.ensures.kept c.requires.0 _ _ _ _ c.walk_node.ensures.gives (c.in_ok-x.was ∙ ap Ok c.in-Some.is) _ c.walk_node-2.ensures.gives (c.in_ok-y.was ∙ ap Ok c.in-Some-2.is), c.args.self.now.short)
 
 pub walk_sequence-returns-clause-gives : goal.walk_sequence-returns-clause-gives
 walk_sequence-returns-clause-gives t c =
-    sequence_both c.requires.0 c.walk_node.ensures.kept _ _ _ _ c.walk_node.ensures.gives (c.in_ok-x.was ∙ ap Ok c.in-Some.is) _ c.walk_node-2.ensures.gives _ (c.in_ok-y.was ∙ ap Ok c.in-Some-2.is)
+    sequence_both c.walk_node.ensures.kept c.requires.0 _ _ _ _ c.walk_node.ensures.gives (c.in_ok-x.was ∙ ap Ok c.in-Some.is) _ c.walk_node-2.ensures.gives _ (c.in_ok-y.was ∙ ap Ok c.in-Some-2.is)
 
 pub walk_star-loop-x-init : goal.walk_star-loop-x-init
 walk_star-loop-x-init t c =
@@ -192,11 +192,11 @@ walk_star-loop-x-init t c =
 
 pub walk_star-overflow_add-at : goal.walk_star-overflow_add-at
 walk_star-overflow_add-at t c =
-    omega (arith, c.loop-x.invariant.1.in_text, c.requires.0.short)
+    omega (arith, c.loop-x.invariant.1.in_text, c.args.self.now.short)
 
 pub walk_star-walk_part-requires : goal.walk_star-walk_part-requires
 walk_star-walk_part-requires t c =
-    (omega arith, (steady c.loop-x.invariant.0 c.requires.0 c.loop-x.invariant.1.in_text c.loop-x.invariant.1.few (omega arith), c.requires.1))
+    (omega arith, (steady c.loop-x.invariant.0 c.requires.0 c.loop-x.invariant.1.in_text (omega arith), c.requires.1))
 
 pub walk_star-returns-in_err-x-clause-gives : goal.walk_star-returns-in_err-x-clause-gives
 walk_star-returns-in_err-x-clause-gives t c =
@@ -212,7 +212,7 @@ walk_star-returns-then-x-eq0-clause-gives t c =
 
 pub walk_star-overflow_add-before : goal.walk_star-overflow_add-before
 walk_star-overflow_add-before t c =
-    omega (arith, star_in_text c.loop-x.invariant.0 c.loop-x.invariant.1 c.walk_part.ensures.kept c.walk_part.ensures.gives (c.in_ok-x.was ∙ ap Ok c.in-Some.is), c.requires.0.short)
+    omega (arith, star_in_text c.loop-x.invariant.0 c.loop-x.invariant.1 c.walk_part.ensures.kept c.walk_part.ensures.gives (c.in_ok-x.was ∙ ap Ok c.in-Some.is), c.args.self.now.short)
 
 pub walk_star-loop-x-smaller : goal.walk_star-loop-x-smaller
 walk_star-loop-x-smaller t c =
