@@ -20,7 +20,6 @@ use lib.Seq.{sets}
 use Rattle.grammar.specs.declared.refusal.Refusal.{Refusal}
 use Rattle.rows.specs.Walk.{Walked, walked, stopped, Trail, trail, bind, after, part_v, node_v}
 use Rattle.rows.specs.Bounds.{May, Bounded}
-use Rattle.packrat.specs.Loaded.{rules_in}
 use Rattle.listing.specs.declared.state.Walk.{Walk}
 use Rattle.listing.specs.Gives.{coded, Gives, Kept, Steady, nodes_of, parts_of}
 

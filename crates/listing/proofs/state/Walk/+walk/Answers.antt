@@ -17,10 +17,6 @@ pub walk_choice-returns-in-Some-clause-gives : goal.walk_choice-returns-in-Some-
 walk_choice-returns-in-Some-clause-gives t c =
     choice_first c.walk_part.ensures.kept c.requires.0 _ _ _ _ c.walk_part.ensures.gives _ _ (c.in_ok-x.was ∙ ap Ok c.in-Some.is)
 
-pub walk_choice-walk_node-requires : goal.walk_choice-walk_node-requires
-walk_choice-walk_node-requires t c =
-    (omega arith, (steady c.walk_part.ensures.kept c.requires.0 c.requires.0.here (omega arith), c.requires.2))
-
 pub walk_choice-returns-clause-gives : goal.walk_choice-returns-clause-gives
 walk_choice-returns-clause-gives t c =
     choice_second c.walk_part.ensures.kept c.requires.0 _ _ _ _ c.walk_part.ensures.gives _ _ (c.in_ok-x.was ∙ ap Ok c.in_default.is) c.walk_node.ensures.gives
@@ -114,10 +110,6 @@ pub walk_part-returns-then-not-touches-clause-gives : goal.walk_part-returns-the
 walk_part-returns-then-not-touches-clause-gives t c =
     part_missed c.walk_node.ensures.kept c.requires.0 _ _ (rw c.past.ensures at c.walk_node.ensures.gives) _ _ (c.in_ok-x.was ∙ ap Ok c.in-Some.is) (sym c.touches.ensures ∙ c.if-not-touches.true)
 
-pub walk_part-walk_node-requires-2 : goal.walk_part-walk_node-requires-2
-walk_part-walk_node-requires-2 t c =
-    (omega arith, (steady c.walk_node.ensures.kept c.requires.0 c.requires.0.here (omega arith), c.requires.1))
-
 pub walk_part-returns-clause-gives : goal.walk_part-returns-clause-gives
 walk_part-returns-clause-gives t c =
     part_goes c.walk_node.ensures.kept c.requires.0 _ _ (rw c.past.ensures at c.walk_node.ensures.gives) _ _ (c.in_ok-x.was ∙ ap Ok c.in-Some.is) (sym c.touches.ensures ∙ c.if-not-touches.false) c.walk_node-2.ensures.gives
@@ -189,14 +181,6 @@ walk_sequence-returns-clause-gives t c =
 pub walk_star-loop-x-init : goal.walk_star-loop-x-init
 walk_star-loop-x-init t c =
     (record { slots_are = refl; words_are = refl; rules_are = refl; text_is = refl; table_is = refl; room_is = refl }, star_start c.requires.0)
-
-pub walk_star-overflow_add-at : goal.walk_star-overflow_add-at
-walk_star-overflow_add-at t c =
-    omega (arith, c.loop-x.invariant.1.in_text, c.args.self.now.short)
-
-pub walk_star-walk_part-requires : goal.walk_star-walk_part-requires
-walk_star-walk_part-requires t c =
-    (omega arith, (steady c.loop-x.invariant.0 c.requires.0 c.loop-x.invariant.1.in_text (omega arith), c.requires.1))
 
 pub walk_star-returns-in_err-x-clause-gives : goal.walk_star-returns-in_err-x-clause-gives
 walk_star-returns-in_err-x-clause-gives t c =
