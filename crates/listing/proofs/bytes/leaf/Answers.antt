@@ -1,40 +1,32 @@
 use Rattle.terminals.proofs.CharacterWords.{ascii_taken}
 use Prim.Native.Nat.{ℕ}
-use native.Mathlib.Omega.{arith}
-use mathlib.Core.Path.{sym, ap, ◌∙◌}
-use Rattle.grammar.specs.declared.node.Terminal.TheVariants.{Any}
-use Rattle.grammar.specs.Image.{range_by}
-use Rattle.records.specs.Words.{value_of}
+use mathlib.Core.Path.{◌≡◌, sym, ap, ◌∙◌}
+use mathlib.Core.List.{List}
+use Rattle.std.specs.Prelude.{Option}
+use Rattle.grammar.specs.declared.node.Terminal.{Terminal}
+use Rattle.grammar.specs.Terminal.{terminal_at}
+use Rattle.records.specs.Words.{value_of, word_of}
 use Rattle.listing.specs.Gives.{told_length}
 use Rattle.listing.proofs.Terminals.{says_terminal}
 use Rattle.listing.proofs.bytes.leaf.Goals as goal
 
-pub returns-then-kind-eq2 : goal.returns-then-kind-eq2
-returns-then-kind-eq2 c =
-    let a = c.args in
-    let two = c.if-kind-eq2.true in
-    record {
-      of_empty = λ e. absurd (omega arith);
-      of_any = λ e. absurd (omega arith);
-      of_range = λ e. c.told.ensures ∙ ap (λ (w : ℕ). told_length (value_of w)) c.byte_range.ensures ∙ ap told_length (says_terminal (range_by a.zero a.from a.to) a.text.now.now a.at);
-    }
+-- What the word of a terminal's evaluation tells.
+tells :
+    (text : List ℕ) (p : ℕ) {s t : Terminal} {word : ℕ} {told : Option ℕ} → s ≡ t → told ≡ told_length (value_of word)
+    → word ≡ word_of (terminal_at t text p) → told ≡ told_length (terminal_at s text p)
+tells text p {t = t} same says is =
+    says ∙ ap (λ (w : ℕ). told_length (value_of w)) is ∙ ap told_length (says_terminal t text p) ∙ ap (λ (s : Terminal). told_length (terminal_at s text p)) (sym same)
 
 pub returns-then-is_ascii : goal.returns-then-is_ascii
 returns-then-is_ascii c =
-    let a = c.args in
-    let one = c.if-kind-eq1.true in
-    record {
-      of_empty = λ e. absurd (omega arith);
-      of_any = λ e. sym (ap told_length (ascii_taken a.text.now.now a.at (sym c.is_ascii.ensures ∙ c.if-is_ascii.true)));
-      of_range = λ e. absurd (omega arith);
-    }
+    let taken = ascii_taken c.args.text.now c.args.at (sym c.is_ascii.ensures ∙ c.if-is_ascii.true) in
+    sym (ap told_length (ap (λ (s : Terminal). terminal_at s c.args.text.now c.args.at) c.in-Any.is ∙ taken))
 
-pub returns-then-kind-eq1 : goal.returns-then-kind-eq1
-returns-then-kind-eq1 c =
-    let a = c.args in
-    let one = c.if-kind-eq1.true in
-    record {
-      of_empty = λ e. absurd (omega arith);
-      of_any = λ e. c.told-then-kind-eq1.ensures ∙ ap (λ (w : ℕ). told_length (value_of w)) c.any_character.ensures ∙ ap told_length (says_terminal Any a.text.now.now a.at);
-      of_range = λ e. absurd (omega arith);
-    }
+pub returns-else-is_ascii : goal.returns-else-is_ascii
+returns-else-is_ascii c = tells c.args.text.now c.args.at c.in-Any.is c.told.ensures c.any_character.ensures
+
+pub returns-in-Range : goal.returns-in-Range
+returns-in-Range c = tells c.args.text.now c.args.at c.in-Range.is c.told-in-Range.ensures c.byte_between.ensures
+
+pub returns-in-Folded : goal.returns-in-Folded
+returns-in-Folded c = tells c.args.text.now c.args.at c.in-Folded.is c.told-in-Folded.ensures c.byte_folded.ensures
