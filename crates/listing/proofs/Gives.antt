@@ -6,7 +6,6 @@
 --     same_walk, same_parts    a step of what a step left is one of the same walk
 --     steady, kept_on          what it may assume, and what both keep
 --     smaller                  what a step of a smaller allowance may assume
---     exits                    what the exit of a `?` answers
 use Rattle.std.specs.Prelude.{Option, Some, None, Result, Ok, Err}
 use Rattle.std.specs.Result.{IsErrAnd}
 use Rattle.std.proofs.lemmas.Result.{err_from_is_err_and}
@@ -183,7 +182,3 @@ module _ {w v : Walk} (kept : Kept w v) where
 -- The same of a smaller allowance.
 pub smaller : {text : List ℕ} {at k allowance : ℕ} → Steady text at k allowance → {left : ℕ} → left ≤ allowance → Steady text at k left
 smaller s less = record { here = s.here; shallow = omega (arith, s.shallow) }
-
--- What the exit of a `?` answers.
-pub exits : {T : Type 0} {q : Result T Refusal} {e : Refusal} → IsErrAnd q (λ f. f ≡ e) → q ≡ Err e
-exits {q = q} h = let p = err_from_is_err_and q h in p.1 ∙ ap Err p.2

@@ -21,14 +21,10 @@ fn told(word: u64) -> Option<usize>
 pub fn leaf(text: &[u8], terminal: Terminal, at: usize) -> Option<usize>
     ensures { result ≡ told_length (terminal_at terminal text.now at) }
 {
-    match terminal {
-        Terminal::Any => {
-            if terminals::characters::is_ascii(text, at) {
-                return Some(1);
-            }
-            told(terminals::characters::any_character(&text, at))
+    if let Terminal::Any = terminal {
+        if terminals::characters::is_ascii(text, at) {
+            return Some(1);
         }
-        Terminal::Range(from, to) => told(terminals::byte_between(text, from, to, at)),
-        Terminal::Folded(from, to) => told(terminals::byte_folded(text, from, to, at)),
     }
+    told(terminals::terminal(text, terminal, at))
 }

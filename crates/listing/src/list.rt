@@ -32,7 +32,7 @@ fn pass(
     };
     let window = Window {
         lo: 0,
-        hi: terminals::end_of(text),
+        hi: text.len(),
     };
     walk.walk_rule(start, root, 0, window, 0, Record::MAX_NESTING)?;
     Ok(walk.count)

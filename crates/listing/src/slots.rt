@@ -45,7 +45,7 @@ impl Window {
         ensures { result ≡ record { lo = length text.now + 1; hi = 0 } }
     {
         Window {
-            lo: terminals::end_of(text) + 1,
+            lo: text.len() + 1,
             hi: 0,
         }
     }

@@ -176,7 +176,7 @@ impl<'a> Walk<'a> {
         if !records::is_held(word) {
             return Err(Refusal::Records);
         }
-        let Some(held) = Record::from_word(word, at, terminals::end_of(self.text)) else {
+        let Some(held) = Record::from_word(word, at, self.text.len()) else {
             return Err(Refusal::Records);
         };
         if !held.matched {

@@ -1,7 +1,9 @@
 -- The goals of the evaluator's cycle, method by method. Each answer is a way of packrat/proofs/Runs, Stars or Rules. Assumes nothing.
 use Rattle.packrat.proofs.Rules.{rule_impossible, rule_too_deep, rule_met, rule_refused, rule_stored, node_too_deep, node_goes, word_goes, call_goes}
 use Rattle.evaluator.proofs.Terminals.{terminal_goes, first_any, first_range}
-use Rattle.evaluator.proofs.Steps.{answered, left_with, before, kept_on, ready_after, inside, looked_up, was_met, was_missed, few}
+use Rattle.grammar.proofs.Refusals.{left_with}
+use Rattle.packrat.proofs.Rules.{was_possible, was_impossible}
+use Rattle.evaluator.proofs.Steps.{answered, before, kept_on, ready_after, inside, looked_up, few}
 use Rattle.packrat.proofs.LoadedRuns.{word_is}
 use Rattle.packrat.proofs.Stars.{rounds_start, round_refused, round_still, round_fails, round_goes, round_bounds}
 use Rattle.packrat.proofs.Runs.{not_refused, not_answered, call_refused, call_answered, length_within}
@@ -143,17 +145,17 @@ eval_sequence-returns-clause-gives t c =
 pub eval_rule-returns-in_default-clause-gives : goal.eval_rule-returns-in_default-clause-gives
 eval_rule-returns-in_default-clause-gives t c =
     rule_impossible _ _ _ _ _ _ _ _ _ (looked_up c.args.self.now _ _ c.requires.0.0 c.look-word.ensures) (sym c.is_held.ensures ∙ c.if-is_held.true)
-    (was_missed _ _ _ (sym c.in_default.is ∙ c.from_word.ensures))
+    (was_impossible _ _ (sym c.in_default.is ∙ c.from_word.ensures))
 
 pub eval_rule-returns-then-left-held-clause-gives : goal.eval_rule-returns-then-left-held-clause-gives
 eval_rule-returns-then-left-held-clause-gives t c =
-    let m = was_met _ _ _ (sym c.in-Some.is ∙ c.from_word.ensures) in
+    let m = was_possible _ _ _ (sym c.in-Some.is ∙ c.from_word.ensures) in
     let e = ap (λ (r : Record). r.nesting) m.1 in
     rule_too_deep _ _ _ _ _ _ _ _ _ (looked_up c.args.self.now _ _ c.requires.0.0 c.look-word.ensures) (sym c.is_held.ensures ∙ c.if-is_held.true) m.0 (omega (arith, e, c.if-left-held.true))
 
 pub eval_rule-returns-then-is_held-clause-gives : goal.eval_rule-returns-then-is_held-clause-gives
 eval_rule-returns-then-is_held-clause-gives t c =
-    let m = was_met _ _ _ (sym c.in-Some.is ∙ c.from_word.ensures) in
+    let m = was_possible _ _ _ (sym c.in-Some.is ∙ c.from_word.ensures) in
     let e = ap (λ (r : Record). r.nesting) m.1 in
     rule_met _ _ _ _ _ _ _ _ _ (looked_up c.args.self.now _ _ c.requires.0.0 c.look-word.ensures) (sym c.is_held.ensures ∙ c.if-is_held.true) m.0 (omega (arith, e, c.if-left-held.false)) (c.word.ensures ∙ ap record_word m.1)
 

@@ -10,4 +10,4 @@ use Rattle.listing.proofs.list.pass.Goals as goal
 pub returns : goal.returns
 returns c =
     let bounds = pair_bounded (rules_in c.args.words.now) c.args.root c.args.room c.args.text.now c.args.table.now (node_v c.args.room c.args.words.now c.args.text.now c.args.table.now 4096) (node_bounded c.args.room c.args.words.now c.args.text.now c.args.table.now 4096) c.args.start 0 0 (length c.args.text.now) 0 0 (omega arith) (omega arith) in
-    pass_counted bounds (rw c.end_of.ensures at c.walk_rule.ensures.gives) c.in_ok-walk_rule.was (search rules)
+    pass_counted bounds c.walk_rule.ensures.gives c.in_ok-walk_rule.was (search rules)

@@ -1,6 +1,7 @@
 -- The goals of the walk's cycle, step by step. Each answer is a way of proofs/Paths or proofs/Rules. Assumes nothing.
 use Rattle.std.specs.Prelude.{Ok}
-use Rattle.listing.proofs.Gives.{steady, kept_on, smaller, exits}
+use Rattle.grammar.proofs.Refusals.{left_with}
+use Rattle.listing.proofs.Gives.{steady, kept_on, smaller}
 use Rattle.listing.proofs.Paths.{node_found, sequence_stops, sequence_fails, sequence_in_text, sequence_second_stops, sequence_second_fails, sequence_both, not_stops, not_fails, not_matches, part_stops, part_fails, part_missed, part_goes, choice_stops, choice_first, choice_second, star_start, star_stops, star_last, star_in_text, star_still, star_more}
 use Rattle.listing.proofs.Rules.{rule_empty, rule_impossible, rule_failed, held_in_text, rule_missed, rule_full, rule_stops, rule_goes, node_too_deep, node_goes, empty_goes, text_goes, unlawful_goes, first_small, second_small}
 use Rattle.rows.specs.Walk.{kind_v}
@@ -11,7 +12,7 @@ use Rattle.listing.proofs.state.Walk.+walk.Goals as goal
 
 pub walk_choice-returns-in_err-x-clause-gives : goal.walk_choice-returns-in_err-x-clause-gives
 walk_choice-returns-in_err-x-clause-gives t c =
-    choice_stops c.walk_part.ensures.kept c.requires.0 _ _ _ _ c.walk_part.ensures.gives _ _ c.in_err-x.was (exits c.from_residual.ensures.1)
+    choice_stops c.walk_part.ensures.kept c.requires.0 _ _ _ _ c.walk_part.ensures.gives _ _ c.in_err-x.was (left_with c.from_residual.ensures)
 
 pub walk_choice-returns-in-Some-clause-gives : goal.walk_choice-returns-in-Some-clause-gives
 walk_choice-returns-in-Some-clause-gives t c =
@@ -84,7 +85,7 @@ walk_node-returns-in-Unlawful-clause-gives t c =
 
 pub walk_not-returns-in_err-walk_node-clause-gives : goal.walk_not-returns-in_err-walk_node-clause-gives
 walk_not-returns-in_err-walk_node-clause-gives t c =
-    not_stops c.walk_node.ensures.kept c.requires.0 _ _ (rw c.past.ensures at c.walk_node.ensures.gives) _ _ _ c.in_err-walk_node.was (exits c.from_residual.ensures.1)
+    not_stops c.walk_node.ensures.kept c.requires.0 _ _ (rw c.past.ensures at c.walk_node.ensures.gives) _ _ _ c.in_err-walk_node.was (left_with c.from_residual.ensures)
 
 pub walk_not-returns-in-Some-clause-gives : goal.walk_not-returns-in-Some-clause-gives
 walk_not-returns-in-Some-clause-gives t c =
@@ -96,7 +97,7 @@ walk_not-returns-in-None-clause-gives t c =
 
 pub walk_part-returns-in_err-x-clause-gives : goal.walk_part-returns-in_err-x-clause-gives
 walk_part-returns-in_err-x-clause-gives t c =
-    part_stops c.walk_node.ensures.kept c.requires.0 _ _ (rw c.past.ensures at c.walk_node.ensures.gives) _ _ c.in_err-x.was (exits c.from_residual.ensures.1)
+    part_stops c.walk_node.ensures.kept c.requires.0 _ _ (rw c.past.ensures at c.walk_node.ensures.gives) _ _ c.in_err-x.was (left_with c.from_residual.ensures)
 
 pub walk_part-returns-in_default-clause-gives : goal.walk_part-returns-in_default-clause-gives
 walk_part-returns-in_default-clause-gives t c =
@@ -120,35 +121,35 @@ walk_rule-returns-then-not-is_held-clause-gives t c =
 
 pub walk_rule-returns-in_default-clause-gives : goal.walk_rule-returns-in_default-clause-gives
 walk_rule-returns-in_default-clause-gives t c =
-    rule_impossible c.args.self.now c.requires.0 _ _ _ _ _ c.look-word.ensures (sym c.in_default.is ∙ (rw c.end_of.ensures at c.from_word.ensures))
+    rule_impossible c.args.self.now c.requires.0 _ _ _ _ _ c.look-word.ensures (sym c.in_default.is ∙ c.from_word.ensures)
 
 pub walk_rule-returns-then-not-held-clause-gives : goal.walk_rule-returns-then-not-held-clause-gives
 walk_rule-returns-then-not-held-clause-gives t c =
-    rule_failed c.args.self.now c.requires.0 _ _ _ _ _ c.look-word.ensures (sym c.is_held.ensures ∙ c.if-not-is_held.false) (rw c.end_of.ensures at c.in-Some.ensures) c.if-not-held.true
+    rule_failed c.args.self.now c.requires.0 _ _ _ _ _ c.look-word.ensures (sym c.is_held.ensures ∙ c.if-not-is_held.false) c.in-Some.ensures c.if-not-held.true
 
 pub walk_rule-touches-requires : goal.walk_rule-touches-requires
 walk_rule-touches-requires t c =
-    omega (arith, held_in_text _ _ _ (rw c.end_of.ensures at c.in-Some.ensures), c.args.self.now.short)
+    omega (arith, held_in_text _ _ _ c.in-Some.ensures, c.args.self.now.short)
 
 pub walk_rule-returns-then-not-touches-clause-gives : goal.walk_rule-returns-then-not-touches-clause-gives
 walk_rule-returns-then-not-touches-clause-gives t c =
-    rule_missed c.args.self.now c.requires.0 _ _ _ _ _ c.look-word.ensures (sym c.is_held.ensures ∙ c.if-not-is_held.false) (rw c.end_of.ensures at c.in-Some.ensures) c.if-not-held.false (sym c.touches.ensures ∙ c.if-not-touches.true)
+    rule_missed c.args.self.now c.requires.0 _ _ _ _ _ c.look-word.ensures (sym c.is_held.ensures ∙ c.if-not-is_held.false) c.in-Some.ensures c.if-not-held.false (sym c.touches.ensures ∙ c.if-not-touches.true)
 
 pub walk_rule-returns-then-self-clause-gives : goal.walk_rule-returns-then-self-clause-gives
 walk_rule-returns-then-self-clause-gives t c =
-    rule_full c.args.self.now c.requires.0 _ _ _ _ _ c.look-word.ensures (sym c.is_held.ensures ∙ c.if-not-is_held.false) (rw c.end_of.ensures at c.in-Some.ensures) c.if-not-held.false (sym c.touches.ensures ∙ c.if-not-touches.false) c.if-self.true
+    rule_full c.args.self.now c.requires.0 _ _ _ _ _ c.look-word.ensures (sym c.is_held.ensures ∙ c.if-not-is_held.false) c.in-Some.ensures c.if-not-held.false (sym c.touches.ensures ∙ c.if-not-touches.false) c.if-self.true
 
 pub walk_rule-returns-in_err-walk_node-clause-gives : goal.walk_rule-returns-in_err-walk_node-clause-gives
 walk_rule-returns-in_err-walk_node-clause-gives t c =
-    rule_stops c.args.self.now c.requires.0 _ _ _ _ _ c.look-word.ensures (sym c.is_held.ensures ∙ c.if-not-is_held.false) (rw c.end_of.ensures at c.in-Some.ensures) c.if-not-held.false (sym c.touches.ensures ∙ c.if-not-touches.false) c.if-self.false c.from.ensures (rw c.put.ensures at c.walk_node.ensures.gives) c.in_err-walk_node.was (exits c.from_residual.ensures.1)
+    rule_stops c.args.self.now c.requires.0 _ _ _ _ _ c.look-word.ensures (sym c.is_held.ensures ∙ c.if-not-is_held.false) c.in-Some.ensures c.if-not-held.false (sym c.touches.ensures ∙ c.if-not-touches.false) c.if-self.false c.from.ensures (rw c.put.ensures at c.walk_node.ensures.gives) c.in_err-walk_node.was (left_with c.from_residual.ensures)
 
 pub walk_rule-returns-clause-gives : goal.walk_rule-returns-clause-gives
 walk_rule-returns-clause-gives t c =
-    rule_goes c.args.self.now c.requires.0 _ _ _ _ _ c.look-word.ensures (sym c.is_held.ensures ∙ c.if-not-is_held.false) (rw c.end_of.ensures at c.in-Some.ensures) c.if-not-held.false (sym c.touches.ensures ∙ c.if-not-touches.false) c.if-self.false c.from.ensures (rw c.put.ensures at c.walk_node.ensures.gives) c.in_ok-walk_node.was
+    rule_goes c.args.self.now c.requires.0 _ _ _ _ _ c.look-word.ensures (sym c.is_held.ensures ∙ c.if-not-is_held.false) c.in-Some.ensures c.if-not-held.false (sym c.touches.ensures ∙ c.if-not-touches.false) c.if-self.false c.from.ensures (rw c.put.ensures at c.walk_node.ensures.gives) c.in_ok-walk_node.was
 
 pub walk_sequence-returns-in_err-x-clause-gives : goal.walk_sequence-returns-in_err-x-clause-gives
 walk_sequence-returns-in_err-x-clause-gives t c =
-    sequence_stops c.walk_node.ensures.kept c.requires.0 _ _ _ _ c.walk_node.ensures.gives _ _ c.in_err-x.was (exits c.from_residual.ensures.1)
+    sequence_stops c.walk_node.ensures.kept c.requires.0 _ _ _ _ c.walk_node.ensures.gives _ _ c.in_err-x.was (left_with c.from_residual.ensures)
 
 pub walk_sequence-returns-in_default-clause-gives : goal.walk_sequence-returns-in_default-clause-gives
 walk_sequence-returns-in_default-clause-gives t c =
@@ -164,7 +165,7 @@ walk_sequence-walk_node-requires-2 t c =
 
 pub walk_sequence-returns-in_err-y-clause-gives : goal.walk_sequence-returns-in_err-y-clause-gives
 walk_sequence-returns-in_err-y-clause-gives t c =
-    sequence_second_stops c.walk_node.ensures.kept c.requires.0 _ _ _ _ c.walk_node.ensures.gives (c.in_ok-x.was ∙ ap Ok c.in-Some.is) _ c.walk_node-2.ensures.gives _ c.in_err-y.was (exits c.from_residual-in_err-y.ensures.1)
+    sequence_second_stops c.walk_node.ensures.kept c.requires.0 _ _ _ _ c.walk_node.ensures.gives (c.in_ok-x.was ∙ ap Ok c.in-Some.is) _ c.walk_node-2.ensures.gives _ c.in_err-y.was (left_with c.from_residual-in_err-y.ensures)
 
 pub walk_sequence-returns-in_default-2-clause-gives : goal.walk_sequence-returns-in_default-2-clause-gives
 walk_sequence-returns-in_default-2-clause-gives t c =
@@ -184,7 +185,7 @@ walk_star-loop-x-init t c =
 
 pub walk_star-returns-in_err-x-clause-gives : goal.walk_star-returns-in_err-x-clause-gives
 walk_star-returns-in_err-x-clause-gives t c =
-    star_stops c.loop-x.invariant.0 c.loop-x.invariant.1 c.walk_part.ensures.kept c.walk_part.ensures.gives c.in_err-x.was (exits c.from_residual.ensures.1)
+    star_stops c.loop-x.invariant.0 c.loop-x.invariant.1 c.walk_part.ensures.kept c.walk_part.ensures.gives c.in_err-x.was (left_with c.from_residual.ensures)
 
 pub walk_star-returns-in_default-clause-gives : goal.walk_star-returns-in_default-clause-gives
 walk_star-returns-in_default-clause-gives t c =
