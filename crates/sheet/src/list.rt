@@ -18,12 +18,13 @@ pub fn list_sheet(
     let cap = buffer.len();
     let rules = questions::asked(image, cap, n, table.len())?;
     let text = &buffer[..n];
-    let reading = making::make_reading(image, text, table, rules, cap)?;
+    let reading = making::make_reading(image, text, table, cap)?;
     match listing::start::list_over(image, text, table, rows) {
         Ok(rows) => Ok(SheetListing { reading, rows }),
-        Err(Refusal::Rows) => Err(Refusal::Rows),
         Err(refusal) => {
-            table::clear_table(table, rules, cap);
+            if refusal != Refusal::Rows {
+                table::clear_table(table, rules, cap);
+            }
             Err(refusal)
         }
     }

@@ -9,6 +9,6 @@ pub fn read_sheet(image: &[u8], buffer: &[u8], n: usize, table: &mut [u64]) -> R
     ensures { ReadPromise image.now buffer.now n table.old result table.new }
 {
     let cap = buffer.len();
-    let rules = questions::asked(image, cap, n, table.len())?;
-    making::make_reading(image, &buffer[..n], table, rules, cap)
+    questions::asked(image, cap, n, table.len())?;
+    making::make_reading(image, &buffer[..n], table, cap)
 }
