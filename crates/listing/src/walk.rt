@@ -4,8 +4,7 @@
 // one: in a struct of three they cost a listing 1.18 of the time and 1.34 of the stack.
 ghost use Rattle.std.specs.Prelude.{◌+◌, ◌<◌, ◌≡◌, length};
 ghost use Rattle.grammar.specs.declared.node.Node.TheVariants.{Sequence, Choice, Star, NotPredicate};
-ghost use Rattle.listing.specs.Gives.{Steady, Kept, Walks, nodes_of, parts_of, rules_of, inside_of};
-ghost use Rattle.listing.specs.Gives.{nowhere};
+ghost use Rattle.listing.specs.Gives.{Steady, Kept, Walks, nodes_of, parts_of, rules_of, inside_of, nowhere};
 ghost use Rattle.listing.specs.Listed.{Passed};
 
 use crate::slots::{Row, Window};
@@ -132,7 +131,7 @@ impl<'a> Walk<'a> {
             if x == 0 {
                 return Err(Refusal::Records);
             }
-            before = before + x;
+            before += x;
         }
     }
 
@@ -198,7 +197,7 @@ impl<'a> Walk<'a> {
             length,
         };
         slots::put(self.rows, self.count, u64::from(row));
-        self.count = self.count + 1;
+        self.count += 1;
         self.walk_node(root, at, window, depth + 1, left)?;
         Ok(Some(length))
     }
