@@ -5,7 +5,8 @@ ghost use Rattle.listing.specs.Listed.{ListedIn};
 use crate::state::Walk;
 use grammar::Refusal;
 
-// "Counting ends at the first row too many". The start rule has that number and its body that root.
+// "Counting ends at the first row too many". The start rule has that number and its body that root. Text, table and slots come one by one,
+// as C lends them.
 pub fn list_in(
     words: &[u32; 4097],
     text: &[u8],
