@@ -7,7 +7,9 @@ use mathlib.Core.List.{List, ◌++◌}
 use lib.ListN.{length, drop}
 use lib.Seq.{sets-eq}
 use Rattle.grammar.specs.declared.refusal.Refusal.{Refusal}
-use Rattle.rows.specs.Walk.{Walked, walked, stopped, Trail, trail}
+use Rattle.packrat.specs.Loaded.{rules_in}
+use Rattle.rows.specs.Walk.{Walked, walked, stopped, Trail, trail, node_v, rule_v}
+use Rattle.rows.proofs.Bounds.{node_bounded, pair_bounded}
 use Rattle.rows.specs.Bounds.{Stops, Bounded}
 use Rattle.listing.specs.Gives.{coded, Gives}
 use Rattle.listing.specs.Listed.{counted, Passed, NotWritten, ListedAs}
@@ -15,16 +17,24 @@ use Rattle.listing.proofs.Gives.{on_trail}
 
 -- A pass from the walk that it is, where the walk is not refused: the count is that of the rows.
 pub pass_counted :
-    {n room p : ℕ} {l : List ℕ} {r : Result (Option ℕ) Refusal} {l' left : List ℕ} {d : ℕ} {o : Trail} {x : Option ℕ}
-    → Bounded n room p 0 o → Gives 0 l r l' d o → r ≡ Ok x → left ≡ l' → Passed l (Ok d) left o
-pass_counted {l = l} {left = left} {d = d} {o = o} {x = x} b g i e = go g.answer g.is (sym g.given_is ∙ i)
+    {n room p : ℕ} {l : List ℕ} {r : Result (Option ℕ) Refusal} {l' : List ℕ} {d : ℕ} {o : Trail} {x : Option ℕ}
+    → Bounded n room p 0 o → Gives 0 l r l' d o → r ≡ Ok x → Passed l (Ok d) l' o
+pass_counted {l = l} {l' = l'} {d = d} {o = o} {x = x} b g i = go g.answer g.is (sym g.given_is ∙ i)
   where
-    go : (a : Walked) → o ≡ trail a g.words → coded a ≡ Ok x → Passed l (Ok d) left o
+    go : (a : Walked) → o ≡ trail a g.words → coded a ≡ Ok x → Passed l (Ok d) l' o
     go (walked m len k) is given =
         let t = on_trail b is in
         let same : d ≡ k = omega (arith, t.0.counted, g.counted) in
-        record { answer = walked m len k; words = g.words; is = is; given_is = ap Ok same; written = e ∙ g.written }
+        record { answer = walked m len k; words = g.words; is = is; given_is = ap Ok same; written = g.written }
     go (stopped k) is given = absurd (let z : ◌≡◌ {A = ℕ} 0 1 = cc in omega arith)
+
+-- The walk of a pass ends in its bounds.
+pub pass_bounded :
+    (room : ℕ) (ws text table : List ℕ) (root start : ℕ)
+    → Bounded (length text) room 0 0 (rule_v room ws text table 4096 root start 0 0 (length text) 0 0)
+pass_bounded room ws text table root start =
+    pair_bounded (rules_in ws) root room text table (node_v room ws text table 4096) (node_bounded room ws text table 4096) start 0 0
+    (length text) 0 0 (omega arith) (omega arith)
 
 abbrev answer_of : Trail → Walked
 answer_of (trail a ws) = a
@@ -50,9 +60,9 @@ module _ {n p : ℕ} {slots : List ℕ} {o : Trail} (b : Bounded n (length slots
 
   -- It is not: then neither is the writing pass.
   pub listed :
-      {l l' : List ℕ} {r : Result ℕ Refusal} {c : ℕ} {q : Result ℕ Refusal} {left : List ℕ}
-      → Passed l r l' o → r ≡ Ok c → Passed slots q left o → ListedAs o slots q left
-  listed {c = c} {q = q} {left = left} f i g = subst (λ (q : Result ℕ Refusal). ListedAs o slots q left) (sym g.given_is) (go f.answer f.is (sym f.given_is ∙ i) g.answer g.is)
+      {l l' : List ℕ} {r : Result ℕ Refusal} {c : ℕ} {q : Result ℕ Refusal} {left left' : List ℕ}
+      → Passed l r l' o → r ≡ Ok c → Passed slots q left' o → left ≡ left' → ListedAs o slots q left
+  listed {c = c} {q = q} {left = left} f i g h = subst (λ (q : Result ℕ Refusal). ListedAs o slots q left) (sym g.given_is) (go f.answer f.is (sym f.given_is ∙ i) g.answer g.is)
     where
       go : (a : Walked) → o ≡ trail a f.words → counted a ≡ Ok c → (z : Walked) → o ≡ trail z g.words → ListedAs o slots (counted z) left
       go (stopped k) is given z same = absurd (let z : ◌≡◌ {A = ℕ} 0 1 = cc in omega arith)
@@ -68,7 +78,8 @@ module _ {n p : ℕ} {slots : List ℕ} {o : Trail} (b : Bounded n (length slots
             number_is = omega (arith, t.0.counted);
             fit = omega (arith, t.1);
             slots_are =
-                g.written
+                h
+                ∙ g.written
                 ∙ sets-eq g.words slots 0 t.1
                 ∙ ap (λ (k : ℕ). g.words ++ drop k slots) from-0;
           }

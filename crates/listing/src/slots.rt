@@ -12,7 +12,7 @@ pub struct Row {
     pub length: usize,
 }
 
-// The row's word. A field that is too wide loses its upper bits.
+// The row's word. A field that is too wide loses its upper bits. `as` stands here since std has no `From<usize>` for `u64`.
 impl From<Row> for u64 {
     ghost from_gives = { λ r w. w ≡ row_word (record { rule = r.rule % 2 ^ 8; depth = r.depth % 2 ^ 16; start = r.start % 2 ^ 16; length = r.length % 2 ^ 16 }) };
 
