@@ -117,8 +117,7 @@ pub inside :
 inside p word {f = f} pre same e is =
     let ready = pre.0.1 in
     let some = pre.1 in
-    let most = ready.most in
-    (
+    let most = ready.most in (
       (pre.0.0, record { short = ready.short; here = ready.here; most = omega arith }),
       few f (omega (arith, same.its_a)) (omega (arith, same.its_b)) (sym e ∙ is),
     )
