@@ -1,19 +1,16 @@
 -- What a caller takes over from an answer. "Later calls are lent the length that open or the last accepted edit gave."
-use Rattle.std.specs.Prelude.{Ok, Err}
-use Rattle.std.specs.Prelude.{ℕ}
-use Rattle.promises.specs.Answers.{OpenAnswer}
-use Rattle.promises.specs.Answers.{EditAnswer}
-use Rattle.promises.specs.Answers.{ListAnswer}
+use Rattle.std.specs.Prelude.{ℕ, Ok, Err}
+use Rattle.promises.specs.Answers.{OpenAnswer, EditAnswer, ListAnswer}
 
 abbrev pub after_open : OpenAnswer → ℕ → ℕ
 after_open (Ok k) n = k
-after_open (Err q) n = n
+after_open (Err r) n = n
 
 abbrev pub after_edit : EditAnswer → ℕ → ℕ
 after_edit (Ok x) n = x.length
-after_edit (Err q) n = n
+after_edit (Err r) n = n
 
 -- The rows of an answer, none where the listing is refused.
 abbrev pub rows_in : ListAnswer → ℕ
 rows_in (Ok x) = x.rows
-rows_in (Err q) = 0
+rows_in (Err r) = 0

@@ -10,28 +10,19 @@ use promises::{EditAnswer, ListAnswer, OpenAnswer};
 pub fn opened(answer: OpenAnswer, n: usize) -> usize
     ensures { result ≡ after_open answer n }
 {
-    match answer {
-        OpenAnswer::Opened(length) => length,
-        OpenAnswer::Refused(_) => n,
-    }
+    answer.unwrap_or(n)
 }
 
 // after an edit,
 pub fn edited(answer: EditAnswer, n: usize) -> usize
     ensures { result ≡ after_edit answer n }
 {
-    match answer {
-        EditAnswer::Edited(sheet) => sheet.length,
-        EditAnswer::Refused(_) => n,
-    }
+    answer.map_or(n, |sheet| sheet.length)
 }
 
 // and the rows that a listing wrote.
 pub fn rows_in(answer: ListAnswer) -> usize
     ensures { result ≡ rows_in answer }
 {
-    match answer {
-        ListAnswer::Listed(listing) => listing.rows,
-        ListAnswer::Refused(_) => 0,
-    }
+    answer.map_or(0, |listing| listing.rows)
 }

@@ -106,15 +106,15 @@ pub back_done :
     → BackFits rules gone new tail (length old)
     → RowOf old rules row
     → Carried old carried gone new tail c
-    → zeros ≡ replicate (length (mid_of 0 (new - 0) carried)) 0
-    → let front : List ℕ = put_mid 0 (new - 0) carried zeros in
+    → zeros ≡ replicate (length (mid_of 0 new carried)) 0
+    → let front : List ℕ = put_mid 0 new carried zeros in
     ends ≡ replicate (length (mid_of (new + tail) (length front - (new + tail)) front)) 0
     → Put row (put_mid (new + tail) (length front - (new + tail)) front ends) words rules d
     → Back rules gone new tail old words (c + d)
 back_done {row} {words} {c} {d} rules gone new tail old carried zeros ends B R C z e P =
-    let front : List ℕ = put_mid 0 (new - 0) carried zeros in
+    let front : List ℕ = put_mid 0 new carried zeros in
     let long = C.filled.long in
-    let Z = fit (part_zeros 0 (new - 0) carried zeros z (omega arith)) refl (let i : 0 + (new - 0) ≡ new = omega arith in i) (λ j h k. refl) in
+    let Z = fit (part_zeros 0 new carried zeros z (omega arith)) refl (let i : 0 + new ≡ new = omega arith in i) (λ j h k. refl) in
     let more = Z.long in
     let Y = fit (part_zeros (new + tail) (length front - (new + tail)) front ends e (omega arith)) refl (let i : new + tail + (length front - (new + tail)) ≡ length old = omega arith in i) (λ j h k. refl) in
     back_is gone new tail old B.new_fits C Z Y rules B R P

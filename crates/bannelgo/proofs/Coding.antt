@@ -51,10 +51,13 @@ outcome_once Nothing Nothing e = refl
 
 reading_once : (x y : SheetReading) (v w : ℕ) → reading_fields x v ≡ reading_fields y w → x ≡ y
 reading_once x y v w e =
-    let o = outcome_once x.reading.outcome y.reading.outcome (ap (λ (f : Fields). f.outcome) e) in
+    let o = outcome_once x.outcome y.outcome (ap (λ (f : Fields). f.outcome) e) in
     λ i.
     record {
-      reading = record { outcome = o i; length = (e i).length; examined = (e i).examined; nesting = (e i).nesting };
+      outcome = o i;
+      length = (e i).length;
+      examined = (e i).examined;
+      nesting = (e i).nesting;
       evaluations = (e i).evaluations;
     }
 

@@ -39,10 +39,10 @@ abbrev pub reading_fields : SheetReading → (value : ℕ) → Fields
 reading_fields x value =
     record {
       number = 0;
-      outcome = outcome_number x.reading.outcome;
-      length = x.reading.length;
-      examined = x.reading.examined;
-      nesting = x.reading.nesting;
+      outcome = outcome_number x.outcome;
+      length = x.length;
+      examined = x.examined;
+      nesting = x.nesting;
       evaluations = x.evaluations;
       value = value;
     }

@@ -48,10 +48,10 @@ fn of_reading(found: SheetReading, value: u64) -> Fields
 {
     Fields {
         number: 0,
-        outcome: found.reading.outcome as u64,
-        length: found.reading.length as u64,
-        examined: found.reading.examined as u64,
-        nesting: found.reading.nesting as u64,
+        outcome: found.outcome as u64,
+        length: found.length as u64,
+        examined: found.examined as u64,
+        nesting: found.nesting as u64,
         evaluations: found.evaluations,
         value,
     }

@@ -5,8 +5,8 @@ use mathlib.Core.Path.{◌≡◌, refl, sym, ap, ◌∙◌}
 use mathlib.Core.Bool.{Bool, true, false}
 use mathlib.Core.Logic.{◌⊎◌, inl, inr, ⊎_elim}
 use mathlib.Core.List.{List}
-use lib.ListN.{length, set, replicate, length-set, length-replicate, get_or-replicate}
-use lib.Seq.{get_or-set_same, get_or-set_other, ext_get_or}
+use lib.ListN.{length, set, length-set}
+use lib.Seq.{get_or-set_same, get_or-set_other}
 use lib.Dec.{ltb}
 use borrow.Author.Tests.{ltb-true, ltb-false}
 use Rattle.buffers.specs.Filled.{Filled, at}
@@ -119,14 +119,3 @@ module _ {f : ℕ → ℕ} {old : List ℕ} where
         inside = λ j k l. F.inside j (omega arith) (omega arith) ∙ e j (omega arith) (omega arith);
         past = λ j k. F.past j (omega arith);
       }
-
--- A list filled with one value from end to end.
-pub all_same : {f : ℕ → ℕ} {old new : List ℕ} {hi : ℕ} (v : ℕ) → Filled f old new 0 hi → hi ≡ length old → ((j : ℕ) → f j ≡ v) → new ≡ replicate (length old) v
-all_same {f} {old} {new} {hi} v F h e =
-    let m = F.long in
-    ext_get_or
-    0
-    new
-    (replicate (length old) v)
-    (F.long ∙ sym (length-replicate (length old) v))
-    (λ j l. F.inside j (omega arith) (omega arith) ∙ e j ∙ sym (get_or-replicate (length old) j v 0 (omega arith)))

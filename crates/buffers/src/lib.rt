@@ -1,5 +1,28 @@
-// Loops over lent slices: a stretch of bytes is moved, a text copied in, a slice set to zeros.
+// What an opening and an edit store in lent slices: a stretch of bytes is moved, a text copied in, words cleared.
 #![tactic(auto)]
 
-pub mod bytes;
-pub mod words;
+ghost use Rattle.std.specs.Prelude.{◌+◌, ◌-◌, ◌≤◌, ◌≡◌, length, replicate};
+ghost use Rattle.buffers.specs.Filled.{Filled, at};
+
+// `count` bytes go from `from` to `to`; the stretches may overlap.
+pub fn shift(part: &mut [u8], from: usize, to: usize, count: usize)
+    requires { (from + count ≤ length part.old) × (to + count ≤ length part.old) }
+    ensures { Filled (λ j. at part.old (from + (j - to))) part.old part.new to (to + count) }
+{
+    part.copy_within(from..from + count, to);
+}
+
+// The bytes of `text` go to the front of the slice.
+pub fn copy(part: &mut [u8], text: &[u8])
+    requires { length text.now ≤ length part.old }
+    ensures { Filled (at text.now) part.old part.new 0 (length text.now) }
+{
+    part[..text.len()].copy_from_slice(text);
+}
+
+// Every word becomes 0.
+pub fn clear(part: &mut [u64])
+    ensures { part.new ≡ replicate (length part.old) 0 }
+{
+    part.fill(0);
+}

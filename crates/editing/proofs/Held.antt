@@ -1,5 +1,5 @@
 -- Held words and their count: one word's bit, and the count of words one after the other. Assumes nothing.
-use Prim.Native.Nat.{ℕ, zero, suc, ◌+◌, ◌/◌, ◌^◌, ◌≤◌, ◌<◌}
+use Prim.Native.Nat.{ℕ, zero, suc, ◌+◌, ◌≤◌, ◌<◌}
 use native.Mathlib.Omega.{arith}
 use native.Mathlib.Nat.{add-zero, add-suc}
 use native.Mathlib.Numerals.{add-one}
@@ -7,7 +7,6 @@ use mathlib.Core.Path.{◌≡◌, refl, sym, ap, ◌∙◌}
 use mathlib.Core.Bool.{Bool, true, false, cond}
 use mathlib.Core.List.{List, [], ◌∷◌}
 use lib.ListN.{length}
-use borrow.Author.Tests.{leb-true, leb-false}
 use Rattle.buffers.specs.Filled.{at}
 use Rattle.records.specs.Words.{is_held}
 use Rattle.editing.specs.Table.{held_in}
@@ -16,13 +15,6 @@ use Rattle.editing.specs.Held.{held_bit, only_held, held_to}
 -- A choice whose test is known.
 pub cond_by : {t b : Bool} (x y : ℕ) → t ≡ b → cond t x y ≡ cond b x y
 cond_by x y e = ap (λ (t : Bool). cond t x y) e
-
-pub bit_is : (w : ℕ) → w < 2 ^ 64 → w / (2 ^ 63) ≡ held_bit w
-bit_is w h = go (is_held w) refl
-  where
-    go : (b : Bool) → is_held w ≡ b → w / (2 ^ 63) ≡ held_bit w
-    go true e = let l = leb-true (2 ^ 63) w e in let d : w / (2 ^ 63) ≡ 1 = omega arith in d ∙ sym (cond_by 1 0 e)
-    go false e = let l = leb-false (2 ^ 63) w e in let d : w / (2 ^ 63) ≡ 0 = omega arith in d ∙ sym (cond_by 1 0 e)
 
 pub bit_small : (w : ℕ) → held_bit w < 2
 bit_small w = go (is_held w)
@@ -39,14 +31,7 @@ bit_only w = go (is_held w) refl
     go true e = cond_by 1 0 e
     go false e = refl
 
--- A held word put over another: neither bit falls.
-pub bit_first : (a b : ℕ) → held_bit a ≤ held_bit (cond (is_held a) a b)
-bit_first a b = go (is_held a) refl
-  where
-    go : (t : Bool) → is_held a ≡ t → held_bit a ≤ held_bit (cond t a b)
-    go true e = omega arith
-    go false e = let i : held_bit a ≡ 0 = cond_by 1 0 e in omega arith
-
+-- A held word put over another: the bit of the other does not fall.
 pub bit-over : (a b : ℕ) → held_bit b ≤ held_bit (cond (is_held a) a b)
 bit-over a b = go (is_held a) refl
   where

@@ -32,11 +32,6 @@ answered ready g =
     let most = ready.most in
     (says_itself ready.short (omega arith) g, omega (arith, nesting_allowed ready.short (omega arith) g))
 
--- What `?` returns.
-pub left_with : {A : Type 0} {r : Result A Refusal} {k : Refusal} → IsErr r × IsErrAnd r (λ y. y ≡ k) → r ≡ Err k
-left_with {r = Ok x} h = absurd h.1
-left_with {r = Err y} h = ap Err h.1
-
 -- What a step gives over the run that it finds, it gives over the run before.
 pub before :
     (p q : Run) (i : ℕ) (t : List ℕ) (c : ℕ) {left at next d : ℕ} {r : Result ℕ Refusal} {u : List ℕ}
@@ -64,22 +59,6 @@ pub looked_up :
     → word ≡ get_or p.table.now (slot_of p.rules rule at) 0
     → word ≡ get_or p.table.now (slot_of (rules_in p.words.now) rule at) 0
 looked_up p rule at e w = w ∙ ap (λ (n : ℕ). get_or p.table.now (slot_of n rule at) 0) e
-
--- What the decoder's answer says of a held word: it is possible, or it is not.
-module _ (word at n : ℕ) {o : Option Record} {given : Result Record Refusal} (e : o ≡ decoded word at n) (v : given ≡ ok_or o Records) where
-  pub was_met : {r : Record} → given ≡ Ok r → (possible word at n ≡ true) × (r ≡ record_of word)
-  was_met {r} w = go (possible word at n) (sym (ap (λ (o : Option Record). ok_or o Records) e) ∙ sym v ∙ w)
-    where
-      go : (b : Bool) → ok_or (cond b (Some (record_of word)) None) Records ≡ Ok r → (b ≡ true) × (r ≡ record_of word)
-      go true d = (refl, cc)
-      go false d = absurd (let z : ◌≡◌ {A = ℕ} 0 1 = cc in omega arith)
-
-  pub was_missed : {k : Refusal} → given ≡ Err k → (possible word at n ≡ false) × (k ≡ Records)
-  was_missed {k} w = go (possible word at n) (sym (ap (λ (o : Option Record). ok_or o Records) e) ∙ sym v ∙ w)
-    where
-      go : (b : Bool) → ok_or (cond b (Some (record_of word)) None) Records ≡ Err k → (b ≡ false) × (k ≡ Records)
-      go true d = absurd (let z : ◌≡◌ {A = ℕ} 0 1 = cc in omega arith)
-      go false d = (refl, cc)
 
 -- The numbers in a node are below 4096 where its fields are.
 abbrev pub Few : Node → Type 0

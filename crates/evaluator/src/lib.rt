@@ -169,11 +169,13 @@ impl<'a> Run<'a> {
         let table = &mut *self.table;
         let word = memo::look(table, rules, rule, at);
         if records::is_held(word) {
-            let held = Record::from_word(word, at, self.text.len()).ok_or(Refusal::Records)?;
+            let Some(held) = Record::from_word(word, at, self.text.len()) else {
+                return Err(Refusal::Records);
+            };
             if left < held.nesting {
                 return Err(Refusal::Nesting);
             }
-            return Ok(u64::from(held));
+            return Ok(held.word());
         }
         let value = self.eval_node(root, at, left)?;
         memo::put(self.table, rules, rule, at, value);

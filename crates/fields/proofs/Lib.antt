@@ -1,4 +1,4 @@
--- The laws of decimal and hexadecimal digits.
-pub mod Digits
+-- The laws of fields, of decimal and of hexadecimal digits.
+pub mod Places
 pub mod Decimals
 pub mod Hexadecimal

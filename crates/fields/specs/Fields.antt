@@ -1,10 +1,14 @@
 -- What a field of a line means: a decimal number below 2^64, or bytes as pairs of hexadecimal digits.
-use Rattle.std.specs.Prelude.{ℕ, zero, suc, ◌+◌, ◌*◌, ◌-◌, ◌≤◌, ◌<◌, ◌^◌, ◌/◌, ◌%◌, ◌≡◌, cond, List, length, get_or, ltb}
+use Rattle.std.specs.Prelude.{ℕ, zero, suc, ◌+◌, ◌*◌, ◌-◌, ◌≤◌, ◌<◌, ◌^◌, ◌/◌, ◌%◌, ◌≡◌, ◌≢◌, ◌⊎◌, cond, List, [], ◌∷◌, ◌++◌, length, get_or, ltb, Option, Some, None, Result, Ok, Err}
 use Rattle.buffers.specs.Filled.{Filled}
-use Rattle.fields.specs.declared.Number.{Number}
-use Rattle.fields.specs.declared.Number.TheVariants.{Is, None}
-use Rattle.fields.specs.declared.Decoded.{Decoded}
-use Rattle.fields.specs.declared.Decoded.TheVariants.{Bytes, TooLong, Wrong}
+use Rattle.fields.specs.declared.HexError.{HexError}
+use Rattle.fields.specs.declared.HexError.TheVariants.{TooLong, NotHex}
+
+-- The first field has no space, and the rest is what stands behind the one that ends it, nothing where the line has none.
+abbrev pub FieldOf : (line field rest : List ℕ) → Type 0
+FieldOf line field rest =
+    ((k : ℕ) → k < length field → get_or field k 0 ≢ 32)
+    × ((line ≡ field ++ 32 ∷ rest) ⊎ ((line ≡ field) × (rest ≡ [])))
 
 -- "0" to "9" in ASCII.
 abbrev pub Digit : ℕ → Type 0
@@ -24,8 +28,8 @@ abbrev pub IsNumber : List ℕ → Type 0
 IsNumber s = (0 < length s) × DigitsTo s (length s) × (value_to s (length s) < 2 ^ 64)
 
 -- A number is given exactly for a field that is one, and it is that number.
-abbrev pub DecimalOf : List ℕ → Number → Type 0
-DecimalOf s (Is v) = IsNumber s × (v ≡ value_to s (length s))
+abbrev pub DecimalOf : List ℕ → Option ℕ → Type 0
+DecimalOf s (Some v) = IsNumber s × (v ≡ value_to s (length s))
 DecimalOf s None = IsNumber s → ⊥
 
 -- The value of a hexadecimal digit in either case, 16 for any other byte.
@@ -47,7 +51,7 @@ abbrev pub IsHex : List ℕ → Type 0
 IsHex s = (length s % 2 ≡ 0) × ((j : ℕ) → j < length s → hex_value (get_or s j 0) < 16)
 
 -- Bytes are given exactly for a field that is bytes and fits, and they are at the start of what was lent.
-abbrev pub HexOf : (s old new : List ℕ) → Decoded → Type 0
-HexOf s old new (Bytes n) = (2 * n ≡ length s) × (n ≤ length old) × IsHex s × Filled (byte_at s) old new 0 n
-HexOf s old new TooLong = length old < length s / 2
-HexOf s old new Wrong = IsHex s → ⊥
+abbrev pub HexOf : (s old new : List ℕ) → Result ℕ HexError → Type 0
+HexOf s old new (Ok n) = (2 * n ≡ length s) × (n ≤ length old) × IsHex s × Filled (byte_at s) old new 0 n
+HexOf s old new (Err TooLong) = length old < length s / 2
+HexOf s old new (Err NotHex) = IsHex s → ⊥

@@ -1,164 +1,91 @@
 // The fields of a line: where they lie, decimal numbers, and bytes in hexadecimal digits.
 #![tactic(auto)]
 
-ghost use Rattle.std.specs.Prelude.{ℕ, ◌+◌, ◌*◌, ◌≤◌, ◌<◌, ◌≡◌, ◌≢◌, length, slice_index};
-ghost use Rattle.fields.specs.Fields.{DecimalOf, hex_value, HexOf};
+ghost use Rattle.std.specs.Prelude.{ℕ, ◌+◌, ◌*◌, ◌≤◌, ◌<◌, ◌≡◌, ◌≢◌, length, slice_index, IfOk, IfSome, IfNone, SomeIff, ◌==◌};
+ghost use Rattle.std.specs.List.{position};
+ghost use Rattle.fields.specs.Fields.{DecimalOf, hex_value, byte_at, HexOf, FieldOf};
 
-// The first place at or past `from` that has this byte, or the end of the line.
-pub fn place_of(line: &[u8], from: usize, byte: u8) -> usize
+// The first place that has this byte, where there is one.
+fn first_place(line: &[u8], byte: u8) -> Option<usize>
+    ensures { result ≡ position (λ b. b == byte) line.now }
+{
+    line.iter().position(|b| *b == byte)
+}
+
+// The first place at or past `from` that has this byte, where there is one.
+pub fn place_of(line: &[u8], from: usize, byte: u8) -> Option<usize>
     requires { from ≤ length line.now }
-    ensures from_on { from ≤ result }
-    ensures within { result ≤ length line.now }
-    ensures before { (k : ℕ) → from ≤ k → k < result → slice_index line.now k ≢ byte }
-    ensures found { result < length line.now → slice_index line.now result ≡ byte }
+    ensures from_on { IfSome result (λ place. from ≤ place) }
+    ensures within { IfSome result (λ place. place < length line.now) }
+    ensures before { IfSome result (λ place. (k : ℕ) → from ≤ k → k < place → slice_index line.now k ≢ byte) }
+    ensures found { IfSome result (λ place. slice_index line.now place ≡ byte) }
+    ensures none { IfNone result ((k : ℕ) → from ≤ k → k < length line.now → slice_index line.now k ≢ byte) }
 {
-    for place in from..line.len() {
-        if line[place] == byte {
-            return place;
-        }
+    Some(from + first_place(&line[from..], byte)?)
+}
+
+// The first field of a line, and what follows it behind one space.
+pub fn first_field(line: &[u8]) -> (&[u8], &[u8])
+    ensures { FieldOf line.now result.0.now result.1.now }
+{
+    match place_of(line, 0, b' ') {
+        Some(place) => (&line[..place], &line[place + 1..]),
+        None => (line, &[]),
     }
-    line.len()
-}
-
-// The end of the first field: the first space, or the end of the line.
-pub fn end_of(line: &[u8]) -> usize
-    ensures { result ≤ length line.now }
-{
-    place_of(line, 0, b' ')
-}
-
-// The start of what follows a field that ends there.
-pub fn after(line: &[u8], end: usize) -> usize
-    ensures { result ≤ length line.now }
-{
-    if end < line.len() {
-        end + 1
-    } else {
-        line.len()
-    }
-}
-
-// The end of the second field.
-pub fn second_end(line: &[u8]) -> usize
-    ensures { result ≤ length line.now }
-{
-    let from = after(line, end_of(line));
-    place_of(line, from, b' ')
-}
-
-#[derive(Clone, Copy)]
-pub enum Number {
-    Is(usize),
-    None,
-}
-
-fn wide(byte: u8) -> usize
-    ensures { result ≡ byte }
-{
-    byte as usize
 }
 
 // The number that a field of digits is, where it is below 2^64.
-pub fn decimal(field: &[u8]) -> Number
+pub fn decimal(field: &[u8]) -> Option<usize>
     ensures { DecimalOf field.now result }
 {
-    if field.len() == 0 {
-        return Number::None;
+    if field.is_empty() {
+        return None;
     }
     let mut value: usize = 0;
-    let mut i: usize = 0;
-    while i < field.len() {
-        let byte = field[i];
-        if byte < 48 {
-            return Number::None;
-        }
-        if 57 < byte {
-            return Number::None;
-        }
-        if 1844674407370955161 < value {
-            return Number::None;
-        }
-        let tens = value * 10;
-        let digit = wide(byte - 48);
-        if 18446744073709551615 - tens < digit {
-            return Number::None;
-        }
-        value = tens + digit;
-        i += 1;
+    for &byte in field {
+        let digit = char::from(byte).to_digit(10)?;
+        value = value.checked_mul(10)?.checked_add(digit as usize)?;
     }
-    Number::Is(value)
+    Some(value)
 }
 
-#[derive(Clone, Copy)]
-pub enum Decoded {
-    Bytes(usize),
+// Why a field is not taken as bytes.
+#[derive(Clone, Copy, Debug, PartialEq, Eq)]
+pub enum HexError {
     TooLong,
-    Wrong,
+    NotHex,
 }
 
-// A hexadecimal digit's value, 16 for any other byte.
-fn hex_digit(byte: u8) -> u8
-    ensures { result ≡ hex_value byte }
+// The value of a hexadecimal digit in either case.
+fn hex_digit(byte: u8) -> Option<u8>
+    ensures { SomeIff result (hex_value byte < 16) (hex_value byte) }
 {
-    if byte < 48 {
-        return 16;
-    }
-    if byte < 58 {
-        return byte - 48;
-    }
-    if byte < 65 {
-        return 16;
-    }
-    if byte < 71 {
-        return byte - 55;
-    }
-    if byte < 97 {
-        return 16;
-    }
-    if byte < 103 {
-        return byte - 87;
-    }
-    16
+    let digit = char::from(byte).to_digit(16)?;
+    Some(digit as u8)
 }
 
-// The byte of two digits' values.
-fn byte_of(high: u8, low: u8) -> u8
-    requires { (high < 16) × (low < 16) }
-    ensures { result ≡ high * 16 + low }
+// The byte that a pair of hexadecimal digits means.
+fn byte_of(high: u8, low: u8) -> Option<u8>
+    ensures { SomeIff result ((hex_value high < 16) × (hex_value low < 16)) (hex_value high * 16 + hex_value low) }
 {
-    high * 16 + low
+    Some(hex_digit(high)? * 16 + hex_digit(low)?)
 }
 
 // Puts the bytes that a field of hexadecimal digits means at the start of `given`, and answers how many there are.
-pub fn hex(field: &[u8], given: &mut [u8]) -> Decoded
-    ensures { HexOf field.now given.old given.new result }
+pub fn hex(field: &[u8], given: &mut [u8]) -> Result<usize, HexError>
+    ensures hex { HexOf field.now given.old given.new result }
+    ensures room { IfOk result (λ n. n ≤ length given.new) }
 {
     if field.len() % 2 == 1 {
-        return Decoded::Wrong;
+        return Err(HexError::NotHex);
     }
     let count = field.len() / 2;
     if given.len() < count {
-        return Decoded::TooLong;
+        return Err(HexError::TooLong);
     }
-    let mut i: usize = 0;
-    while i < count {
-        let high = hex_digit(field[2 * i]);
-        if 16 <= high {
-            return Decoded::Wrong;
-        }
-        let low = hex_digit(field[2 * i + 1]);
-        if 16 <= low {
-            return Decoded::Wrong;
-        }
-        given[i] = byte_of(high, low);
-        i += 1;
+    // By index: of what a chain over `iter_mut` writes, the check knows nothing afterwards.
+    for i in 0..count {
+        given[i] = byte_of(field[2 * i], field[2 * i + 1]).ok_or(HexError::NotHex)?;
     }
-    Decoded::Bytes(count)
-}
-
-// The lesser of a number and a length.
-pub fn at_most(number: usize, length: usize) -> usize
-    ensures { (result ≤ number) × (result ≤ length) }
-{
-    if number < length { number } else { length }
+    Ok(count)
 }

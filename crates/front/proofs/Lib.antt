@@ -1,4 +1,4 @@
 -- The laws of the rows before an edit.
-pub mod Turns
 pub mod ScanLaw
+pub mod Pieces
 pub mod Rows

@@ -2,18 +2,17 @@
 -- neither held nor 0. Assumes nothing.
 use Prim.Native.Nat.{ℕ, ◌+◌, ◌/◌, ◌%◌, ◌^◌, ◌≤◌, ◌<◌}
 use native.Mathlib.Omega.{arith}
-use mathlib.Core.Path.{◌≡◌, refl, sym, ap, ◌∙◌}
-use mathlib.Core.Bool.{false, true≢false}
+use mathlib.Core.Path.{◌≡◌, refl, ap, ◌∙◌}
+use mathlib.Core.Bool.{false}
 use mathlib.Core.List.{List}
 use lib.ListN.{length}
 use lib.Bits.{bit_or, bit_and, or_add_and, and_le_l, and_le_r, or_shr, or_mod}
 use borrow.Author.Count.{below_more}
-use lib.Dec.{leb}
-use borrow.Author.Tests.{leb-true, leb-false}
+use borrow.Author.Tests.{leb-false}
 use Rattle.buffers.specs.Filled.{at}
 use Rattle.records.specs.Words.{is_held, examined_of}
 use Rattle.editing.specs.Held.{held_bit, held_to}
-use Rattle.front.specs.Front.{Lowered, Scanned}
+use Rattle.front.specs.Front.{AllStay}
 use Rattle.editing.proofs.Held.{held_more}
 
 or_above : (a b : ℕ) → (a ≤ bit_or a b) × (b ≤ bit_or a b)
@@ -40,7 +39,7 @@ nothing_seen =
 pub seen_more :
     {words : List ℕ} {any all held i low bit : ℕ}
     → Seen words any all held i
-    → Lowered (at words i) low
+    → (2 ^ 63 ≤ low → at words i < 2 ^ 63 → at words i ≡ 0)
     → bit ≡ held_bit (at words i)
     → Seen words (bit_or any (at words i)) (bit_and all low) (held + bit) (i + 1)
 seen_more {words} {any} {all} {held} {i} {low} {bit} S L b =
@@ -57,23 +56,20 @@ seen_more {words} {any} {all} {held} {i} {low} {bit} S L b =
           (λ j. is_held (at words j) ≡ false → at words j ≡ 0)
           i
           (S.empty (let a = and_le_l all low in omega arith))
-          (λ h. L.above (let a = and_le_r all low in omega arith) (leb-false (2 ^ 63) (at words i) h));
+          (λ h. L (let a = and_le_r all low in omega arith) (leb-false (2 ^ 63) (at words i) h));
     }
 
--- At the end: nothing is told, or the bound of all fields is held against the limit.
-module _ {words : List ℕ} {any all held i : ℕ} (limit : ℕ) (S : Seen words any all held i) (end : i ≡ length words) where
-  pub told_nothing : Scanned words limit (record { held = held; every = false })
-  told_nothing =
-      record {
-        counted = S.counted ∙ ap (held_to (at words)) end;
-        bound = λ no. absurd (true≢false (sym no));
-        empty = λ no. absurd (true≢false (sym no));
-      }
-
-  pub told : (x : ℕ) → 2 ^ 63 ≤ all → x ≡ examined_of any → Scanned words limit (record { held = held; every = leb x limit })
-  told x clean e =
-      record {
-        counted = S.counted ∙ ap (held_to (at words)) end;
-        bound = λ yes j h. (let a = S.bound j (omega arith) in let b = leb-true x limit yes in omega arith);
-        empty = λ yes j h. S.empty clean j (omega arith);
-      }
+-- At the end the bound of all fields is within the limit.
+pub all_stay :
+    {words : List ℕ} {any all held i limit : ℕ}
+    → Seen words any all held i
+    → i ≡ length words
+    → 2 ^ 63 ≤ all
+    → examined_of any ≤ limit
+    → AllStay words limit held
+all_stay {words} S end clean few =
+    record {
+      counted = S.counted ∙ ap (held_to (at words)) end;
+      bound = λ j h. let a = S.bound j (omega arith) in omega arith;
+      empty = λ j h. S.empty clean j (omega arith);
+    }

@@ -1,7 +1,7 @@
--- A refusal's number: 1 to 15, and another for each. Assumes nothing.
+-- A refusal's number: 1 to 15, and another for each; what a refused call returns. Assumes nothing.
 use Rattle.std.proofs.Common.{ℕ, zero, suc, ◌≡◌, ◌≤◌, refl, sym, ap, ◌∙◌, arith}
 use Rattle.grammar.specs.Refusals.{number, number_in}
-use Rattle.std.specs.Prelude.{Result, Ok, Err}
+use Rattle.std.specs.Prelude.{Result, Ok, Err, IsErr, IsErrAnd}
 use Rattle.grammar.specs.declared.refusal.Refusal.{Refusal}
 use Rattle.grammar.specs.declared.refusal.Refusal.TheVariants.{Edition, Counts, Size, Words, Occurrences, StarBodies, WellFormed}
 use Rattle.grammar.specs.declared.refusal.Refusal.TheVariants.{Loan, EditRange, EditRoom, Pair, Records, StarRounds, Nesting, Rows}
@@ -66,3 +66,8 @@ number_bounds Rows = (omega arith, omega arith)
 pub refused_with : {A : Type 0} (a : Result A Refusal) (r : Refusal) → number_in a ≡ number r → a ≡ Err r
 refused_with (Ok x) r e = absurd (let b = number_bounds r in omega arith)
 refused_with (Err q) r e = ap Err (same_refusal e)
+
+-- What `?` returns.
+pub left_with : {A : Type 0} {r : Result A Refusal} {k : Refusal} → IsErr r × IsErrAnd r (λ y. y ≡ k) → r ≡ Err k
+left_with {r = Ok x} h = absurd h.1
+left_with {r = Err y} h = ap Err h.1

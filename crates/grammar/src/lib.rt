@@ -4,7 +4,6 @@
 #![tactic(auto)]
 
 mod node;
-pub mod numbers;
 mod refusal;
 
 pub use node::{Node, NodeFields, Terminal};

@@ -58,6 +58,7 @@ impl From<NodeFields> for Node {
             5 => Node::Star(a),
             6 => Node::NotPredicate(a),
             7 => Node::Call(a),
+            8..=15 => Node::Unlawful,
             _ => Node::Unlawful,
         }
     }

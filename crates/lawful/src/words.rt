@@ -87,6 +87,7 @@ fn node_lawful(image: &[u8], n: usize) -> bool
         3 | 4 => children_lawful(image, n, word.a, word.b),
         5 | 6 => only_child_lawful(image, n, word.a, word.b),
         7 => call_lawful(image, word.a, word.b),
+        8..=15 => false,
         _ => false,
     }
 }

@@ -138,13 +138,10 @@ module _ (img text : List ℕ) (accepted : Accepted img) (short : length text �
         (λ i.
         Ok
         (record {
-          reading =
-              record {
-                outcome = outcome_is y.outcome (length text) v r.outcome_is i;
-                length = r.length_is i;
-                examined = r.examined_is i;
-                nesting = r.nesting_is i;
-              };
+          outcome = outcome_is y.outcome (length text) v r.outcome_is i;
+          length = r.length_is i;
+          examined = r.examined_is i;
+          nesting = r.nesting_is i;
           evaluations = count;
         }))
 
@@ -164,7 +161,7 @@ module _ (img text : List ℕ) (accepted : Accepted img) (short : length text �
 -- The reading of an answer that has one.
 abbrev reading_or : ReadAnswer → SheetReading
 reading_or (Ok x) = x
-reading_or (Err r) = record { reading = record { outcome = Outcome.Nothing; length = 0; examined = 0; nesting = 0 }; evaluations = 0 }
+reading_or (Err r) = record { outcome = Outcome.Nothing; length = 0; examined = 0; nesting = 0; evaluations = 0 }
 
 abbrev is_read : ReadAnswer → Bool
 is_read (Ok x) = true

@@ -36,7 +36,8 @@ OnlyTheseNumbers =
 
 -- The answer of a plain reading as one of a session that evaluated so many pairs.
 abbrev pub in_session : PlainAnswer → (evaluations : ℕ) → ReadAnswer
-in_session (Ok x) count = Ok (record { reading = x; evaluations = count })
+in_session (Ok x) count =
+    Ok (record { outcome = x.outcome; length = x.length; examined = x.examined; nesting = x.nesting; evaluations = count })
 in_session (Err r) count = Err r
 
 -- A reading after any list of calls, and the plain reading of the text that it was lent: both are refused with 14 or none is, and otherwise
@@ -65,7 +66,7 @@ rows_if false x rows = Err Rows
 abbrev pub in_listing : PlainAnswer → (evaluations slots : ℕ) (rows : List ℕ) → ListAnswer
 in_listing (Ok x) count slots rows =
     rows_if (leb (length rows) slots)
-    (record { reading = x; evaluations = count })
+    (record { outcome = x.outcome; length = x.length; examined = x.examined; nesting = x.nesting; evaluations = count })
     rows
 in_listing (Err r) count slots rows = Err r
 

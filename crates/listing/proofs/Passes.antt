@@ -1,63 +1,74 @@
 -- The counting pass and the writing pass are the same walk: they agree over every table. Assumes nothing.
-use Prim.Native.Nat.{ℕ, ◌+◌, ◌-◌, ◌≤◌, ◌<◌}
+use Rattle.std.specs.Prelude.{Option, Result, Ok, Err}
+use Prim.Native.Nat.{ℕ, ◌+◌}
 use native.Mathlib.Omega.{arith}
 use mathlib.Core.Path.{◌≡◌, refl, sym, ap, ◌∙◌, subst}
-use mathlib.Core.Bool.{Bool, true, false}
 use mathlib.Core.List.{List, ◌++◌}
 use lib.ListN.{length, drop}
-use lib.Seq.{sets, sets-eq}
-use lib.Dec.{ltb}
-use borrow.Author.Tests.{ltb-true, ltb-false}
-use Rattle.rows.specs.Walk.{walked, stopped, Trail, trail}
-use Rattle.rows.specs.Bounds.{Number, Bounded}
-use Rattle.listing.specs.Gives.{Gives}
-use Rattle.listing.specs.Listed.{Written, NotWritten}
-use Rattle.listing.proofs.Gives.{found, failed, halted, on_trail}
+use lib.Seq.{sets-eq}
+use Rattle.grammar.specs.declared.refusal.Refusal.{Refusal}
+use Rattle.rows.specs.Walk.{Walked, walked, stopped, Trail, trail}
+use Rattle.rows.specs.Bounds.{Stops, Bounded}
+use Rattle.listing.specs.Gives.{coded, Gives}
+use Rattle.listing.specs.Listed.{counted, Passed, NotWritten, ListedAs}
+use Rattle.listing.proofs.Gives.{on_trail}
+
+-- A pass from the walk that it is, where the walk is not refused: the count is that of the rows.
+pub pass_counted :
+    {n room p : ℕ} {l : List ℕ} {r : Result (Option ℕ) Refusal} {l' left : List ℕ} {d : ℕ} {o : Trail} {x : Option ℕ}
+    → Bounded n room p 0 o → Gives 0 l r l' d o → r ≡ Ok x → left ≡ l' → Passed l (Ok d) left o
+pass_counted {l = l} {left = left} {d = d} {o = o} {x = x} b g i e = go g.answer g.is (sym g.given_is ∙ i)
+  where
+    go : (a : Walked) → o ≡ trail a g.words → coded a ≡ Ok x → Passed l (Ok d) left o
+    go (walked m len k) is given =
+        let t = on_trail b is in
+        let same : d ≡ k = omega (arith, t.0.counted, g.counted) in
+        record { answer = walked m len k; words = g.words; is = is; given_is = ap Ok same; written = e ∙ g.written }
+    go (stopped k) is given = absurd (let z : ◌≡◌ {A = ℕ} 0 1 = cc in omega arith)
+
+abbrev answer_of : Trail → Walked
+answer_of (trail a ws) = a
 
 abbrev words_of : Trail → List ℕ
 words_of (trail a ws) = ws
 
-module _ {n p : ℕ} {slots : List ℕ} {o : Trail} (short : n ≤ 65535) (b : Bounded n (length slots) p 0 o) where
-  pub refused : {l l1 : List ℕ} {x d : ℕ} → Gives 0 l x l1 d o → 65536 < x → NotWritten o slots (x - 65536) slots
-  refused {x = x} g i =
-      let h = halted short b g i in
-      let k : x - 65536 ≡ h.number = omega (arith, h.number_is) in
-      record {
-        words = h.words;
-        is = h.is ∙ ap (λ (j : ℕ). trail (stopped j) h.words) (sym k);
-        number_is = subst Number (sym k) (on_trail b h.is).0;
-        same = refl;
-      }
-
-  one_walk :
-      {m : Bool} {len d y e : ℕ} {left : List ℕ} (ws : List ℕ) → o ≡ trail (walked m len d) ws → d ≡ 0 + length ws
-      → Gives 0 slots y left e o → Written o slots d left
-  one_walk {m} {len} {d} {left = left} ws is counted g =
-      let same : g.words ≡ ws = ap words_of (sym g.is ∙ is) in
-      let fits = (on_trail b is).1 in
-      let few : 0 + length ws ≤ length slots = fits in
-      let from-0 : 0 + length ws ≡ length ws = omega arith in
-      record {
-        matched = m;
-        len = len;
-        words = ws;
-        is = is;
-        number_is = omega arith;
-        fit = omega arith;
-        slots_are =
-            g.written
-            ∙ ap (sets slots 0) same
-            ∙ sets-eq ws slots 0 few
-            ∙ ap (λ (k : ℕ). ws ++ drop k slots) from-0;
-      }
-
-  pub written :
-      {l l1 left : List ℕ} {x d y e : ℕ} → Gives 0 l x l1 d o → x ≤ 65536 → Gives 0 slots y left e o → Written o slots d left
-  written {left = left} {x = x} {d = d} g i g2 = go (ltb x 65536) refl
+module _ {n p : ℕ} {slots : List ℕ} {o : Trail} (b : Bounded n (length slots) p 0 o) where
+  -- The counting pass is refused.
+  pub refused : {l l' : List ℕ} {r : Result ℕ Refusal} {e : Refusal} → Passed l r l' o → r ≡ Err e → NotWritten o slots e slots
+  refused {e = e} f i = go f.answer f.is (sym f.given_is ∙ i)
     where
-      go : (t : Bool) → ltb x 65536 ≡ t → Written o slots d left
-      go true t = let w = found b g (ltb-true x 65536 t) in one_walk w.words w.is w.counted g2
-      go false t =
-          let same : x ≡ 65536 = (let j = ltb-false x 65536 t in omega arith) in
-          let w = failed short b g same in
-          one_walk w.words w.is w.counted g2
+      go : (a : Walked) → o ≡ trail a f.words → counted a ≡ Err e → NotWritten o slots e slots
+      go (walked m len d) is given = absurd (let z : ◌≡◌ {A = ℕ} 0 1 = cc in omega arith)
+      go (stopped k) is given =
+          let same : k ≡ e = cc in
+          record {
+            words = f.words;
+            is = is ∙ ap (λ (j : Refusal). trail (stopped j) f.words) same;
+            stops = subst Stops same (on_trail b is).0;
+            same = refl;
+          }
+
+  -- It is not: then neither is the writing pass.
+  pub listed :
+      {l l' : List ℕ} {r : Result ℕ Refusal} {c : ℕ} {q : Result ℕ Refusal} {left : List ℕ}
+      → Passed l r l' o → r ≡ Ok c → Passed slots q left o → ListedAs o slots q left
+  listed {c = c} {q = q} {left = left} f i g = subst (λ (q : Result ℕ Refusal). ListedAs o slots q left) (sym g.given_is) (go f.answer f.is (sym f.given_is ∙ i) g.answer g.is)
+    where
+      go : (a : Walked) → o ≡ trail a f.words → counted a ≡ Ok c → (z : Walked) → o ≡ trail z g.words → ListedAs o slots (counted z) left
+      go (stopped k) is given z same = absurd (let z : ◌≡◌ {A = ℕ} 0 1 = cc in omega arith)
+      go (walked m len d) is given (stopped k) same = absurd (let z : ◌≡◌ {A = ℕ} 0 1 = cc (ap answer_of (sym is ∙ same)) in omega arith)
+      go (walked m len d) is given (walked m' len' e) same =
+          let t = on_trail b same in
+          let from-0 : 0 + length g.words ≡ length g.words = omega arith in
+          record {
+            matched = m';
+            len = len';
+            words = g.words;
+            is = same;
+            number_is = omega (arith, t.0.counted);
+            fit = omega (arith, t.1);
+            slots_are =
+                g.written
+                ∙ sets-eq g.words slots 0 t.1
+                ∙ ap (λ (k : ℕ). g.words ++ drop k slots) from-0;
+          }

@@ -1,182 +1,270 @@
 -- The ways through a rule and a node of the walk. Assumes nothing.
-use Prim.Native.Nat.{ℕ, zero, suc, ◌+◌, ◌-◌, ◌%◌, ◌≤◌, ◌<◌}
+use Rattle.std.specs.Prelude.{Option, Some, None, Result, Ok, Err}
+use Prim.Native.Nat.{ℕ, zero, suc, ◌+◌, ◌-◌, ◌%◌, ◌≤◌, ◌<◌, ◌^◌}
 use native.Mathlib.Omega.{arith}
 use mathlib.Core.Path.{◌≡◌, refl, sym, ap, ◌∙◌, subst}
-use mathlib.Core.Bool.{Bool, true, false, ◌&&◌, and-false}
+use mathlib.Core.Bool.{Bool, true, false, not, ◌&&◌, and-false}
 use mathlib.Core.List.{List, [], ◌∷◌}
 use lib.ListN.{length, get_or, set}
 use lib.Dec.{leb}
-use borrow.Author.Tests.{le-leb, lt-leb, ltb-true, ltb-false}
-use lib.Dec.{ltb}
+use borrow.Author.Tests.{le-leb, lt-leb, not-true, not-false}
+use Rattle.grammar.specs.declared.refusal.Refusal.{Refusal}
+use Rattle.grammar.specs.declared.refusal.Refusal.TheVariants.{Records, Nesting, Rows}
 use Rattle.grammar.specs.declared.node.Node.{Node}
 use Rattle.grammar.specs.declared.node.Terminal.{Terminal}
-use Rattle.grammar.specs.declared.node.Node.TheVariants.{Text, Unlawful}
-use Rattle.grammar.specs.declared.node.Terminal.TheVariants.{Any}
-use Rattle.grammar.specs.Image.{fields_of, byte_range}
+use Rattle.grammar.specs.declared.node.Node.TheVariants.{Empty, Text, Sequence, Choice, Star, NotPredicate, Call, Unlawful}
 use Rattle.grammar.specs.declared.node.NodeFields.{NodeFields}
-use Rattle.grammar.proofs.Nodes.{is_empty, is_any, is_range}
+use Rattle.grammar.specs.Image.{fields_of, node_of}
+use Rattle.grammar.proofs.Nodes.{is_empty, is_any, is_range, is_sequence, is_choice, is_star, is_not, is_call, is_unlawful}
 use Rattle.image.specs.Fields.{SameFields}
 use Rattle.packrat.proofs.LoadedRuns.{word_is}
+use Rattle.packrat.proofs.Rules.{was_possible, was_impossible}
 use Rattle.grammar.specs.Terminal.{terminal_at}
-use Rattle.records.specs.Words.{is_held, possible, matched_of, length_of}
+use Rattle.records.specs.declared.Record.{Record}
+use Rattle.records.specs.Words.{is_held, possible, matched_of, length_of, record_of, decoded}
 use Rattle.records.specs.Slots.{slot_of}
 use Rattle.records.proofs.Test.{says_possible}
-use Rattle.packrat.specs.Loaded.{rules_in, word_node, word_b}
+use Rattle.packrat.specs.Loaded.{word_b}
 use Rattle.rows.specs.Rows.{row_word}
 use Rattle.rows.specs.Window.{touches}
-use Rattle.rows.specs.Walk.{walked, stopped, Trail, trail, Walker, bind, after, met, entered, pair_v, kind_v, node_v}
-use Rattle.rows.proofs.Bounds.{Stays}
-use Rattle.listing.specs.Gives.{Gives, Leaf, told_length}
-use Rattle.listing.proofs.Gives.{found, failed, halted, at_once, just, and_then, and_stop}
+use Rattle.rows.specs.Walk.{walked, stopped, Trail, trail, bind, after, met, entered, pair_v, kind_v, node_v}
+use Rattle.rows.specs.Bounds.{Bounded}
+use Rattle.rows.proofs.Bounds.{node_bounded}
+use Rattle.listing.specs.declared.state.Walk.{Walk}
+use Rattle.listing.specs.Gives.{Gives, Steady, told_length, nodes_of, rules_of, inside_of}
+use Rattle.listing.proofs.Gives.{found, failed, at_once, just, and_then, and_stop}
 use Rattle.listing.proofs.Paths.{prefixed}
 
-module _ (rules root room : ℕ) (text table : List ℕ) (ev : Walker) (r at lo hi k : ℕ) {word : ℕ} (word_is : word ≡ get_or table (slot_of rules r at) 0)
-    (c : ℕ) (l : List ℕ)
+-- What a possible word says stays in the text.
+pub held_in_text : (word at n : ℕ) {h : Record} → Some h ≡ decoded word at n → at + h.length ≤ n
+held_in_text word at n {h} from =
+    let known = was_possible h (record_of word) (possible word at n) from in
+    let i = (says_possible word at n known.0).in_text in
+    let q = ap (λ (q : Record). q.length) known.1 in
+    omega arith
+
+module _ (w : Walk) {at k allowance : ℕ} (s : Steady w.text.now at k allowance) (left root r lo hi : ℕ) {word : ℕ}
+    (word_is : word ≡ get_or w.table.now (slot_of w.rules r at) 0)
   where
+    abbrev n : ℕ
+    n = length w.text.now
+
+    -- What the rule's body has, after so many rows.
+    abbrev body : ℕ → Trail
+    body c = nodes_of w left root at lo hi (k + 1) c
+
+    abbrev Entered : (touched full : Bool) → (len : ℕ) → Trail
+    Entered touched full len =
+        entered touched full len (row_word (record { rule = r % 256; depth = k; start = at; length = len })) body w.count
+
     abbrev Inner : ℕ → Trail
-    Inner w =
-        entered (touches lo hi at (length_of w)) (leb room c) (length_of w)
-        (row_word (record { rule = r % 256; depth = k; start = at; length = length_of w }))
-        (ev root at lo hi (k + 1)) c
+    Inner len = Entered (touches lo hi at len) (leb w.room w.count) len
 
     opens :
-        pair_v rules root room text table ev r at lo hi k c
-        ≡ met (is_held word && possible word at (length text)) (matched_of word) c (Inner word)
+        rules_of w left root r at lo hi k w.count
+        ≡ met (is_held word && possible word at n) (matched_of word) w.count (Inner (length_of word))
     unfolding pair_v
-    opens = ap (λ (w : ℕ). met (is_held w && possible w at (length text)) (matched_of w) c (Inner w)) (sym word_is)
+    opens =
+        ap (λ (v : ℕ). met (is_held v && possible v at n) (matched_of v) w.count (Inner (length_of v)))
+        (sym (word_is ∙ ap (λ (m : ℕ). get_or w.table.now (slot_of m r at) 0) w.rules_are))
 
-    pub rule_empty : is_held word ≡ false → Gives c l 65548 l c (pair_v rules root room text table ev r at lo hi k c)
+    pub rule_empty :
+        is_held word ≡ false
+        → Gives w.count w.rows.now (Err Records) w.rows.now w.count (rules_of w left root r at lo hi k w.count)
     unfolding met
     rule_empty e =
-        at_once (stopped 12)
-        (opens ∙ ap (λ (b : Bool). met (b && possible word at (length text)) (matched_of word) c (Inner word)) e) refl
+        at_once (stopped Records)
+        (opens ∙ ap (λ (b : Bool). met (b && possible word at n) (matched_of word) w.count (Inner (length_of word))) e) refl
 
-    pub rule_impossible : possible word at (length text) ≡ false → Gives c l 65548 l c (pair_v rules root room text table ev r at lo hi k c)
+    pub rule_impossible :
+        None ≡ decoded word at (length w.text.now)
+        → Gives w.count w.rows.now (Err Records) w.rows.now w.count (rules_of w left root r at lo hi k w.count)
     unfolding met
     rule_impossible e =
-        at_once (stopped 12)
-        (opens ∙ ap (λ (b : Bool). met b (matched_of word) c (Inner word))
-        (ap (λ (b : Bool). is_held word && b) e ∙ and-false (is_held word)))
+        at_once (stopped Records)
+        (opens ∙ ap (λ (b : Bool). met b (matched_of word) w.count (Inner (length_of word)))
+        (ap (λ (b : Bool). is_held word && b) (was_impossible (record_of word) (possible word at n) e) ∙ and-false (is_held word)))
         refl
 
-    module _ (held : is_held word ≡ true) (fine : possible word at (length text) ≡ true) where
-      knows : pair_v rules root room text table ev r at lo hi k c ≡ met true (matched_of word) c (Inner word)
+    module _ (held : is_held word ≡ true) {h : Record} (from : Some h ≡ decoded word at (length w.text.now)) where
+      fine : possible word at n ≡ true
+      fine = (was_possible h (record_of word) (possible word at n) from).0
+
+      same : h ≡ record_of word
+      same = (was_possible h (record_of word) (possible word at n) from).1
+
+      knows : rules_of w left root r at lo hi k w.count ≡ met true h.matched w.count (Inner h.length)
       knows =
           opens
-          ∙ ap (λ (b : Bool). met (b && possible word at (length text)) (matched_of word) c (Inner word)) held
-          ∙ ap (λ (b : Bool). met b (matched_of word) c (Inner word)) fine
+          ∙ ap (λ (b : Bool). met (b && possible word at n) (matched_of word) w.count (Inner (length_of word))) held
+          ∙ ap (λ (b : Bool). met b (matched_of word) w.count (Inner (length_of word))) fine
+          ∙ ap (λ (q : Record). met true q.matched w.count (Inner q.length)) (sym same)
 
-      pub rule_failed : matched_of word ≡ false → Gives c l 65536 l c (pair_v rules root room text table ev r at lo hi k c)
+      pub rule_failed :
+          not h.matched ≡ true → Gives w.count w.rows.now (Ok None) w.rows.now w.count (rules_of w left root r at lo hi k w.count)
       unfolding met
-      rule_failed m = at_once (walked false 0 c) (knows ∙ ap (λ (b : Bool). met true b c (Inner word)) m) refl
+      rule_failed m =
+          at_once (walked false 0 w.count) (knows ∙ ap (λ (b : Bool). met true b w.count (Inner h.length)) (not-true h.matched m)) refl
 
-      pub rule_in_text : at + length_of word ≤ length text
-      rule_in_text = (says_possible word at (length text) fine).in_text
-
-      module _ (m : matched_of word ≡ true) where
-        enters : pair_v rules root room text table ev r at lo hi k c ≡ Inner word
+      module _ (m : not h.matched ≡ false) where
+        enters : rules_of w left root r at lo hi k w.count ≡ Inner h.length
         unfolding met
-        enters = knows ∙ ap (λ (b : Bool). met true b c (Inner word)) m
-
-        abbrev Entered : (touched full : Bool) → Trail
-        Entered touched full =
-            entered touched full (length_of word) (row_word (record { rule = r % 256; depth = k; start = at; length = length_of word }))
-            (ev root at lo hi (k + 1)) c
+        enters = knows ∙ ap (λ (b : Bool). met true b w.count (Inner h.length)) (not-false h.matched m)
 
         pub rule_missed :
-            {len : ℕ} → len ≡ length_of word → touches lo hi at len ≡ false
-            → Gives c l len l c (pair_v rules root room text table ev r at lo hi k c)
+            touches lo hi at h.length ≡ false
+            → Gives w.count w.rows.now (Ok (Some h.length)) w.rows.now w.count (rules_of w left root r at lo hi k w.count)
         unfolding entered
-        rule_missed {len} q e =
-            at_once (walked true (length_of word) c)
-            (enters ∙ ap (λ (b : Bool). Entered b (leb room c)) (ap (touches lo hi at) (sym q) ∙ e)) q
+        rule_missed e =
+            at_once (walked true h.length w.count) (enters ∙ ap (λ (b : Bool). Entered b (leb w.room w.count) h.length) e) refl
 
-        module _ {len : ℕ} (q : len ≡ length_of word) (t : touches lo hi at len ≡ true) where
-          touched : pair_v rules root room text table ev r at lo hi k c ≡ Entered true (leb room c)
-          touched = enters ∙ ap (λ (b : Bool). Entered b (leb room c)) (ap (touches lo hi at) (sym q) ∙ t)
+        module _ (t : touches lo hi at h.length ≡ true) where
+          touched : rules_of w left root r at lo hi k w.count ≡ Entered true (leb w.room w.count) h.length
+          touched = enters ∙ ap (λ (b : Bool). Entered b (leb w.room w.count) h.length) t
 
-          pub rule_full : room ≤ c → Gives c l 65551 l c (pair_v rules root room text table ev r at lo hi k c)
+          pub rule_full :
+              w.room ≤ w.count → Gives w.count w.rows.now (Err Rows) w.rows.now w.count (rules_of w left root r at lo hi k w.count)
           unfolding entered
-          rule_full e = at_once (stopped 15) (touched ∙ ap (λ (b : Bool). Entered true b) (le-leb room c e)) refl
+          rule_full e =
+              at_once (stopped Rows) (touched ∙ ap (λ (b : Bool). Entered true b h.length) (le-leb w.room w.count e)) refl
 
-          module _ (free : c < room) {row : ℕ} (row_is : row ≡ row_word (record { rule = r % 256; depth = k; start = at; length = len }))
-              (short : length text ≤ 65535) (h : at ≤ length text) (stays : Stays (length text) room ev) (y d : ℕ) (l1 : List ℕ)
-              (g : Gives (c + 1) (set l c row) y l1 d (ev root at lo hi (k + 1) (c + 1)))
+          module _ (free : w.count < w.room) {row : ℕ}
+              (row_is : row ≡ row_word (record { rule = r % 2 ^ 8; depth = k % 2 ^ 16; start = at % 2 ^ 16; length = h.length % 2 ^ 16 }))
+              {y : Result (Option ℕ) Refusal} {d : ℕ} {l1 : List ℕ}
+              (g : Gives (w.count + 1) (set w.rows.now w.count row) y l1 d (nodes_of w left root at lo hi (k + 1) (w.count + 1)))
             where
-              rest : Trail
-              rest = bind (ev root at lo hi (k + 1) (c + 1)) (λ m l c. trail (walked true (length_of word) c) [])
+              its_length : Bool → ℕ → ℕ → Trail
+              its_length m l c = trail (walked true h.length c) []
 
-              writes : pair_v rules root room text table ev r at lo hi k c ≡ after (row ∷ []) rest
-              unfolding entered rest
-              writes =
-                  touched
-                  ∙ ap (λ (b : Bool). Entered true b) (lt-leb room c free)
-                  ∙ ap (λ (w : ℕ). after (w ∷ []) rest)
-                  (ap (λ (n : ℕ). row_word (record { rule = r % 256; depth = k; start = at; length = n })) (sym q) ∙ sym row_is)
+              -- Each field of the row fits.
+              fits : row_word (record { rule = r % 256; depth = k; start = at; length = h.length }) ≡ row
+              fits =
+                  let deep : k ≡ k % 2 ^ 16 = omega (arith, s.shallow) in
+                  let there : at ≡ at % 2 ^ 16 = omega (arith, s.here, w.short) in
+                  let long : h.length ≡ h.length % 2 ^ 16 = omega (arith, held_in_text word at n from, w.short) in
+                  (λ i. row_word (record { rule = r % 256; depth = deep i; start = there i; length = long i })) ∙ sym row_is
 
-              pub rule_stops : 65536 < y → Gives c l y l1 d (pair_v rules root room text table ev r at lo hi k c)
-              unfolding rest
-              rule_stops i =
-                  prefixed (row ∷ []) writes refl (omega arith)
-                  (and_stop (λ m l c. trail (walked true (length_of word) c) [])
-                  (halted short (stays root at lo hi (k + 1) (c + 1) h (omega arith)) g i))
+              with_row :
+                  {q : Result (Option ℕ) Refusal} → Gives (w.count + 1) (set w.rows.now w.count row) q l1 d (bind (body (w.count + 1)) its_length)
+                  → Gives w.count w.rows.now q l1 d (rules_of w left root r at lo hi k w.count)
+              unfolding entered its_length
+              with_row t =
+                  prefixed (row ∷ [])
+                  (touched
+                  ∙ ap (λ (b : Bool). Entered true b h.length) (lt-leb w.room w.count free)
+                  ∙ ap (λ (v : ℕ). after (v ∷ []) (bind (body (w.count + 1)) its_length)) fits)
+                  refl (omega arith) t
 
-              pub rule_goes : y ≤ 65536 → Gives c l len l1 d (pair_v rules root room text table ev r at lo hi k c)
-              unfolding rest
-              rule_goes i = prefixed (row ∷ []) writes refl (omega arith) (go (ltb y 65536) refl)
+              pub rule_stops :
+                  {e : Refusal} {q : Result (Option ℕ) Refusal} → y ≡ Err e → q ≡ Err e
+                  → Gives w.count w.rows.now q l1 d (rules_of w left root r at lo hi k w.count)
+              rule_stops i j = with_row (and_stop its_length g i j)
+
+              -- Whether the body matches is not asked: the record says it.
+              pub rule_goes :
+                  {x : Option ℕ} → y ≡ Ok x → Gives w.count w.rows.now (Ok (Some h.length)) l1 d (rules_of w left root r at lo hi k w.count)
+              unfolding its_length
+              rule_goes {x} i = go x i
                 where
-                  f : Bool → ℕ → ℕ → Trail
-                  f m l c = trail (walked true (length_of word) c) []
+                  stays : Bounded n w.room at (w.count + 1) (body (w.count + 1))
+                  stays = node_bounded w.room w.words.now w.text.now w.table.now left root at lo hi (k + 1) (w.count + 1) s.here (omega arith)
 
-                  go : (b : Bool) → ltb y 65536 ≡ b → Gives (c + 1) (set l c row) len l1 d (bind (ev root at lo hi (k + 1) (c + 1)) f)
-                  go true e =
-                      let w = found (stays root at lo hi (k + 1) (c + 1) h (omega arith)) g (ltb-true y 65536 e) in
-                      and_then w.words f w.is w.written w.counted (at_once (walked true (length_of word) d) refl q)
-                  go false e =
-                      let same : y ≡ 65536 = (let j = ltb-false y 65536 e in omega arith) in
-                      let w = failed short (stays root at lo hi (k + 1) (c + 1) h (omega arith)) g same in
-                      and_then w.words f w.is w.written w.counted (at_once (walked true (length_of word) d) refl q)
+                  go : (x : Option ℕ) → y ≡ Ok x → Gives w.count w.rows.now (Ok (Some h.length)) l1 d (rules_of w left root r at lo hi k w.count)
+                  go (Some x) i =
+                      let f = found g stays i in
+                      with_row (and_then f.words its_length f.is f.written f.counted (at_once (walked true h.length d) refl refl))
+                  go None i =
+                      let f = failed g stays i in
+                      with_row (and_then f.words its_length f.is f.written f.counted (at_once (walked true h.length d) refl refl))
+
+-- The node that a word stands for, as its fields were read: its parts are numbers of 12 bits.
+abbrev pub first_of : Node → ℕ
+first_of Empty = 0
+first_of (Text t) = 0
+first_of (Sequence a b) = a
+first_of (Choice a b) = a
+first_of (Star a) = a
+first_of (NotPredicate a) = a
+first_of (Call r) = r
+first_of Unlawful = 0
+
+abbrev pub second_of : Node → ℕ
+second_of Empty = 0
+second_of (Text t) = 0
+second_of (Sequence a b) = b
+second_of (Choice a b) = b
+second_of (Star a) = 0
+second_of (NotPredicate a) = 0
+second_of (Call r) = 0
+second_of Unlawful = 0
+
+parts_are : (f : NodeFields) → (first_of (node_of f) ≤ f.a) × (second_of (node_of f) ≤ f.b)
+parts_are f = go f.kind refl
+  where
+    by : {m : Node} → node_of f ≡ m → first_of m ≤ f.a → second_of m ≤ f.b → (first_of (node_of f) ≤ f.a) × (second_of (node_of f) ≤ f.b)
+    by e h j = let p = ap first_of e in let q = ap second_of e in (omega arith, omega arith)
+
+    go : (k : ℕ) → f.kind ≡ k → (first_of (node_of f) ≤ f.a) × (second_of (node_of f) ≤ f.b)
+    go zero e = by (is_empty f e) (omega arith) (omega arith)
+    go (suc zero) e = by (is_any f e) (omega arith) (omega arith)
+    go (suc (suc zero)) e = by (is_range f e) (omega arith) (omega arith)
+    go (suc (suc (suc zero))) e = by (is_sequence f e) (omega arith) (omega arith)
+    go (suc (suc (suc (suc zero)))) e = by (is_choice f e) (omega arith) (omega arith)
+    go (suc (suc (suc (suc (suc zero))))) e = by (is_star f e) (omega arith) (omega arith)
+    go (suc (suc (suc (suc (suc (suc zero)))))) e = by (is_not f e) (omega arith) (omega arith)
+    go (suc (suc (suc (suc (suc (suc (suc zero))))))) e = by (is_call f e) (omega arith) (omega arith)
+    go (suc (suc (suc (suc (suc (suc (suc (suc k)))))))) e = by (is_unlawful f (omega arith)) (omega arith) (omega arith)
+
+module _ (word : ℕ) {f : NodeFields} (s : SameFields f (fields_of word)) {m : Node} (is : m ≡ node_of f) where
+  pub first_small : first_of m < 4096
+  first_small = let p = (parts_are f).0 in let q = ap first_of is in omega (arith, s.its_a)
+
+  pub second_small : second_of m < 4096
+  second_small = let p = (parts_are f).1 in let q = ap second_of is in omega (arith, s.its_b)
 
 -- A node: without an allowance, and by its word.
-module _ (room : ℕ) (ws text table : List ℕ) (i at lo hi k c : ℕ) (l : List ℕ) where
-  pub node_too_deep : (left : ℕ) → left ≡ 0 → Gives c l 65550 l c (node_v room ws text table left i at lo hi k c)
-  node_too_deep left e =
-      subst (λ (n : ℕ). Gives c l 65550 l c (node_v room ws text table n i at lo hi k c)) (sym e)
-      (unfold node_v in at_once (stopped 14) refl refl)
+module _ (w : Walk) {at k left : ℕ} (s : Steady w.text.now at k left) (i lo hi : ℕ) where
+  pub node_too_deep : left ≡ 0 → Gives w.count w.rows.now (Err Nesting) w.rows.now w.count (nodes_of w left i at lo hi k w.count)
+  node_too_deep e =
+      subst (λ (m : ℕ). Gives w.count w.rows.now (Err Nesting) w.rows.now w.count (nodes_of w m i at lo hi k w.count)) (sym e)
+      (unfold node_v in at_once (stopped Nesting) refl refl)
 
-  abbrev pub Kind : (left : ℕ) → Node → Trail
-  Kind left m =
-      kind_v text (node_v room ws text table left)
-      (pair_v (rules_in ws) (word_b (get_or ws i 0)) room text table (node_v room ws text table left)) m at lo hi k c
+  abbrev pub Inside : (left : ℕ) → Node → Trail
+  Inside left m = inside_of w left (word_b (get_or w.words.now i 0)) m at lo hi k w.count
 
-  node_is : (n : ℕ) {m : Node} → word_node (get_or ws i 0) ≡ m → node_v room ws text table (suc n) i at lo hi k c ≡ Kind n m
-  unfolding node_v
-  node_is n e = ap (Kind n) e
-
-  pub node_goes :
-      (left : ℕ) → (left ≡ 0 → ⊥) → {m : Node} → word_node (get_or ws i 0) ≡ m → {r d : ℕ} {l1 : List ℕ}
-      → Gives c l r l1 d (Kind (left - 1) m) → Gives c l r l1 d (node_v room ws text table left i at lo hi k c)
-  node_goes zero ne e g = absurd (ne refl)
-  node_goes (suc n) ne {m} e {r} {d} {l1} g =
-      just (node_is n e) (subst (λ (j : ℕ). Gives c l r l1 d (Kind j m)) (omega arith) g)
-
-  pub unlawful_goes : (left : ℕ) → Gives c l 65548 l c (Kind left Unlawful)
-  unfolding kind_v
-  unlawful_goes left = at_once (stopped 12) refl refl
-
-  pub terminal_goes : (left : ℕ) (t : Terminal) {r : ℕ} → r ≡ told_length (terminal_at t text at) → Gives c l r l c (Kind left (Text t))
-  unfolding kind_v
-  terminal_goes left t e = at_once (walked (terminal_at t text at).matched (terminal_at t text at).length c) refl e
-
-  pub leaf_goes :
-      (left : ℕ) → (left ≡ 0 → ⊥) → (f : NodeFields) → SameFields f (fields_of (get_or ws i 0)) → f.kind < 3 → {r : ℕ}
-      → Leaf text f.kind f.zero f.a f.b at r → Gives c l r l c (node_v room ws text table left i at lo hi k c)
-  unfolding kind_v
-  leaf_goes left ne f s few {r} q = by_kind f.kind refl few
+  module _ (some : left ≡ 0 → ⊥) {f : NodeFields} (same : SameFields f (fields_of (get_or w.words.now i 0))) {m : Node} (is : m ≡ node_of f)
     where
-      by_kind : (n : ℕ) → f.kind ≡ n → n < 3 → Gives c l r l c (node_v room ws text table left i at lo hi k c)
-      by_kind zero e h = node_goes left ne (word_is (get_or ws i 0) s (is_empty f e)) (at_once (walked true 0 c) refl (q.of_empty e))
-      by_kind (suc zero) e h = node_goes left ne (word_is (get_or ws i 0) s (is_any f e)) (terminal_goes (left - 1) Any (q.of_any e))
-      by_kind (suc (suc zero)) e h =
-          node_goes left ne (word_is (get_or ws i 0) s (is_range f e)) (terminal_goes (left - 1) (byte_range f) (q.of_range e))
-      by_kind (suc (suc (suc n))) e h = absurd (omega arith)
+      node_is : (j : ℕ) → nodes_of w (suc j) i at lo hi k w.count ≡ Inside j m
+      unfolding node_v
+      node_is j = ap (Inside j) (word_is (get_or w.words.now i 0) same (sym is))
+
+      pub node_goes :
+          {r : Result (Option ℕ) Refusal} {d : ℕ} {l1 : List ℕ}
+          → Gives w.count w.rows.now r l1 d (inside_of w (left - 1) (word_b (get_or w.words.now i 0)) m at lo hi k w.count)
+          → Gives w.count w.rows.now r l1 d (nodes_of w left i at lo hi k w.count)
+      node_goes {r} {d} {l1} g = go left some g
+        where
+          go :
+              (left : ℕ) → (left ≡ 0 → ⊥) → Gives w.count w.rows.now r l1 d (Inside (left - 1) m)
+              → Gives w.count w.rows.now r l1 d (nodes_of w left i at lo hi k w.count)
+          go zero ne g = absurd (ne refl)
+          go (suc j) ne g =
+              just (node_is j) (subst (λ (q : ℕ). Gives w.count w.rows.now r l1 d (Inside q m)) (omega arith) g)
+
+  module _ (some : left ≡ 0 → ⊥) {f : NodeFields} (same : SameFields f (fields_of (get_or w.words.now i 0))) where
+    pub empty_goes : Empty ≡ node_of f → Gives w.count w.rows.now (Ok (Some 0)) w.rows.now w.count (nodes_of w left i at lo hi k w.count)
+    unfolding kind_v
+    empty_goes e = node_goes some same e (at_once (walked true 0 w.count) refl refl)
+
+    pub text_goes :
+        {t : Terminal} → Text t ≡ node_of f → {x : Option ℕ} → x ≡ told_length (terminal_at t w.text.now at)
+        → Gives w.count w.rows.now (Ok x) w.rows.now w.count (nodes_of w left i at lo hi k w.count)
+    unfolding kind_v
+    text_goes {t} e {x} q =
+        node_goes some same e
+        (at_once (walked (terminal_at t w.text.now at).matched (terminal_at t w.text.now at).length w.count) refl (ap Ok q))
+
+    pub unlawful_goes :
+        Unlawful ≡ node_of f → Gives w.count w.rows.now (Err Records) w.rows.now w.count (nodes_of w left i at lo hi k w.count)
+    unfolding kind_v
+    unlawful_goes e = node_goes some same e (at_once (stopped Records) refl refl)

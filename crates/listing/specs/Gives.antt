@@ -1,43 +1,66 @@
--- What a function of the walk promises: its number, the row slots and the count are those of the walk as a function (crate rows).
-use Rattle.std.specs.Prelude.{ℕ, ◌+◌, ◌≤◌, ◌≡◌, Bool, true, false, List, length}
+-- What a step of the walk promises: its answer, the row slots and the count are those of the walk as a function (crate rows).
+use Rattle.grammar.specs.declared.refusal.Refusal.{Refusal}
+use Rattle.std.specs.Prelude.{ℕ, ◌+◌, ◌≤◌, ◌≡◌, Bool, true, false, List, length, Option, Some, None, Result, Ok, Err}
 use Rattle.std.proofs.lemmas.List.Edits.{sets}
 use Rattle.grammar.specs.declared.Evaluation.{Evaluation}
-use Rattle.grammar.specs.declared.node.Terminal.TheVariants.{Any}
-use Rattle.grammar.specs.Image.{range_by}
-use Rattle.grammar.specs.Terminal.{terminal_at}
-use Rattle.rows.specs.Walk.{Walked, walked, stopped, Trail, trail}
+use Rattle.grammar.specs.declared.node.Node.{Node}
+use Rattle.rows.specs.Walk.{Walked, walked, stopped, Trail, trail, Walker, part_v, node_v, rule_v, inside_v}
+use Rattle.listing.specs.declared.slots.Window.{Window}
+use Rattle.listing.specs.declared.state.Walk.{Walk}
 
--- An answer as one number: the length of a match; 65,536 for a failure; 65,536 and the number of a refusal.
-abbrev pub length_or : Bool → ℕ → ℕ
-length_or true l = l
-length_or false l = 65536
+-- An answer: the length of a match, none for a failure, or the refusal.
+abbrev pub length_or : Bool → ℕ → Option ℕ
+length_or true l = Some l
+length_or false l = None
 
-abbrev pub coded : Walked → ℕ
-coded (walked m l c) = length_or m l
-coded (stopped k) = 65536 + k
+abbrev pub coded : Walked → Result (Option ℕ) Refusal
+coded (walked m l c) = Ok (length_or m l)
+coded (stopped r) = Err r
 
-abbrev pub told_length : Evaluation → ℕ
+abbrev pub told_length : Evaluation → Option ℕ
 told_length x = length_or x.matched x.length
 
--- What a kind with nothing inside tells: empty, any, and a byte range by its zero bits.
-pub record Leaf (text : List ℕ) (kind zero_bits from to at told : ℕ) : Type 0 where
-  pub of_empty : kind ≡ 0 → told ≡ 0
-  pub of_any : kind ≡ 1 → told ≡ told_length (terminal_at Any text at)
-  pub of_range : kind ≡ 2 → told ≡ told_length (terminal_at (range_by zero_bits from to) text at)
-
 -- A walk that starts with c rows and the row slots `before`: what it leaves.
-pub record Gives (c : ℕ) (before : List ℕ) (number : ℕ) (left : List ℕ) (count : ℕ) (o : Trail) : Type 0 where
+pub record Gives (c : ℕ) (before : List ℕ) (given : Result (Option ℕ) Refusal) (left : List ℕ) (count : ℕ) (o : Trail) : Type 0 where
   pub answer : Walked
   pub words : List ℕ
   pub is : o ≡ trail answer words
-  pub number_is : number ≡ coded answer
+  pub given_is : given ≡ coded answer
   pub written : left ≡ sets before c words
   pub counted : count ≡ c + length words
 
--- What a walk may assume: a text that is short enough, a position in it, no more rows than fit, and an allowance under which the depth
--- fits its field.
-pub record Steady (text : List ℕ) (room count at depth allowance : ℕ) : Type 0 where
-  pub short : length text ≤ 65535
+-- The walks of crate rows over the grammar, the text and the table of a walk w, with its room.
+abbrev pub nodes_of : Walk → (left : ℕ) → Walker
+nodes_of w left = node_v w.room w.words.now w.text.now w.table.now left
+
+abbrev pub parts_of : Walk → (left : ℕ) → Walker
+parts_of w left = part_v (length w.text.now) (nodes_of w left)
+
+abbrev pub rules_of : Walk → (left root : ℕ) → Walker
+rules_of w left root = rule_v w.room w.words.now w.text.now w.table.now left root
+
+abbrev pub inside_of : Walk → (left root : ℕ) → Node → (at lo hi around count : ℕ) → Trail
+inside_of w left root m = inside_v w.room w.words.now w.text.now w.table.now left root m
+
+-- A step at a position, with a window and so many rows around it, that leaves the walk v: it is that walk of crate rows.
+abbrev pub Walks :
+    (w : Walk) → Result (Option ℕ) Refusal → (v : Walk) → ((at lo hi around count : ℕ) → Trail) → (at : ℕ) → Window → (around : ℕ) → Type 0
+Walks w given v o at t k = Gives w.count w.rows.now given v.rows.now v.count (o at t.lo t.hi k w.count)
+
+-- The window of a step that asks none.
+abbrev pub nowhere : Window
+nowhere = record { lo = 0; hi = 0 }
+
+-- What a step keeps: the slots that are lent, the grammar, the text, the table and the room.
+pub record Kept (w v : Walk) : Type 0 where
+  pub slots_are : v.rows.ghost_name ≡ w.rows.ghost_name
+  pub words_are : v.words.now ≡ w.words.now
+  pub rules_are : v.rules ≡ w.rules
+  pub text_is : v.text.now ≡ w.text.now
+  pub table_is : v.table.now ≡ w.table.now
+  pub room_is : v.room ≡ w.room
+
+-- What a step may assume: a position in the text, and an allowance under which the depth fits its field.
+pub record Steady (text : List ℕ) (at depth allowance : ℕ) : Type 0 where
   pub here : at ≤ length text
-  pub few : count ≤ room
   pub shallow : depth + allowance ≤ 4097

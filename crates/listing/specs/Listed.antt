@@ -1,12 +1,25 @@
 -- What a listing over records promises, whatever they are: it is the walk of crate rows; "Rows past the last written stay", and a refusal
 -- leaves the row slots.
-use Rattle.std.specs.Prelude.{ℕ, ◌≤◌, ◌≡◌, Bool, List, ◌++◌, length, drop}
+use Rattle.grammar.specs.declared.refusal.Refusal.{Refusal}
+use Rattle.std.specs.Prelude.{ℕ, ◌≤◌, ◌≡◌, Bool, List, ◌++◌, length, drop, Result, Ok, Err}
+use Rattle.std.proofs.lemmas.List.Edits.{sets}
 use Rattle.grammar.specs.Image.{start, root}
 use Rattle.packrat.specs.Loaded.{Loaded}
-use Rattle.rows.specs.Walk.{walked, stopped, Trail, trail, rule_v}
-use Rattle.rows.specs.Bounds.{Number}
-use Rattle.listing.specs.declared.list.Listed.{Listed}
-use Rattle.listing.specs.declared.list.Listed.TheVariants.{Rows, Refused}
+use Rattle.rows.specs.Walk.{Walked, walked, stopped, Trail, trail, rule_v}
+use Rattle.rows.specs.Bounds.{Stops}
+
+-- How many rows a walk gave, or its refusal.
+abbrev pub counted : Walked → Result ℕ Refusal
+counted (walked m l c) = Ok c
+counted (stopped r) = Err r
+
+-- A pass that starts with no row and the row slots `before`: what it leaves.
+pub record Passed (before : List ℕ) (given : Result ℕ Refusal) (left : List ℕ) (o : Trail) : Type 0 where
+  pub answer : Walked
+  pub words : List ℕ
+  pub is : o ≡ trail answer words
+  pub given_is : given ≡ counted answer
+  pub written : left ≡ sets before 0 words
 
 pub record Written (o : Trail) (slots : List ℕ) (number : ℕ) (left : List ℕ) : Type 0 where
   pub matched : Bool
@@ -17,23 +30,23 @@ pub record Written (o : Trail) (slots : List ℕ) (number : ℕ) (left : List �
   pub fit : length words ≤ length slots
   pub slots_are : left ≡ words ++ drop (length words) slots
 
-pub record NotWritten (o : Trail) (slots : List ℕ) (number : ℕ) (left : List ℕ) : Type 0 where
+pub record NotWritten (o : Trail) (slots : List ℕ) (r : Refusal) (left : List ℕ) : Type 0 where
   pub words : List ℕ
-  pub is : o ≡ trail (stopped number) words
-  pub number_is : Number number
+  pub is : o ≡ trail (stopped r) words
+  pub stops : Stops r
   pub same : left ≡ slots
 
-abbrev pub ListedAs : (o : Trail) (slots : List ℕ) → Listed → List ℕ → Type 0
-ListedAs o slots (Rows m) left = Written o slots m left
-ListedAs o slots (Refused k) left = NotWritten o slots k left
+abbrev pub ListedAs : (o : Trail) (slots : List ℕ) → Result ℕ Refusal → List ℕ → Type 0
+ListedAs o slots (Ok m) left = Written o slots m left
+ListedAs o slots (Err r) left = NotWritten o slots r left
 
 -- The window (0, n) of the whole text.
-abbrev pub ListedIn : (ws text table : List ℕ) (start root : ℕ) (slots : List ℕ) → Listed → List ℕ → Type 0
+abbrev pub ListedIn : (ws text table : List ℕ) (start root : ℕ) (slots : List ℕ) → Result ℕ Refusal → List ℕ → Type 0
 ListedIn ws text table start root slots r left =
     ListedAs (rule_v (length slots) ws text table 4096 root start 0 0 (length text) 0 0) slots r left
 
 -- The start pair of an image, by a grammar that was loaded from it.
-pub record ListedOver (img text table slots : List ℕ) (r : Listed) (left : List ℕ) : Type 0 where
+pub record ListedOver (img text table slots : List ℕ) (r : Result ℕ Refusal) (left : List ℕ) : Type 0 where
   pub grammar : List ℕ
   pub loaded : Loaded img grammar
   pub listed : ListedIn grammar text table (start img) (root img (start img)) slots r left

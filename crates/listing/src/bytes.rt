@@ -1,34 +1,30 @@
-// The kinds with nothing inside, by the evaluator's tests: the length of a match, or the number that says a failure.
+// The nodes that look at the text itself, by the evaluator's tests.
 ghost use Rattle.std.specs.Prelude.{◌≡◌};
+ghost use Rattle.grammar.specs.Terminal.{terminal_at};
 ghost use Rattle.records.specs.Words.{value_of};
-ghost use Rattle.listing.specs.Gives.{told_length, Leaf};
+ghost use Rattle.listing.specs.Gives.{told_length};
 
-// A number that no length has.
-pub const FAILED: usize = records::LENGTH_VALUES;
+use grammar::Terminal;
 
-// What the word of an evaluation says.
-fn told(word: u64) -> usize
+// What the word of an evaluation says: the length of a match, or none for a failure.
+fn told(word: u64) -> Option<usize>
     ensures { result ≡ told_length (value_of word) }
 {
     if records::matched_of(word) {
-        records::length_of(word)
+        Some(records::length_of(word))
     } else {
-        FAILED
+        None
     }
 }
 
-// A kind below 3, which has nothing inside: empty, any, a byte range. An ASCII character is told without a call.
-pub fn leaf(text: &&[u8], kind: usize, zero: usize, from: usize, to: usize, at: usize) -> usize
-    ensures { Leaf text.now.now kind zero from to at result }
+// A terminal. An ASCII character is told without a call.
+pub fn leaf(text: &[u8], terminal: Terminal, at: usize) -> Option<usize>
+    ensures { result ≡ told_length (terminal_at terminal text.now at) }
 {
-    if kind == 2 {
-        return told(terminals::byte_range(*text, zero, from, to, at));
-    }
-    if kind == 1 {
-        if terminals::characters::is_ascii(*text, at) {
-            return 1;
+    if let Terminal::Any = terminal {
+        if terminals::characters::is_ascii(text, at) {
+            return Some(1);
         }
-        return told(terminals::characters::any_character(text, at));
     }
-    0
+    told(terminals::terminal(text, terminal, at))
 }

@@ -5,4 +5,5 @@ mod bytes;
 pub mod list;
 mod slots;
 pub mod start;
+mod state;
 mod walk;

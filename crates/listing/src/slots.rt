@@ -1,17 +1,28 @@
 // Row words, row slots and windows.
-ghost use Rattle.std.specs.Prelude.{◌+◌, ◌%◌, ◌≤◌, ◌<◌, ◌^◌, ◌≡◌, set};
+ghost use Rattle.std.specs.Prelude.{◌+◌, ◌%◌, ◌≤◌, ◌^◌, ◌≡◌, length, set};
 ghost use Rattle.rows.specs.Rows.{row_word};
 ghost use Rattle.rows.specs.Window.{touches};
 
 // "A row is 64 bits: rule 8, zero 8, depth 16 (rows of the calls around it), start 16, length 16."
-pub fn row_word(rule: usize, depth: usize, start: usize, length: usize) -> u64
-    requires { (depth < 2 ^ 16) × (start < 2 ^ 16) × (length < 2 ^ 16) }
-    ensures { result ≡ row_word (record { rule = rule % 256; depth = depth; start = start; length = length }) }
-{
-    (rule % 256 * 72057594037927936 + depth * 4294967296 + start * 65536 + length) as u64
+#[derive(Clone, Copy)]
+pub struct Row {
+    pub rule: usize,
+    pub depth: usize,
+    pub start: usize,
+    pub length: usize,
 }
 
-// A store past the slots does nothing, so counting lends none.
+// The row's word. A field that is too wide loses its upper bits.
+impl From<Row> for u64 {
+    ghost from_gives = { λ r w. w ≡ row_word (record { rule = r.rule % 2 ^ 8; depth = r.depth % 2 ^ 16; start = r.start % 2 ^ 16; length = r.length % 2 ^ 16 }) };
+
+    fn from(row: Row) -> u64 {
+        let calls = row.rule % 256 * 72057594037927936 + row.depth % 65536 * 4294967296;
+        (calls + row.start % 65536 * 65536 + row.length % 65536) as u64
+    }
+}
+
+// A store past the slots does nothing, so counting lends none. By `get_mut` the proof doesn't close: of a slice it tells no element.
 pub fn put(rows: &mut [u64], slot: usize, word: u64)
     ensures { rows.new ≡ set rows.old slot word }
 {
@@ -20,13 +31,30 @@ pub fn put(rows: &mut [u64], slot: usize, word: u64)
     }
 }
 
-// Whether the window from lo to hi touches what starts at `at` and has that length.
-pub fn touched(lo: usize, hi: usize, at: usize, length: usize) -> bool
-    requires { at + length ≤ 65535 }
-    ensures { result ≡ touches lo hi at length }
-{
-    if hi < at {
-        return false;
+// The rows from lo to hi are asked for.
+#[derive(Clone, Copy)]
+pub struct Window {
+    pub lo: usize,
+    pub hi: usize,
+}
+
+impl Window {
+    // The window past a text, which touches nothing.
+    pub fn past(text: &[u8]) -> Window
+        requires { length text.now ≤ 65535 }
+        ensures { result ≡ record { lo = length text.now + 1; hi = 0 } }
+    {
+        Window {
+            lo: text.len() + 1,
+            hi: 0,
+        }
     }
-    lo <= at + length
+
+    // Whether the window touches what starts at `at` and has that length.
+    pub fn touches(self, at: usize, length: usize) -> bool
+        requires { at + length ≤ 65535 }
+        ensures { result ≡ touches self.lo self.hi at length }
+    {
+        at <= self.hi && self.lo <= at + length
+    }
 }

@@ -4,10 +4,15 @@ ghost use Rattle.grammar.specs.Questions.{Accepted};
 ghost use Rattle.listing.specs.Listed.{ListedOver};
 
 use crate::list;
-use crate::list::Listed;
+use grammar::Refusal;
 
-// "Rows past the last written stay."
-pub fn list_over(image: &[u8], text: &[u8], table: &[u64], rows: &mut [u64]) -> Listed
+// How many rows were written, or question 12, 14 or 15. "Rows past the last written stay."
+pub fn list_over(
+    image: &[u8],
+    text: &[u8],
+    table: &[u64],
+    rows: &mut [u64],
+) -> Result<usize, Refusal>
     requires { Accepted image.now × (length text.now ≤ 65535) }
     ensures { ListedOver image.now text.now table.now rows.old result rows.new }
 {

@@ -1,396 +1,203 @@
 // The walk that lists rows. "the calls that made the match, parents first, left to right": a call is entered where its record says
-// that it matched and the window touches it. `left` is the remaining allowance of nesting, as in a reading. An answer is the length of
-// a match, 65,536 for a failure, or 65,536 and the number of a refusal. Text and table are lent as references to their slices, as the
-// text is in the evaluator: a listing of nesting 4,096 fits in a thread of 2 MiB.
-ghost use Rattle.std.specs.Prelude.{◌+◌, ◌<◌, length};
+// that it matched and the window touches it. `left` is the remaining allowance of nesting, as in a reading. A step answers with the length
+// of a match, or none for a failure. A listing of nesting 4,096 fits in a thread of 2 MiB.
+ghost use Rattle.std.specs.Prelude.{◌+◌, ◌<◌};
 ghost use Rattle.grammar.specs.declared.node.Node.TheVariants.{Sequence, Choice, Star, NotPredicate};
-ghost use Rattle.rows.specs.Walk.{part_v, node_v, rule_v, inside_v};
-ghost use Rattle.listing.specs.Gives.{Gives, Steady};
+ghost use Rattle.listing.specs.Gives.{Steady, Kept, Walks, nodes_of, parts_of, rules_of, inside_of};
+ghost use Rattle.listing.specs.Gives.{nowhere};
 
-use crate::bytes::FAILED;
+use crate::slots::{Row, Window};
+use crate::state::Walk;
 use crate::{bytes, slots};
-use grammar::numbers;
-use records::{Decoded, Record};
+use grammar::{Node, Refusal};
+use records::Record;
 
-// The numbers that end a walk, to add to FAILED.
-const RECORDS: usize = numbers::RECORDS as usize;
-
-const NESTING: usize = numbers::NESTING as usize;
-
-const ROWS: usize = numbers::ROWS as usize;
-
-// A node at a position.
-#[cycle(walk)]
-fn walk_node(
-    words: &[u32; 4097],
-    text: &&[u8],
-    table: &&[u64],
-    rows: &mut [u64],
-    count: &mut usize,
-    room: usize,
-    node: usize,
-    at: usize,
-    lo: usize,
-    hi: usize,
-    depth: usize,
-    left: usize,
-) -> usize
-    requires { Steady text.now.now room count.old at depth left × (node < 4096) }
-    ensures { Gives count.old rows.old result rows.new count.new (node_v room words.now text.now.now table.now.now left node at lo hi depth count.old) }
-{
-    if left == 0 {
-        return FAILED + NESTING;
-    }
-    let fields = image::node_of(words[node]);
-    let kind = fields.kind;
-    let a = fields.a;
-    let b = fields.b;
-    if kind < 3 {
-        return bytes::leaf(text, kind, fields.zero, a, b, at);
-    }
-    match kind {
-        3 => walk_sequence(
-            words,
-            text,
-            table,
-            rows,
-            count,
-            room,
-            a,
-            b,
-            at,
-            lo,
-            hi,
-            depth,
-            left - 1,
-        ),
-        4 => walk_choice(
-            words,
-            text,
-            table,
-            rows,
-            count,
-            room,
-            a,
-            b,
-            at,
-            lo,
-            hi,
-            depth,
-            left - 1,
-        ),
-        5 => walk_star(
-            words,
-            text,
-            table,
-            rows,
-            count,
-            room,
-            a,
-            at,
-            lo,
-            hi,
-            depth,
-            left - 1,
-        ),
-        6 => walk_not(
-            words,
-            text,
-            table,
-            rows,
-            count,
-            room,
-            a,
-            at,
-            depth,
-            left - 1,
-        ),
-        7 => walk_rule(
-            words,
-            text,
-            table,
-            rows,
-            count,
-            room,
-            a,
-            b,
-            at,
-            lo,
-            hi,
-            depth,
-            left - 1,
-        ),
-        // No accepted image has such a kind. A walk is refused with 12, 14 or 15 alone.
-        8..=15 => FAILED + RECORDS,
-        _ => FAILED + RECORDS,
-    }
-}
-
-// A then B. What fails or is refused ends it.
-#[cycle(walk)]
-fn walk_sequence(
-    words: &[u32; 4097],
-    text: &&[u8],
-    table: &&[u64],
-    rows: &mut [u64],
-    count: &mut usize,
-    room: usize,
-    a: usize,
-    b: usize,
-    at: usize,
-    lo: usize,
-    hi: usize,
-    depth: usize,
-    left: usize,
-) -> usize
-    requires { Steady text.now.now room count.old at depth (left + 1) × (a < 4096) × (b < 4096) }
-    ensures { Gives count.old rows.old result rows.new count.new (inside_v room words.now text.now.now table.now.now left b (Sequence a b) at lo hi depth count.old) }
-{
-    let x = walk_node(
-        words, text, table, rows, count, room, a, at, lo, hi, depth, left,
-    );
-    if FAILED <= x {
-        return x;
-    }
-    let y = walk_node(
-        words,
-        text,
-        table,
-        rows,
-        count,
-        room,
-        b,
-        at + x,
-        lo,
-        hi,
-        depth,
-        left,
-    );
-    if FAILED <= y {
-        return y;
-    }
-    x + y
-}
-
-// A else B.
-#[cycle(walk)]
-fn walk_choice(
-    words: &[u32; 4097],
-    text: &&[u8],
-    table: &&[u64],
-    rows: &mut [u64],
-    count: &mut usize,
-    room: usize,
-    a: usize,
-    b: usize,
-    at: usize,
-    lo: usize,
-    hi: usize,
-    depth: usize,
-    left: usize,
-) -> usize
-    requires { Steady text.now.now room count.old at depth (left + 1) × (a < 4096) × (b < 4096) }
-    ensures { Gives count.old rows.old result rows.new count.new (inside_v room words.now text.now.now table.now.now left b (Choice a b) at lo hi depth count.old) }
-{
-    let x = walk_part(
-        words, text, table, rows, count, room, a, at, lo, hi, depth, left,
-    );
-    if x != FAILED {
-        return x;
-    }
-    walk_node(
-        words, text, table, rows, count, room, b, at, lo, hi, depth, left,
-    )
-}
-
-// Not A: only looked at.
-#[cycle(walk)]
-fn walk_not(
-    words: &[u32; 4097],
-    text: &&[u8],
-    table: &&[u64],
-    rows: &mut [u64],
-    count: &mut usize,
-    room: usize,
-    a: usize,
-    at: usize,
-    depth: usize,
-    left: usize,
-) -> usize
-    requires { Steady text.now.now room count.old at depth (left + 1) × (a < 4096) }
-    ensures { Gives count.old rows.old result rows.new count.new (inside_v room words.now text.now.now table.now.now left 0 (NotPredicate a) at 0 0 depth count.old) }
-{
-    let x = walk_node(
-        words,
-        text,
-        table,
-        rows,
-        count,
-        room,
-        a,
-        at,
-        terminals::end_of(*text) + 1,
-        0,
-        depth,
-        left,
-    );
-    if FAILED < x {
-        return x;
-    }
-    if x < FAILED {
-        return FAILED;
-    }
-    0
-}
-
-// A zero or more times: rounds until one fails.
-#[cycle(walk)]
-fn walk_star(
-    words: &[u32; 4097],
-    text: &&[u8],
-    table: &&[u64],
-    rows: &mut [u64],
-    count: &mut usize,
-    room: usize,
-    a: usize,
-    at: usize,
-    lo: usize,
-    hi: usize,
-    depth: usize,
-    left: usize,
-) -> usize
-    requires { Steady text.now.now room count.old at depth (left + 1) × (a < 4096) }
-    ensures { Gives count.old rows.old result rows.new count.new (inside_v room words.now text.now.now table.now.now left 0 (Star a) at lo hi depth count.old) }
-{
-    let mut before = 0usize;
-    loop {
-        let x = walk_part(
-            words,
-            text,
-            table,
-            rows,
-            count,
-            room,
-            a,
-            at + before,
-            lo,
-            hi,
-            depth,
-            left,
-        );
-        if FAILED < x {
-            return x;
+impl<'a> Walk<'a> {
+    // A node at a position.
+    #[cycle(walk)]
+    fn walk_node(
+        &mut self,
+        node: usize,
+        at: usize,
+        window: Window,
+        depth: usize,
+        left: usize,
+    ) -> Result<Option<usize>, Refusal>
+        requires { Steady self.old.text.now at depth left × (node < 4096) }
+        ensures kept { Kept self.old self.new }
+        ensures gives { Walks self.old result self.new (nodes_of self.old left node) at window depth }
+    {
+        if left == 0 {
+            return Err(Refusal::Nesting);
         }
-        if x == FAILED {
-            return before;
+        let fields = image::node_of(self.words[node]);
+        match Node::from(fields) {
+            Node::Empty => Ok(Some(0)),
+            Node::Text(terminal) => Ok(bytes::leaf(self.text, terminal, at)),
+            Node::Sequence(a, b) => self.walk_sequence(a, b, at, window, depth, left - 1),
+            Node::Choice(a, b) => self.walk_choice(a, b, at, window, depth, left - 1),
+            Node::Star(a) => self.walk_star(a, at, window, depth, left - 1),
+            Node::NotPredicate(a) => self.walk_not(a, at, depth, left - 1),
+            Node::Call(rule) => self.walk_rule(rule, fields.b, at, window, depth, left - 1),
+            // No accepted image has such a node. A walk is refused with 12, 14 or 15 alone.
+            Node::Unlawful => Err(Refusal::Records),
         }
-        if x == 0 {
-            return FAILED + RECORDS;
+    }
+
+    // A then B. What fails or is refused ends it.
+    #[cycle(walk)]
+    fn walk_sequence(
+        &mut self,
+        a: usize,
+        b: usize,
+        at: usize,
+        window: Window,
+        depth: usize,
+        left: usize,
+    ) -> Result<Option<usize>, Refusal>
+        requires { Steady self.old.text.now at depth (left + 1) × (a < 4096) × (b < 4096) }
+        ensures kept { Kept self.old self.new }
+        ensures gives { Walks self.old result self.new (inside_of self.old left b (Sequence a b)) at window depth }
+    {
+        let Some(x) = self.walk_node(a, at, window, depth, left)? else {
+            return Ok(None);
+        };
+        let Some(y) = self.walk_node(b, at + x, window, depth, left)? else {
+            return Ok(None);
+        };
+        Ok(Some(x + y))
+    }
+
+    // A else B.
+    #[cycle(walk)]
+    fn walk_choice(
+        &mut self,
+        a: usize,
+        b: usize,
+        at: usize,
+        window: Window,
+        depth: usize,
+        left: usize,
+    ) -> Result<Option<usize>, Refusal>
+        requires { Steady self.old.text.now at depth (left + 1) × (a < 4096) × (b < 4096) }
+        ensures kept { Kept self.old self.new }
+        ensures gives { Walks self.old result self.new (inside_of self.old left b (Choice a b)) at window depth }
+    {
+        if let Some(x) = self.walk_part(a, at, window, depth, left)? {
+            return Ok(Some(x));
         }
-        before = before + x;
+        self.walk_node(b, at, window, depth, left)
     }
-}
 
-// A node that may fail: looked at first, then walked where it matched and the window touches it.
-#[cycle(walk)]
-fn walk_part(
-    words: &[u32; 4097],
-    text: &&[u8],
-    table: &&[u64],
-    rows: &mut [u64],
-    count: &mut usize,
-    room: usize,
-    a: usize,
-    at: usize,
-    lo: usize,
-    hi: usize,
-    depth: usize,
-    left: usize,
-) -> usize
-    requires { Steady text.now.now room count.old at depth left × (a < 4096) }
-    ensures { Gives count.old rows.old result rows.new count.new (part_v (length text.now.now) (node_v room words.now text.now.now table.now.now left) a at lo hi depth count.old) }
-{
-    let x = walk_node(
-        words,
-        text,
-        table,
-        rows,
-        count,
-        room,
-        a,
-        at,
-        terminals::end_of(*text) + 1,
-        0,
-        depth,
-        left,
-    );
-    if FAILED <= x {
-        return x;
+    // Not A: only looked at.
+    #[cycle(walk)]
+    fn walk_not(
+        &mut self,
+        a: usize,
+        at: usize,
+        depth: usize,
+        left: usize,
+    ) -> Result<Option<usize>, Refusal>
+        requires { Steady self.old.text.now at depth (left + 1) × (a < 4096) }
+        ensures kept { Kept self.old self.new }
+        ensures gives { Walks self.old result self.new (inside_of self.old left 0 (NotPredicate a)) at nowhere depth }
+    {
+        match self.walk_node(a, at, Window::past(self.text), depth, left)? {
+            Some(_) => Ok(None),
+            None => Ok(Some(0)),
+        }
     }
-    if !slots::touched(lo, hi, at, x) {
-        return x;
-    }
-    walk_node(
-        words, text, table, rows, count, room, a, at, lo, hi, depth, left,
-    )
-}
 
-// A rule at a position: its record, its row, and the rows of its body, which has that root.
-#[cycle(walk)]
-pub fn walk_rule(
-    words: &[u32; 4097],
-    text: &&[u8],
-    table: &&[u64],
-    rows: &mut [u64],
-    count: &mut usize,
-    room: usize,
-    rule: usize,
-    root: usize,
-    at: usize,
-    lo: usize,
-    hi: usize,
-    depth: usize,
-    left: usize,
-) -> usize
-    requires { Steady text.now.now room count.old at depth (left + 1) × (rule < 4096) × (root < 4096) }
-    ensures { Gives count.old rows.old result rows.new count.new (rule_v room words.now text.now.now table.now.now left root rule at lo hi depth count.old) }
-{
-    let rules = loaded::rules_in(words);
-    let word = memo::look(*table, rules, rule, at);
-    if !records::is_held(word) {
-        return FAILED + RECORDS;
+    // A zero or more times: rounds until one fails.
+    #[cycle(walk)]
+    fn walk_star(
+        &mut self,
+        a: usize,
+        at: usize,
+        window: Window,
+        depth: usize,
+        left: usize,
+    ) -> Result<Option<usize>, Refusal>
+        requires { Steady self.old.text.now at depth (left + 1) × (a < 4096) }
+        ensures kept { Kept self.old self.new }
+        ensures gives { Walks self.old result self.new (inside_of self.old left 0 (Star a)) at window depth }
+    {
+        let mut before = 0usize;
+        loop {
+            let Some(x) = self.walk_part(a, at + before, window, depth, left)? else {
+                return Ok(Some(before));
+            };
+            if x == 0 {
+                return Err(Refusal::Records);
+            }
+            before = before + x;
+        }
     }
-    let Decoded::Possible(held) = Record::from_word(word, at, terminals::end_of(*text)) else {
-        return FAILED + RECORDS;
-    };
-    if !held.matched {
-        return FAILED;
+
+    // A node that may fail: looked at first, then walked where it matched and the window touches it.
+    #[cycle(walk)]
+    fn walk_part(
+        &mut self,
+        a: usize,
+        at: usize,
+        window: Window,
+        depth: usize,
+        left: usize,
+    ) -> Result<Option<usize>, Refusal>
+        requires { Steady self.old.text.now at depth left × (a < 4096) }
+        ensures kept { Kept self.old self.new }
+        ensures gives { Walks self.old result self.new (parts_of self.old left a) at window depth }
+    {
+        let Some(x) = self.walk_node(a, at, Window::past(self.text), depth, left)? else {
+            return Ok(None);
+        };
+        if !window.touches(at, x) {
+            return Ok(Some(x));
+        }
+        self.walk_node(a, at, window, depth, left)
     }
-    let length = held.length;
-    if !slots::touched(lo, hi, at, length) {
-        return length;
+
+    // A rule at a position: its record, its row, and the rows of its body, which has that root.
+    #[cycle(walk)]
+    pub fn walk_rule(
+        &mut self,
+        rule: usize,
+        root: usize,
+        at: usize,
+        window: Window,
+        depth: usize,
+        left: usize,
+    ) -> Result<Option<usize>, Refusal>
+        requires { Steady self.old.text.now at depth (left + 1) × (rule < 4096) × (root < 4096) }
+        ensures kept { Kept self.old self.new }
+        ensures gives { Walks self.old result self.new (rules_of self.old left root rule) at window depth }
+    {
+        let word = memo::look(self.table, self.rules, rule, at);
+        if !records::is_held(word) {
+            return Err(Refusal::Records);
+        }
+        let Some(held) = Record::from_word(word, at, self.text.len()) else {
+            return Err(Refusal::Records);
+        };
+        if !held.matched {
+            return Ok(None);
+        }
+        let length = held.length;
+        if !window.touches(at, length) {
+            return Ok(Some(length));
+        }
+        if self.room <= self.count {
+            return Err(Refusal::Rows);
+        }
+        let row = Row {
+            rule,
+            depth,
+            start: at,
+            length,
+        };
+        slots::put(self.rows, self.count, u64::from(row));
+        self.count = self.count + 1;
+        self.walk_node(root, at, window, depth + 1, left)?;
+        Ok(Some(length))
     }
-    if room <= *count {
-        return FAILED + ROWS;
-    }
-    slots::put(rows, *count, slots::row_word(rule, depth, at, length));
-    *count = *count + 1;
-    let y = walk_node(
-        words,
-        text,
-        table,
-        rows,
-        count,
-        room,
-        root,
-        at,
-        lo,
-        hi,
-        depth + 1,
-        left,
-    );
-    if FAILED < y {
-        return y;
-    }
-    length
 }

@@ -50,7 +50,7 @@ read p = p.read (asked p.first)
 pub untrue_word_taken :
     {a : ReadAnswer} {W' : List ℕ}
     → ReadPromise D2 text12a 3 (lent_words 0xC000000200010001) a W'
-    → a ≡ Ok (record { reading = record { outcome = Outcome.Part; length = 1; examined = 1; nesting = 1 }; evaluations = 0 })
+    → a ≡ Ok (record { outcome = Outcome.Part; length = 1; examined = 1; nesting = 1; evaluations = 0 })
 unfolding over value_of matched_of nesting_of examined_of length_of spare_of possible slot_of rules start bodies_of is_in sum_to D2
 untrue_word_taken p = ((read p).determinate (value_of 0xC000000200010001) (ev_record refl) (omega arith)).answer_is
 

@@ -11,7 +11,7 @@ abbrev pub answers : Outcome → (length examined nesting evaluations : ℕ) →
 answers outcome length examined nesting evaluations =
     reads
     (Ok
-    (record { reading = record { outcome = outcome; length = length; examined = examined; nesting = nesting }; evaluations = evaluations }))
+    (record { outcome = outcome; length = length; examined = examined; nesting = nesting; evaluations = evaluations }))
 
 abbrev pub stand : (length standing : ℕ) → Reply
 stand length standing = edits (Ok (record { length = length; standing = standing }))
@@ -25,7 +25,7 @@ listed outcome length examined nesting evaluations rows words =
     lists
     (Ok
     (record {
-      reading = record { reading = record { outcome = outcome; length = length; examined = examined; nesting = nesting }; evaluations = evaluations };
+      reading = record { outcome = outcome; length = length; examined = examined; nesting = nesting; evaluations = evaluations };
       rows = rows;
     }))
     words

@@ -46,5 +46,5 @@ pub opening_keeps_the_rest :
 opening_keeps_the_rest {img} {text} {B} lent o = ap (drop (table_size (rules img) (length B))) o.words_are ∙ cleared_tail lent
 
 -- The answer of a reading says the outcome that the plain reading's does.
-pub reading_says : (n : ℕ) (z : Evaluation) (count : ℕ) → z.length ≤ n → Says (sheet_reading n z count).reading.outcome n z
+pub reading_says : (n : ℕ) (z : Evaluation) (count : ℕ) → z.length ≤ n → Says (sheet_reading n z count).outcome n z
 reading_says n z count h = outcome_says n z h

@@ -122,7 +122,7 @@ module _ (img text : List ℕ) (cap : ℕ) (W : List ℕ) (accepted : Accepted i
             record {
               as_long = rw e framed.as_long;
               after_table = rw e rest-same;
-              in_text = λ x f. let g : x ≡ sheet_reading (length text) z framed.counted = cc (e, f) in let l = ap (λ (y : SheetReading). y.reading.length) g in omega (arith, w.in_text);
+              in_text = λ x f. let g : x ≡ sheet_reading (length text) z framed.counted = cc (e, f) in let l = ap (λ (y : SheetReading). y.length) g in omega (arith, w.in_text);
               numbers = λ k f. absurd (let z : ◌≡◌ {A = ℕ} 0 1 = cc (ap (answer_of (length text)) e, f) in omega arith);
               zeroed = λ k f. absurd (let z : ◌≡◌ {A = ℕ} 0 1 = cc (ap (answer_of (length text)) e, f) in omega arith);
               impossible = λ h p. ap (λ (o : Out). number_in (answer_of (length text) o)) (pair_impossible img text (node_m img text 4096) 4096 (start img) 0 W 0 h p);

@@ -41,7 +41,7 @@ pub record SheetRead (img text : List ℕ) (cap : ℕ) (W : List ℕ) (a : ReadA
   pub as_long : length W' ≡ length W
   pub after_table : drop (table_size (rules img) cap) W' ≡ drop (table_size (rules img) cap) W
   -- "has a length of at most n, zeroes the table with 12 and 14", and is refused with nothing else;
-  pub in_text : (x : SheetReading) → a ≡ Ok x → x.reading.length ≤ length text
+  pub in_text : (x : SheetReading) → a ≡ Ok x → x.length ≤ length text
   pub numbers : (r : Refusal) → a ≡ Err r → (r ≡ Records) ⊎ (r ≡ Nesting)
   pub zeroed : (r : Refusal) → a ≡ Err r → W' ≡ cleared_table (rules img) cap W
   -- "and gives 12 when the word of (start, 0) is held and impossible."

@@ -3,7 +3,7 @@
 #![tactic(auto)]
 
 use grammar::Refusal;
-use reading::plain::Reading;
+use reading::plain::Outcome;
 
 // "The answer is the text's length n."
 pub type OpenAnswer = Result<usize, Refusal>;
@@ -20,7 +20,10 @@ pub type EditAnswer = Result<EditedSheet, Refusal>;
 // "it also gives length, examined length and nesting, and in a session evaluations"
 #[derive(Clone, Copy, Debug, PartialEq, Eq)]
 pub struct SheetReading {
-    pub reading: Reading,
+    pub outcome: Outcome,
+    pub length: usize,
+    pub examined: usize,
+    pub nesting: usize,
     pub evaluations: u64,
 }
 

@@ -11,13 +11,14 @@ impl From<Reading> for u64 {
     ghost from_gives = { λ x code. code ≡ code_of (Ok x) };
 
     fn from(reading: Reading) -> u64 {
-        u64::from(Record {
+        let record = Record {
             matched: reading.outcome != Outcome::Nothing,
             spare: 0,
             nesting: reading.nesting,
             examined: reading.examined,
             length: reading.length,
-        })
+        };
+        record.word()
     }
 }
 

@@ -14,8 +14,10 @@ use records::Record;
 fn met(word: u64, n: usize) -> Result<u64, Refusal>
     ensures { result ≡ (if possible word 0 n then Ok (record_word (record_of word)) else Err Records) }
 {
-    let held = Record::from_word(word, 0, n).ok_or(Refusal::Records)?;
-    Ok(u64::from(held))
+    let Some(held) = Record::from_word(word, 0, n) else {
+        return Err(Refusal::Records);
+    };
+    Ok(held.word())
 }
 
 // Its word, or a refusal; `count` goes up by the pairs that are evaluated.

@@ -142,17 +142,15 @@ impl Record {
         }
         Some(said)
     }
-}
 
-// The record's word. A field that is too wide loses its upper bits.
-impl From<Record> for u64 {
-    ghost from_gives = { λ r w. w ≡ record_word r };
-
-    fn from(record: Record) -> u64 {
-        let low = record.length % LENGTH_VALUES + record.examined % EXAMINED_VALUES * EXAMINED_UNIT;
-        let high = record.nesting % NESTING_VALUES * NESTING_UNIT
-            + record.spare % SPARE_VALUES * SPARE_UNIT;
-        if record.matched {
+    // The record's word. A field that is too wide loses its upper bits.
+    pub fn word(self) -> u64
+        ensures { result ≡ record_word self }
+    {
+        let low = self.length % LENGTH_VALUES + self.examined % EXAMINED_VALUES * EXAMINED_UNIT;
+        let high = self.nesting % NESTING_VALUES * NESTING_UNIT
+            + self.spare % SPARE_VALUES * SPARE_UNIT;
+        if self.matched {
             HELD_MATCHED + (high + low) as u64
         } else {
             HELD + (high + low) as u64

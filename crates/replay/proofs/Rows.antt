@@ -21,13 +21,13 @@ ended (zeroed h) = omega arith
 -- An answer with a number has no rows.
 none : (a : ListAnswer) {k : ℕ} → number_in a ≡ k → 1 ≤ k → rows_in a ≡ 0
 none (Ok x) e h = omega (arith, e, h)
-none (Err q) e h = refl
+none (Err r) e h = refl
 
 module _ (img B : List ℕ) (n : ℕ) (W R : List ℕ) (a : ListAnswer) (W' R' : List ℕ) where
   after_reading :
       (r : ReadAnswer) (words : List ℕ) → ThenListed img (take n B) (length B) W r words R a W' R' → rows_in a ≤ length R'
   after_reading (Ok x) words t = ended t.ends
-  after_reading (Err k) words t = omega (arith, ap rows_in t.answer_is)
+  after_reading (Err r) words t = omega (arith, ap rows_in t.answer_is)
 
   by_number :
       (number : ℕ)

@@ -7,6 +7,14 @@ use Rattle.promises.specs.Promises.{OpenPromise, EditPromise}
 use Rattle.promises.specs.Reading.{ReadPromise}
 use Rattle.promises.specs.Listing.{ListPromise}
 
+-- What calls are lent: the image, the text buffer, the table and the text's length; and the row slots, of which a listing takes the first.
+pub record Lent : Type 0 where
+  pub image : List ℕ
+  pub buffer : List ℕ
+  pub table : List ℕ
+  pub slots : List ℕ
+  pub n : ℕ
+
 pub record Opens (img text B W : List ℕ) (n next : ℕ) (B' W' : List ℕ) : Type 0 where
   pub answer : OpenAnswer
   pub keeps : OpenPromise img text B W answer B' W'

@@ -28,56 +28,31 @@
 
 ghost use Rattle.std.specs.Prelude.{◌≤◌, length, IfOk};
 
-mod calls;
+mod desk;
+mod errors;
 mod lines;
-mod listings;
-mod numbers;
 mod printed;
-mod verbs;
+mod requests;
 
-use lines::Session;
+use desk::Desk;
 use std::io;
 use std::io::Read;
 
-fn replay(
-    rt: &HostRuntime,
-    input: &[u8],
-    image: &mut [u8],
-    buffer: &mut [u8],
-    table: &mut [u64],
-    given: &mut [u8],
-) -> io::Result<()> {
-    let mut session = lines::first();
-    let mut number: usize = 0;
-    let mut at: usize = 0;
-    while at < input.len() {
-        let end = fields::place_of(input, at, b'\n');
-        number += 1;
-        session = lines::line(
-            rt,
-            &input[at..end],
-            number,
-            session,
-            image,
-            buffer,
-            table,
-            given,
-        )?;
-        at = end + 1;
+// The buffers are arrays, and no heap is used: with one the proof would rest on the contracts of three more C functions.
+fn replay(rt: &HostRuntime, input: &[u8]) -> io::Result<()> {
+    let mut image = [0u8; 65536];
+    let mut buffer = [0u8; 65536];
+    let mut table = [0u64; 131072];
+    let mut slots = [0u64; 65536];
+    let mut given = [0u8; 65536];
+    let mut desk = Desk::new(&mut image, &mut buffer, &mut table, &mut slots);
+    for (i, text) in input.split(|byte| *byte == b'\n').enumerate() {
+        lines::line(rt, i + 1, text, &mut desk, &mut given)?;
     }
     Ok(())
 }
 
-// Lends the replay its buffers.
-fn replay_over_buffers(rt: &HostRuntime, input: &[u8]) -> io::Result<()> {
-    let mut image = [0u8; 65536];
-    let mut buffer = [0u8; 65536];
-    let mut table = [0u64; 131072];
-    let mut given = [0u8; 65536];
-    replay(rt, input, &mut image, &mut buffer, &mut table, &mut given)
-}
-
-// Reads until there is no more or no room is left, and answers how many bytes there were.
+// Reads until there is no more or no room is left, and answers how many bytes there were. `read_to_end` of std needs a heap.
 fn read_full(rt: &HostRuntime, input: &mut [u8]) -> io::Result<usize>
     ensures { IfOk result (λ k. k ≤ length input.old) }
 {
@@ -96,8 +71,8 @@ fn read_full(rt: &HostRuntime, input: &mut [u8]) -> io::Result<usize>
 fn main(rt: HostRuntime) -> io::Result<()> {
     let mut input = [0u8; 262144];
     let length = read_full(&rt, &mut input)?;
-    if length == 262144 {
-        return printed::too_much_input(&rt);
+    if length == input.len() {
+        return println!(rt; "the input has 262144 bytes or more: nothing is replayed");
     }
-    replay_over_buffers(&rt, &input[0..length])
+    replay(&rt, &input[..length])
 }

@@ -1,109 +1,97 @@
-// The lines that are printed. What cannot be written is answered as an error.
+// How answers are printed.
 use promises::{EditAnswer, ListAnswer, LookUpAnswer, OpenAnswer, ReadAnswer, SheetReading};
 use reading::plain::Outcome;
-use std::io;
-use std::io::Write;
+use std::fmt;
 
-pub fn of_open(rt: &HostRuntime, line: usize, answer: OpenAnswer) -> io::Result<()> {
-    match answer {
-        OpenAnswer::Opened(length) => println!(rt; "{line} open: length {length}"),
-        OpenAnswer::Refused(number) => println!(rt; "{line} open: refused {number}"),
-    }
-}
+// An answer, or a part of one, as it is printed.
+#[derive(Drop)]
+pub struct Shown<T>(pub T);
 
-pub fn of_edit(rt: &HostRuntime, line: usize, answer: EditAnswer) -> io::Result<()> {
-    match answer {
-        EditAnswer::Edited(sheet) => {
-            let length = sheet.length;
-            let standing = sheet.standing;
-            println!(rt; "{line} edit: length {length}, standing {standing}")
+impl fmt::Display for Shown<OpenAnswer> {
+    fn fmt<W: fmt::Write>(&self, f: &mut fmt::Formatter<W>) -> fmt::Result {
+        match self.0 {
+            Ok(length) => write!(f, "length {length}"),
+            Err(refusal) => write!(f, "refused {refusal}"),
         }
-        EditAnswer::Refused(number) => println!(rt; "{line} edit: refused {number}"),
     }
 }
 
-fn outcome(outcome: Outcome) -> &'static str {
-    match outcome {
-        Outcome::Nothing => "none",
-        Outcome::Part => "part",
-        Outcome::Whole => "whole",
-    }
-}
-
-// Without the end of its line.
-fn reading(rt: &HostRuntime, reading: SheetReading) -> io::Result<()> {
-    let found = outcome(reading.outcome);
-    let length = reading.length;
-    let examined = reading.examined;
-    let nesting = reading.nesting;
-    let evaluations = reading.evaluations;
-    print!(rt;
-        "{found}, length {length}, examined {examined}, nesting {nesting}, evaluations {evaluations}"
-    )
-}
-
-pub fn of_read(rt: &HostRuntime, line: usize, answer: ReadAnswer) -> io::Result<()> {
-    match answer {
-        ReadAnswer::Read(found) => {
-            print!(rt; "{line} read: ")?;
-            reading(rt, found)?;
-            println!(rt; "")
+impl fmt::Display for Shown<EditAnswer> {
+    fn fmt<W: fmt::Write>(&self, f: &mut fmt::Formatter<W>) -> fmt::Result {
+        match self.0 {
+            Ok(sheet) => write!(
+                f,
+                "length {}, standing {}",
+                sheet.length, sheet.standing
+            ),
+            Err(refusal) => write!(f, "refused {refusal}"),
         }
-        ReadAnswer::Refused(number) => println!(rt; "{line} read: refused {number}"),
     }
 }
 
-// The line goes on with the rows.
-pub fn of_list(rt: &HostRuntime, line: usize, answer: ListAnswer) -> io::Result<()> {
-    match answer {
-        ListAnswer::Listed(listing) => {
-            print!(rt; "{line} list: ")?;
-            reading(rt, listing.reading)?;
-            let rows = listing.rows;
-            print!(rt; ", rows {rows}")
+impl fmt::Display for Shown<Outcome> {
+    fn fmt<W: fmt::Write>(&self, f: &mut fmt::Formatter<W>) -> fmt::Result {
+        match self.0 {
+            Outcome::Nothing => write!(f, "none"),
+            Outcome::Part => write!(f, "part"),
+            Outcome::Whole => write!(f, "whole"),
         }
-        ListAnswer::Refused(number) => print!(rt; "{line} list: refused {number}"),
     }
 }
 
-// The words of a listing's rows, each after a space, and the end of its line.
-pub fn rows(rt: &HostRuntime, words: &[u64]) -> io::Result<()> {
-    for word in words {
-        print!(rt; " {word:016x}")?;
+impl fmt::Display for Shown<SheetReading> {
+    fn fmt<W: fmt::Write>(&self, f: &mut fmt::Formatter<W>) -> fmt::Result {
+        let SheetReading {
+            outcome,
+            length,
+            examined,
+            nesting,
+            evaluations,
+        } = self.0;
+        write!(
+            f,
+            "{}, length {length}, examined {examined}, nesting {nesting}, evaluations {evaluations}",
+            Shown(outcome)
+        )
     }
-    println!(rt; "")
 }
 
-pub fn of_look_up(rt: &HostRuntime, line: usize, answer: LookUpAnswer) -> io::Result<()> {
-    match answer {
-        LookUpAnswer::Word(word) => println!(rt; "{line} look: word {word:016x}"),
-        LookUpAnswer::Refused(number) => println!(rt; "{line} look: refused {number}"),
+impl fmt::Display for Shown<ReadAnswer> {
+    fn fmt<W: fmt::Write>(&self, f: &mut fmt::Formatter<W>) -> fmt::Result {
+        match self.0 {
+            Ok(found) => write!(f, "{}", Shown(found)),
+            Err(refusal) => write!(f, "refused {refusal}"),
+        }
     }
 }
 
-// The bytes of a comment, whatever they are.
-pub fn comment(rt: &HostRuntime, words: &[u8]) -> io::Result<()> {
-    let mut out = io::writer(rt);
-    out.write_all(words)?;
-    out.write_all(b"\n")
+impl fmt::Display for Shown<LookUpAnswer> {
+    fn fmt<W: fmt::Write>(&self, f: &mut fmt::Formatter<W>) -> fmt::Result {
+        match self.0 {
+            Ok(word) => write!(f, "word {word:016x}"),
+            Err(refusal) => write!(f, "refused {refusal}"),
+        }
+    }
 }
 
-pub fn not_understood(rt: &HostRuntime, line: usize) -> io::Result<()> {
-    println!(rt; "{line}: not understood")
+// A listing's answer with the row slots that it wrote into.
+#[derive(Drop)]
+pub struct Listed<'a> {
+    pub answer: ListAnswer,
+    pub slots: &'a [u64],
 }
 
-pub fn too_long(rt: &HostRuntime, line: usize) -> io::Result<()> {
-    println!(rt; "{line}: more than 65536 bytes")
-}
-
-pub fn too_much_lent(rt: &HostRuntime, line: usize) -> io::Result<()> {
-    println!(rt; "{line}: more than 65536 bytes or 131072 words to lend")
-}
-
-pub fn too_many_slots(rt: &HostRuntime, line: usize) -> io::Result<()> {
-    println!(rt; "{line}: more than 65536 row slots to lend")
-}
-
-pub fn too_much_input(rt: &HostRuntime) -> io::Result<()> {
-    println!(rt; "the input has 262144 bytes or more: nothing is replayed")
+impl fmt::Display for Listed<'_> {
+    fn fmt<W: fmt::Write>(&self, f: &mut fmt::Formatter<W>) -> fmt::Result {
+        match self.answer {
+            Ok(listing) => {
+                write!(f, "{}, rows {}", Shown(listing.reading), listing.rows)?;
+                for word in self.slots.iter().take(listing.rows) {
+                    write!(f, " {word:016x}")?;
+                }
+                Ok(())
+            }
+            Err(refusal) => write!(f, "refused {refusal}"),
+        }
+    }
 }

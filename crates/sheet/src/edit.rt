@@ -4,6 +4,7 @@ ghost use Rattle.promises.specs.Promises.{EditPromise};
 use crate::questions;
 use grammar::Refusal;
 use promises::{EditAnswer, EditedSheet};
+use text::Edit;
 
 // Refused with 1 to 10, it leaves buffer and table as they were.
 pub fn edit(
@@ -18,16 +19,21 @@ pub fn edit(
     ensures { EditPromise image.now buffer.old n table.old s e replacement.now result buffer.new table.new }
 {
     let cap = buffer.len();
-    let k = replacement.len();
     let rules = questions::asked(image, cap, n, table.len())?;
     if e < s || n < e {
         return Err(Refusal::EditRange);
     }
     // n' itself is not computed: it could wrap for a k that no memory has.
-    if cap - (n - (e - s)) < k {
+    if cap - (n - (e - s)) < replacement.len() {
         return Err(Refusal::EditRoom);
     }
-    let standing = table::edit_table(table, rules, cap, n, s, e, k);
-    let length = text::edit_text(buffer, n, s, e, replacement);
+    let edit = Edit {
+        n,
+        s,
+        e,
+        r: replacement,
+    };
+    let standing = table::edit_table(table, rules, cap, &edit);
+    let length = text::edit_text(buffer, &edit);
     Ok(EditedSheet { length, standing })
 }

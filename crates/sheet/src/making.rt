@@ -23,10 +23,16 @@ pub fn make_reading(
 {
     let mut evaluations = 0u64;
     match session::start_over(image, text, table, &mut evaluations) {
-        Ok(word) => Ok(SheetReading {
-            reading: plain::reading_of(word, text.len()),
-            evaluations,
-        }),
+        Ok(word) => {
+            let found = plain::reading_of(word, text.len());
+            Ok(SheetReading {
+                outcome: found.outcome,
+                length: found.length,
+                examined: found.examined,
+                nesting: found.nesting,
+                evaluations,
+            })
+        }
         Err(refusal) => {
             table::clear_table(table, rules, cap);
             Err(refusal)

@@ -1,4 +1,3 @@
--- The laws of the opened and the edited table.
-pub mod OpenLaw
+-- The law of the edited table.
 pub mod Cases
 pub mod TableLaw

@@ -41,12 +41,12 @@ module _
     (fits : EditFits cap n s e k)
     (K :
     Counted
-    (kept_at R s 0 (mid_of 0 (s * R - 0) t))
-    (mid_of 0 (s * R - 0) t)
+    (kept_at R s 0 (mid_of 0 (s * R) t))
+    (mid_of 0 (s * R) t)
     kept
     0
     (s * R)
-    (kept_at R s 0 (mid_of 0 (s * R - 0) t))
+    (kept_at R s 0 (mid_of 0 (s * R) t))
     (s * R)
     c)
     (B :
@@ -55,12 +55,12 @@ module _
     ((e - s) * R)
     (k * R)
     ((n - e + 1) * R)
-    (mid_of (s * R) (table_size R cap - s * R) (put_mid 0 (s * R - 0) t kept))
+    (mid_of (s * R) (table_size R cap - s * R) (put_mid 0 (s * R) t kept))
     carried
     d)
   where
     half : List ℕ
-    half = put_mid 0 (s * R - 0) t kept
+    half = put_mid 0 (s * R) t kept
 
     whole : List ℕ
     whole = put_mid (s * R) (table_size R cap - s * R) half carried
@@ -68,12 +68,12 @@ module _
     in-front : s * R ≤ table_size R cap
     in-front = front_room R cap s (omega arith)
 
-    kept-long : length kept ≡ s * R - 0
-    kept-long = let i = in-front in let w = lent.whole in K.filled.long ∙ mid_long 0 (s * R - 0) t (omega arith)
+    kept-long : length kept ≡ s * R
+    kept-long = let i = in-front in let w = lent.whole in K.filled.long ∙ mid_long 0 (s * R) t (omega arith)
 
     half-long : length half ≡ length t
     unfolding half
-    half-long = let i = in-front in let w = lent.whole in put_long 0 (s * R - 0) t kept (omega arith) kept-long
+    half-long = let i = in-front in let w = lent.whole in put_long 0 (s * R) t kept (omega arith) kept-long
 
     back_fits : s * R + (table_size R cap - s * R) ≤ length half
     back_fits = let i = in-front in let w = lent.whole in let h = half-long in omega arith
@@ -87,13 +87,13 @@ module _
     whole_long = put_long (s * R) (table_size R cap - s * R) half carried back_fits carried-long ∙ half-long
 
     -- The words of the front, of the back, and after the table.
-    front_at : (j : ℕ) → j < s * R → at whole j ≡ kept_at R s 0 (mid_of 0 (s * R - 0) t) j
+    front_at : (j : ℕ) → j < s * R → at whole j ≡ kept_at R s 0 (mid_of 0 (s * R) t) j
     unfolding half whole
     front_at j h =
         let w = lent.whole in
         let i = in-front in
         put_before (s * R) (table_size R cap - s * R) half carried back_fits carried-long j h
-        ∙ put_inside 0 (s * R - 0) t kept (omega arith) kept-long j (omega arith) (omega arith)
+        ∙ put_inside 0 (s * R) t kept (omega arith) kept-long j (omega arith) (omega arith)
         ∙ ap (at kept) (let z : j - 0 ≡ j = omega arith in z)
         ∙ K.filled.inside j (omega arith) h
 
@@ -108,7 +108,7 @@ module _
     old-at i h =
         let w = lent.whole in
         let o = in-front in
-        mid_at (s * R) (table_size R cap - s * R) half i h ∙ put_past 0 (s * R - 0) t kept (omega arith) kept-long (s * R + i) (omega arith)
+        mid_at (s * R) (table_size R cap - s * R) half i h ∙ put_past 0 (s * R) t kept (omega arith) kept-long (s * R + i) (omega arith)
 
     after-at : (j : ℕ) → table_size R cap ≤ j → at whole j ≡ at t j
     unfolding half whole
@@ -116,7 +116,7 @@ module _
         let w = lent.whole in
         let o = in-front in
         put_past (s * R) (table_size R cap - s * R) half carried back_fits carried-long j (omega arith)
-        ∙ put_past 0 (s * R - 0) t kept (omega arith) kept-long j (omega arith)
+        ∙ put_past 0 (s * R) t kept (omega arith) kept-long j (omega arith)
 
     module _ (rule : ℕ) (below : rule < R) where
       front-pair : (q : ℕ) → q < s → at whole (slot_of R rule q) ≡ word_after R n s e k t rule q
@@ -126,7 +126,7 @@ module _
           let place : s - (0 + slot_of R rule q / R) ≡ s - q =
           ap (λ (x : ℕ). s - x) (let z = slots.position_of R rule q below in let o : 0 + slot_of R rule q / R ≡ q = omega arith in o) in
           front_at (slot_of R rule q) (omega arith)
-          ∙ ap₂ kept_word place (mid_at 0 (s * R - 0) t (slot_of R rule q) (omega arith) ∙ ap (at t) (let z : 0 + slot_of R rule q ≡ slot_of R rule q = omega arith in z))
+          ∙ ap₂ kept_word place (mid_at 0 (s * R) t (slot_of R rule q) (omega arith) ∙ ap (at t) (let z : 0 + slot_of R rule q ≡ slot_of R rule q = omega arith in z))
           ∙ kept_is n s e k q (table_word R t rule q) (table_word R t rule (came_from s e k q)) h
 
       came-pair :
@@ -224,7 +224,7 @@ module _
         ap (at whole) (sym (slots.slot_is R j))
         ∙ pair_is (j % R) (mod-lt j some) (j / R) (let l = slots.row_below R j (cap + 1) some (omega arith) in omega arith)
 
-    pub table_is : put_mid (s * R) (table_size R cap - s * R) (put_mid 0 (s * R - 0) t kept) carried ≡ table_after R cap n s e k t
+    pub table_is : put_mid (s * R) (table_size R cap - s * R) (put_mid 0 (s * R) t kept) carried ≡ table_after R cap n s e k t
     unfolding half whole words_after
     table_is =
         let f : ℕ → ℕ = λ j. word_after R n s e k t (j % R) (j / R) in
@@ -258,7 +258,7 @@ module _
         let g = held_same (at whole) (at (tabulate f size)) size (λ j h. word_is j h ∙ sym (tabulate-at f size j h)) in
         let o = ap (held_to (at whole)) all in
         let p = held_add (at whole) (s * R) (size - s * R) in
-        let x = held_same (at whole) (kept_at R s 0 (mid_of 0 (s * R - 0) t)) (s * R) front_at in
+        let x = held_same (at whole) (kept_at R s 0 (mid_of 0 (s * R) t)) (s * R) front_at in
         let y = held_same (λ j. at whole (s * R + j)) (at carried) (size - s * R) back_at in
         let z = ap (held_to (at carried)) (mid_long (s * R) (size - s * R) half back_fits) in
         let k1 = K.counted in
@@ -281,9 +281,9 @@ slots_fit {cap} {n} {s} {e} {k} R fits =
 
 -- The front put back leaves the length.
 pub front_long :
-    (from : ℕ) (t kept : List ℕ) → from ≤ length t → length kept ≡ length (mid_of 0 (from - 0) t) → length (put_mid 0 (from - 0) t kept) ≡ length t
+    (from : ℕ) (t kept : List ℕ) → from ≤ length t → length kept ≡ length (mid_of 0 from t) → length (put_mid 0 from t kept) ≡ length t
 front_long from t kept h l =
-    let a = l ∙ mid_long 0 (from - 0) t (omega arith) in put_long 0 (from - 0) t kept (omega arith) a
+    let a = l ∙ mid_long 0 from t (omega arith) in put_long 0 from t kept (omega arith) a
 
 -- The back as it is lent has room for slots that are not more than its words.
 pub back_room :

@@ -1,8 +1,8 @@
--- Theorems `edit_is` and `fill_is`: a move, a copy and zeros in lent parts of the buffer are the edit and the opening of the text.
+-- Theorems `edited_by` and `fill_is`: a move, a copy and zeros in lent parts of the buffer are the edit and the opening of the text.
 -- Assumes nothing.
 use Prim.Native.Nat.{ℕ, ◌+◌, ◌-◌, ◌≤◌, ◌<◌}
 use native.Mathlib.Omega.{arith}
-use mathlib.Core.Path.{◌≡◌, refl, sym, ap, ◌∙◌}
+use mathlib.Core.Path.{◌≡◌, refl, sym, ap, ◌∙◌, subst}
 use mathlib.Core.Logic.{⊎_elim}
 use mathlib.Core.List.{List, ◌++◌}
 use lib.ListN.{length, take, drop, replicate, length-append, length-drop, length-replicate, get_or-replicate}
@@ -93,13 +93,17 @@ module _ (t r : List ℕ) (n s e : ℕ) (fits : EditFits (length t) n s e (lengt
       (cut j (s + length r)))
       (cut j s))
 
-  -- The rest from s on is lent to the move and the copy, then what lies past the end_of n s e r is set to zeros.
-  pub edit_is :
+  -- The rest from s on is lent to the move and the copy, then what lies past the end is set to zeros.
+  abbrev pub Edited : (gone behind : ℕ) → Type 0
+  Edited gone behind =
       (moved copied zeros : List ℕ)
-      → Filled (λ j. at (mid_of s (length t - s) t) (e - s + (j - length r))) (mid_of s (length t - s) t) moved (length r) (length r + (n - e))
+      → Filled (λ j. at (mid_of s (length t - s) t) (gone + (j - length r))) (mid_of s (length t - s) t) moved (length r) (length r + behind)
       → Filled (at r) moved copied 0 (length r)
       → let whole : List ℕ = put_mid s (length t - s) t copied in
-      zeros ≡ replicate (length (mid_of (end_of n s e r) (length whole - end_of n s e r) whole)) 0 → put_mid (end_of n s e r) (length whole - end_of n s e r) whole zeros ≡ text_after t n s e r
+      let end : ℕ = s + length r + behind in
+      zeros ≡ replicate (length (mid_of end (length whole - end) whole)) 0 → put_mid end (length whole - end) whole zeros ≡ text_after t n s e r
+
+  edit_is : Edited (e - s) (n - e)
   edit_is moved copied zeros M C z =
       let rest : List ℕ = mid_of s (length t - s) t in
       let whole : List ℕ = put_mid s (length t - s) t copied in
@@ -131,6 +135,10 @@ module _ (t r : List ℕ) (n s e : ℕ) (fits : EditFits (length t) n s e (lengt
     where
       beyond : (j : ℕ) → length t - s ≤ j → at copied j ≡ at (mid_of s (length t - s) t) j
       beyond j h = C.past j (omega arith) ∙ M.past j (omega arith)
+
+  pub edited_by : (gone behind : ℕ) → gone ≡ e - s → behind ≡ n - e → Edited gone behind
+  edited_by gone behind g b =
+      subst (λ (x : ℕ). Edited x behind) (sym g) (subst (λ (x : ℕ). Edited (e - s) x) (sym b) edit_is)
 
 -- The text to the front, zeros behind it.
 pub fill_is :

@@ -1,21 +1,49 @@
 // The text in its lent buffer: what an opening and an edit store there.
 #![tactic(auto)]
 
-ghost use Rattle.std.specs.Prelude.{◌≤◌, ◌≡◌, length};
+ghost use Rattle.std.specs.Prelude.{◌-◌, ◌≤◌, ◌≡◌, length};
 ghost use Rattle.editing.specs.Text.{EditFits, new_length, text_after, opened};
 
+// "Edit (s, e, r)" of a text of n bytes: bytes s to e − 1 give way to r.
+#[derive(Clone, Copy)]
+pub struct Edit<'a> {
+    pub n: usize,
+    pub s: usize,
+    pub e: usize,
+    pub r: &'a [u8],
+    ghost ordered: { s ≤ e },
+    ghost within: { e ≤ n },
+}
+
+impl Edit<'_> {
+    // How many bytes go.
+    pub fn gone(&self) -> usize
+        ensures { result ≡ self.now.e - self.now.s }
+    {
+        self.e - self.s
+    }
+
+    // How many bytes stand behind them.
+    pub fn behind(&self) -> usize
+        ensures { result ≡ self.now.n - self.now.e }
+    {
+        self.n - self.e
+    }
+}
+
 // "bytes s to e − 1 give way to r; buffer bytes past the new length n' become 0." Answers n'.
-pub fn edit_text(text: &mut [u8], n: usize, s: usize, e: usize, replacement: &[u8]) -> usize
-    requires { EditFits (length text.old) n s e (length replacement.now) }
-    ensures value { result ≡ new_length n s e (length replacement.now) }
-    ensures text_after { text.new ≡ text_after text.old n s e replacement.now }
+pub fn edit_text(text: &mut [u8], edit: &Edit) -> usize
+    requires { EditFits (length text.old) edit.now.n edit.now.s edit.now.e (length edit.now.r.now) }
+    ensures value { result ≡ new_length edit.now.n edit.now.s edit.now.e (length edit.now.r.now) }
+    ensures text_after { text.new ≡ text_after text.old edit.now.n edit.now.s edit.now.e edit.now.r.now }
 {
-    let k = replacement.len();
-    let rest = &mut text[s..];
-    buffers::bytes::shift(rest, e - s, k, n - e);
-    buffers::bytes::copy(rest, replacement);
-    let end = s + k + (n - e);
-    buffers::bytes::clear(&mut text[end..]);
+    let k = edit.r.len();
+    let behind = edit.behind();
+    let rest = &mut text[edit.s..];
+    buffers::shift(rest, edit.gone(), k, behind);
+    buffers::copy(rest, edit.r);
+    let end = edit.s + k + behind;
+    text[end..].fill(0);
     end
 }
 
@@ -24,7 +52,6 @@ pub fn fill(buffer: &mut [u8], text: &[u8])
     requires { length text.now ≤ length buffer.old }
     ensures { buffer.new ≡ opened (length buffer.old) text.now }
 {
-    let n = text.len();
-    buffers::bytes::copy(buffer, text);
-    buffers::bytes::clear(&mut buffer[n..]);
+    buffers::copy(buffer, text);
+    buffer[text.len()..].fill(0);
 }

@@ -1,8 +1,8 @@
 -- Which words an edit keeps at their place before s, word by word and row by row. Assumes nothing.
-use Prim.Native.Nat.{ℕ, ◌≤◌, ◌<◌}
-use mathlib.Core.Path.{◌≡◌, refl}
-use mathlib.Core.Bool.{Bool, true, false, cond, ◌&&◌}
-use borrow.Author.Tests.{le-leb, lt-leb}
+use Prim.Native.Nat.{ℕ, ◌≤◌}
+use mathlib.Core.Path.{◌≡◌}
+use mathlib.Core.Bool.{true, false}
+use borrow.Author.Tests.{le-leb}
 use Rattle.records.specs.Words.{is_held, examined_of}
 use Rattle.editing.specs.Held.{kept_word}
 
@@ -11,16 +11,7 @@ pub kept : (limit w : ℕ) → is_held w ≡ true → examined_of w ≤ limit �
 unfolding kept_word
 kept limit w h l = simp (h, le-leb (examined_of w) limit l)
 
--- One that examined more is not.
-pub kept_not : (limit w : ℕ) → limit < examined_of w → kept_word limit w ≡ 0
-unfolding kept_word
-kept_not limit w l = simp (lt-leb (examined_of w) limit l) (go (is_held w))
-  where
-    go : (b : Bool) → cond (b && false) w 0 ≡ 0
-    go true = refl
-    go false = refl
-
--- Nor is a word that is not held.
+-- A word that is not held is not.
 pub kept_empty : (limit w : ℕ) → is_held w ≡ false → kept_word limit w ≡ 0
 unfolding kept_word
 kept_empty limit w h = simp h

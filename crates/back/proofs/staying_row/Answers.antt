@@ -1,20 +1,22 @@
--- `staying_row` meets its contract: the first words of the row are those that stay. Assumes nothing.
+-- `staying_row` meets its contract: the words of the row are copied, and then those kept that examined nothing. Assumes nothing.
 use native.Mathlib.Omega.{arith}
-use mathlib.Core.Path.{refl}
-use Rattle.buffers.proofs.Fill.{none, up}
+use mathlib.Core.Path.{ap, ◌∙◌}
+use lib.ListN.{length}
+use lib.Seq.{get_or-take, length-take-le}
+use Rattle.buffers.proofs.Parts.{joined_first}
+use Rattle.buffers.specs.Filled.{at}
+use Rattle.editing.specs.Held.{kept_word}
 use Rattle.back.proofs.staying_row.Goals as goal
 
-pub loop-rule-init : goal.loop-rule-init
-loop-rule-init c = (omega arith, refl, none 0)
-
-pub bounds-row-rule : goal.bounds-row-rule
-bounds-row-rule c = omega (arith, c.loop-rule.invariant.2.long)
-
-pub loop-rule-preserved : goal.loop-rule-preserved
-loop-rule-preserved c =
-    let m = c.loop-rule.invariant.2.long in
-    let l = c.loop-rule.invariant.1 in
-    (omega arith, c.loop-rule.invariant.1, up c.loop-rule.invariant.2 (omega arith) (omega arith) c.kept_word.ensures)
-
 pub returns : goal.returns
-returns c = record { stay = λ rule h. c.loop-rule.invariant.2.inside rule (omega arith) (omega arith) }
+returns c =
+    let long = ap length c.copy_from_slice.ensures.after ∙ length-take-le c.args.rules c.args.part.now (omega arith) in
+    record {
+      stay = λ rule h.
+          c.keep_row.ensures.filled.inside rule (omega arith) (omega arith)
+          ∙ ap
+          (kept_word 0)
+          (joined_first c.copy_from_slice.new.self _ c.args.rules rule long h
+          ∙ ap (λ xs. at xs rule) c.copy_from_slice.ensures.after
+          ∙ get_or-take c.args.rules c.args.part.now rule 0 h);
+    }

@@ -1,41 +1,18 @@
--- `fields::decimal` meets its contract: the bytes passed are digits, and the value is their number. Assumes nothing.
-use native.Mathlib.Omega.{arith}
-use Rattle.fields.proofs.Decimals.{none, up, whole, no_digit, too_large}
+-- `fields::decimal` meets its contract: what overflows on the way is no number. Assumes nothing.
+use Rattle.std.proofs.Common.{arith, rules}
+use Rattle.fields.proofs.Decimals.{too_large}
 use Rattle.fields.proofs.decimal.Goals as goal
 
-pub returns-then-field-eq0 : goal.returns-then-field-eq0
-returns-then-field-eq0 c = λ n. let p = n.0 in omega arith
+pub returns-in_err-checked_mul : goal.returns-in_err-checked_mul
+returns-in_err-checked_mul c =
+    let m = c.in_err-checked_mul.ensures in
+    let t = too_large c.loop-byte.invariant (omega arith) (omega arith) in
+    search rules
 
-pub loop-i-init : goal.loop-i-init
-loop-i-init c = none (omega arith)
-
-pub returns-then-byte-lt48 : goal.returns-then-byte-lt48
-returns-then-byte-lt48 c =
-    no_digit
-    c.args.field.now
-    c.loop-i.i
-    (omega arith)
-    (λ d. let a = d.0 in let b = d.1 in omega arith)
-
-pub returns-then-byte-gt57 : goal.returns-then-byte-gt57
-returns-then-byte-gt57 c =
-    no_digit
-    c.args.field.now
-    c.loop-i.i
-    (omega arith)
-    (λ d. let a = d.0 in let b = d.1 in omega arith)
-
-pub returns-then-value-gt1844674407370955161 : goal.returns-then-value-gt1844674407370955161
-returns-then-value-gt1844674407370955161 c = too_large c.loop-i.invariant (omega arith) (omega arith)
-
-pub returns-then-tens-digit : goal.returns-then-tens-digit
-returns-then-tens-digit c = too_large c.loop-i.invariant (omega arith) (omega arith)
-
-pub loop-i-preserved : goal.loop-i-preserved
-loop-i-preserved c =
-    let w = c.wide-digit.ensures in
-    let inv = c.loop-i.invariant in
-    up inv (omega arith) (omega arith) (omega arith) (omega arith) (omega arith)
-
-pub returns : goal.returns
-returns c = whole c.loop-i.invariant (omega arith)
+pub returns-in_err-value : goal.returns-in_err-value
+returns-in_err-value c =
+    let m = c.in_err-value.ensures in
+    let d = c.in_ok-digit.ensures.cases in
+    let v = c.in_ok-digit.ensures.value in
+    let t = too_large c.loop-byte.invariant (omega arith) (omega (arith, d, v, m)) in
+    search rules

@@ -4,4 +4,4 @@ use Rattle.text.proofs.fill.Goals as goal
 
 pub returns : goal.returns
 returns c =
-    fill_is c.args.buffer.now c.args.text.now _ _ c.requires c.copy.ensures c.clear.ensures
+    fill_is c.args.buffer.now c.args.text.now _ _ c.requires c.copy.ensures (c.fill.ensures.after (λ y e. e))

@@ -1,7 +1,9 @@
 -- The goals of the evaluator's cycle, method by method. Each answer is a way of packrat/proofs/Runs, Stars or Rules. Assumes nothing.
 use Rattle.packrat.proofs.Rules.{rule_impossible, rule_too_deep, rule_met, rule_refused, rule_stored, node_too_deep, node_goes, word_goes, call_goes}
 use Rattle.evaluator.proofs.Terminals.{terminal_goes, first_any, first_range}
-use Rattle.evaluator.proofs.Steps.{answered, left_with, before, kept_on, ready_after, inside, looked_up, was_met, was_missed}
+use Rattle.grammar.proofs.Refusals.{left_with}
+use Rattle.packrat.proofs.Rules.{was_possible, was_impossible}
+use Rattle.evaluator.proofs.Steps.{answered, before, kept_on, ready_after, inside, looked_up}
 use Rattle.packrat.proofs.LoadedRuns.{word_is}
 use Rattle.packrat.proofs.Stars.{rounds_start, round_refused, round_still, round_fails, round_goes, round_bounds}
 use Rattle.packrat.proofs.Runs.{not_refused, not_answered, call_refused, call_answered, length_within}
@@ -140,28 +142,27 @@ eval_sequence-returns-clause-gives t c =
     (before c.args.self.now c.eval_node.new.self _ _ _ c.eval_node.ensures.kept (ap (λ (l : ℕ). c.args.at + l) c.length_of.ensures.0) c.in_ok-y.ensures.gives)
     c.in_sequence.ensures
 
-pub eval_rule-returns-in_err-held-clause-gives : goal.eval_rule-returns-in_err-held-clause-gives
-eval_rule-returns-in_err-held-clause-gives t c =
-    let m = was_missed _ _ _ c.from_word.ensures c.ok_or.ensures.value c.in_err-held.was in
-    rw (left_with c.from_residual.ensures, m.1)
-    (rule_impossible _ _ _ _ _ _ _ _ _ (looked_up c.args.self.now _ _ c.requires.0.0 c.look-word.ensures) (sym c.is_held.ensures ∙ c.if-is_held.true) m.0)
+pub eval_rule-returns-in_default-clause-gives : goal.eval_rule-returns-in_default-clause-gives
+eval_rule-returns-in_default-clause-gives t c =
+    rule_impossible _ _ _ _ _ _ _ _ _ (looked_up c.args.self.now _ _ c.requires.0.0 c.look-word.ensures) (sym c.is_held.ensures ∙ c.if-is_held.true)
+    (was_impossible _ _ (sym c.in_default.is ∙ c.from_word.ensures))
 
 pub eval_rule-returns-then-left-held-clause-gives : goal.eval_rule-returns-then-left-held-clause-gives
 eval_rule-returns-then-left-held-clause-gives t c =
-    let m = was_met _ _ _ c.from_word.ensures c.ok_or.ensures.value c.in_ok-held.was in
+    let m = was_possible _ _ _ (sym c.in-Some.is ∙ c.from_word.ensures) in
     let e = ap (λ (r : Record). r.nesting) m.1 in
     rule_too_deep _ _ _ _ _ _ _ _ _ (looked_up c.args.self.now _ _ c.requires.0.0 c.look-word.ensures) (sym c.is_held.ensures ∙ c.if-is_held.true) m.0 (omega (arith, e, c.if-left-held.true))
 
 pub eval_rule-returns-then-is_held-clause-gives : goal.eval_rule-returns-then-is_held-clause-gives
 eval_rule-returns-then-is_held-clause-gives t c =
-    let m = was_met _ _ _ c.from_word.ensures c.ok_or.ensures.value c.in_ok-held.was in
+    let m = was_possible _ _ _ (sym c.in-Some.is ∙ c.from_word.ensures) in
     let e = ap (λ (r : Record). r.nesting) m.1 in
-    rule_met _ _ _ _ _ _ _ _ _ (looked_up c.args.self.now _ _ c.requires.0.0 c.look-word.ensures) (sym c.is_held.ensures ∙ c.if-is_held.true) m.0 (omega (arith, e, c.if-left-held.false)) (c.from.ensures ∙ ap record_word m.1)
+    rule_met _ _ _ _ _ _ _ _ _ (looked_up c.args.self.now _ _ c.requires.0.0 c.look-word.ensures) (sym c.is_held.ensures ∙ c.if-is_held.true) m.0 (omega (arith, e, c.if-left-held.false)) (c.word.ensures ∙ ap record_word m.1)
 
 pub eval_rule-returns-in_err-value-clause-gives : goal.eval_rule-returns-in_err-value-clause-gives
 eval_rule-returns-in_err-value-clause-gives t c =
     let pre = c.requires.0.1 in
-    rw (left_with c.from_residual-in_err-value.ensures)
+    rw (left_with c.from_residual.ensures)
     (rule_refused _ _ _ _ _ _ _ _ _ (looked_up c.args.self.now _ _ c.requires.0.0 c.look-word.ensures) pre.short pre.most (sym c.is_held.ensures ∙ c.if-is_held.false) c.in_err-value.ensures.gives)
 
 pub eval_rule-returns-clause-gives : goal.eval_rule-returns-clause-gives

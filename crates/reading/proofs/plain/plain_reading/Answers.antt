@@ -1,5 +1,5 @@
 use Rattle.reading.proofs.PlainReading.{start_refused, answered_reading}
-use Rattle.evaluator.proofs.Steps.{left_with}
+use Rattle.grammar.proofs.Refusals.{left_with}
 use Rattle.reading.proofs.plain.plain_reading.Goals as goal
 
 pub returns-in_err-word : goal.returns-in_err-word

@@ -1,6 +1,6 @@
 use Rattle.std.proofs.Common.{sym, ◌∙◌}
 use Rattle.packrat.proofs.Start.{start_met, start_refused, start_stored}
-use Rattle.evaluator.proofs.Steps.{left_with}
+use Rattle.grammar.proofs.Refusals.{left_with}
 use Rattle.reading.proofs.session.start_over.Goals as goal
 
 pub returns-then-is_held : goal.returns-then-is_held

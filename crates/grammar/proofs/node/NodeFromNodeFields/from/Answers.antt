@@ -30,3 +30,6 @@ returns-in-7 c = sym (is_call _ c.in-7.is)
 
 pub returns-in_default : goal.returns-in_default
 returns-in_default c = sym (is_unlawful _ (omega (arith, c)))
+
+pub returns-in-8-to-15 : goal.returns-in-8-to-15
+returns-in-8-to-15 c = sym (is_unlawful _ (omega (arith, c)))

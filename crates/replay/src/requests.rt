@@ -1,0 +1,58 @@
+// What a line asks for.
+use crate::errors::LineError;
+
+#[derive(Clone, Copy, Debug, PartialEq, Eq)]
+pub enum Request<'a> {
+    Image(&'a [u8]),
+    Lend(usize, usize),
+    Open(&'a [u8]),
+    Edit(usize, usize, &'a [u8]),
+    Read,
+    Look(usize, usize),
+    List(usize),
+}
+
+fn number(field: &[u8]) -> Result<usize, LineError> {
+    fields::decimal(field).ok_or(LineError::NotUnderstood)
+}
+
+// Two numbers and nothing else.
+fn two_numbers(rest: &[u8]) -> Result<(usize, usize), LineError> {
+    let (first, second) = fields::first_field(rest);
+    Ok((number(first)?, number(second)?))
+}
+
+// The bytes, put at the start of `given`.
+fn bytes<'a>(digits: &[u8], given: &'a mut [u8]) -> Result<&'a [u8], LineError> {
+    let count = fields::hex(digits, given)?;
+    Ok(&given[..count])
+}
+
+fn edit<'a>(rest: &[u8], given: &'a mut [u8]) -> Result<Request<'a>, LineError> {
+    let (start, rest) = fields::first_field(rest);
+    let (end, digits) = fields::first_field(rest);
+    Ok(Request::Edit(number(start)?, number(end)?, bytes(digits, given)?))
+}
+
+impl<'a> Request<'a> {
+    // The request of a line; its bytes lie in `given`.
+    pub fn of_line(text: &[u8], given: &'a mut [u8]) -> Result<Request<'a>, LineError> {
+        let (verb, rest) = fields::first_field(text);
+        match verb {
+            b"image" => Ok(Request::Image(bytes(rest, given)?)),
+            b"lend" => {
+                let (cap, words) = two_numbers(rest)?;
+                Ok(Request::Lend(cap, words))
+            }
+            b"open" => Ok(Request::Open(bytes(rest, given)?)),
+            b"edit" => edit(rest, given),
+            b"read" if rest.is_empty() => Ok(Request::Read),
+            b"look" => {
+                let (rule, position) = two_numbers(rest)?;
+                Ok(Request::Look(rule, position))
+            }
+            b"list" => Ok(Request::List(number(rest)?)),
+            _ => Err(LineError::NotUnderstood),
+        }
+    }
+}
