@@ -1,5 +1,5 @@
 // The ways of combining evaluations, on their words: one function for each case of the paper.
-#![tactic(auto)]
+#![tactic(auto, unfolding(records::specs::Words::value_of, records::specs::Words::word_of))]
 
 ghost use Rattle.std.specs.Prelude.{◌≤◌, ◌<◌, max, ◌≡◌};
 ghost use Rattle.grammar.specs.Evaluates.{first_failed, in_sequence, taken_over, second_choice, negated};
@@ -15,7 +15,11 @@ pub fn answer(matched: bool, nesting: usize, examined: usize, length: usize) -> 
     ensures { result ≡ word_of (record { matched = matched; length = length; examined = examined; nesting = nesting }) }
 {
     let fields = nesting * records::NESTING_UNIT + examined * records::EXAMINED_UNIT + length;
-    let held = if matched { records::HELD_MATCHED } else { records::HELD };
+    let held = if matched {
+        records::HELD_MATCHED
+    } else {
+        records::HELD
+    };
     held + fields as u64
 }
 
@@ -24,7 +28,12 @@ pub fn first_failed(x: u64) -> u64
     requires { nesting_of x ≤ 4096 }
     ensures { result ≡ word_of (first_failed (value_of x)) }
 {
-    answer(false, 1 + records::nesting_of(x), records::examined_of(x), 0)
+    answer(
+        false,
+        1 + records::nesting_of(x),
+        records::examined_of(x),
+        0,
+    )
 }
 
 // "else the larger of A's examined and A's length + B's examined; lengths add."

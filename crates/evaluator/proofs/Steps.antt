@@ -1,18 +1,15 @@
 -- What a step of a run gives to the next: an answered word's bounds, the run after a step, the children of a node.
 -- Assumes nothing.
-use Rattle.std.specs.Prelude.{Option, Some, None, Ok, Err, Result, IsErr, IsErrAnd}
-use Rattle.std.specs.Option.{ok_or}
-use Rattle.std.proofs.Common.{Bool, true, false, cond, ◌≡◌, ℕ, zero, suc, ◌+◌, ◌-◌, ◌≤◌, ◌<◌, List, length, get_or, refl, sym, ap, ◌∙◌, subst, arith}
+use Rattle.std.specs.Prelude.{Ok, Result}
+use Rattle.std.proofs.Common.{◌≡◌, ℕ, zero, suc, ◌+◌, ◌-◌, ◌≤◌, ◌<◌, List, length, get_or, refl, sym, ap, ◌∙◌, subst, arith}
 use Rattle.grammar.specs.declared.refusal.Refusal.{Refusal}
-use Rattle.grammar.specs.declared.refusal.Refusal.TheVariants.{Records}
 use Rattle.grammar.specs.declared.node.NodeFields.{NodeFields}
 use Rattle.grammar.specs.declared.node.Node.{Node}
 use Rattle.grammar.specs.declared.node.Node.TheVariants.{Empty, Text, Sequence, Choice, Star, NotPredicate, Call, Unlawful}
 use Rattle.grammar.specs.Image.{fields_of, node_of}
 use Rattle.grammar.proofs.Nodes.{is_empty, is_any, is_range, is_sequence, is_choice, is_star, is_not, is_call, is_unlawful}
 use Rattle.image.specs.Fields.{SameFields}
-use Rattle.records.specs.declared.Record.{Record}
-use Rattle.records.specs.Words.{word_of, value_of, nesting_of, possible, record_of, decoded}
+use Rattle.records.specs.Words.{word_of, value_of, nesting_of}
 use Rattle.records.specs.Slots.{slot_of}
 use Rattle.packrat.specs.Model.{Out}
 use Rattle.packrat.specs.Loaded.{rules_in}
@@ -96,8 +93,7 @@ pub inside :
 inside p word {f = f} pre same e is =
     let ready = pre.0.1 in
     let some = pre.1 in
-    let most = ready.most in
-    (
+    let most = ready.most in (
       (pre.0.0, record { short = ready.short; here = ready.here; most = omega arith }),
       few f (omega (arith, same.its_a)) (omega (arith, same.its_b)) (sym e ∙ is),
     )

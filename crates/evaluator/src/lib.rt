@@ -137,7 +137,13 @@ impl<'a> Run<'a> {
 
     // A call of a rule.
     #[cycle(eval)]
-    fn eval_call(&mut self, rule: usize, root: usize, at: usize, left: usize) -> Result<u64, Refusal>
+    fn eval_call(
+        &mut self,
+        rule: usize,
+        root: usize,
+        at: usize,
+        left: usize,
+    ) -> Result<u64, Refusal>
         requires { Ready self.old at (left + 1) × (rule < 4096) × (root < 4096) }
         ensures kept { Kept self.old self.new }
         ensures gives { Gives self.old at (left + 1) (kind_run self.old left root (Call rule)) result self.new }
@@ -148,7 +154,13 @@ impl<'a> Run<'a> {
 
     // A rule, whose body has that root, at a position: its pair is looked up before its body is evaluated.
     #[cycle(eval)]
-    fn eval_rule(&mut self, rule: usize, root: usize, at: usize, left: usize) -> Result<u64, Refusal>
+    fn eval_rule(
+        &mut self,
+        rule: usize,
+        root: usize,
+        at: usize,
+        left: usize,
+    ) -> Result<u64, Refusal>
         requires { Ready self.old at left × (rule < 4096) × (root < 4096) }
         ensures kept { Kept self.old self.new }
         ensures gives { Gives self.old at left (rule_run self.old left root rule) result self.new }

@@ -1,9 +1,8 @@
 -- The code of a plain reading's answer is injective: among answers that a plain reading of one text can give, the number tells which
 -- it was. Assumes nothing.
-use Rattle.grammar.specs.Refusals.{number}
 use Rattle.grammar.proofs.Refusals.{same_refusal, number_bounds}
 use Rattle.std.specs.Prelude.{Ok, Err}
-use Rattle.std.proofs.Common.{◌≡◌, ℕ, ◌^◌, ◌<◌, ◌≤◌, List, length, sym, refl, ap, ◌∙◌, inl, inr, true≢false, arith}
+use Rattle.std.proofs.Common.{◌≡◌, ℕ, ◌^◌, ◌<◌, List, length, sym, refl, ap, ◌∙◌, inl, inr, true≢false, arith}
 use Rattle.grammar.specs.declared.Evaluation.{Evaluation}
 use Rattle.grammar.specs.Evaluates.{bodies_only}
 use Rattle.grammar.specs.Questions.{First}

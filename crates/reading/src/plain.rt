@@ -48,6 +48,7 @@ pub fn outcome_of(matched: bool, length: usize, n: usize) -> Outcome
 }
 
 // What a held word says of a text of n bytes.
+#[tactic(auto, unfolding(records::specs::Words::value_of))]
 pub fn reading_of(word: u64, n: usize) -> Reading
     ensures { result ≡ reading_of n (value_of word) }
 {

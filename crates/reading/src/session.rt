@@ -21,7 +21,12 @@ fn met(word: u64, n: usize) -> Result<u64, Refusal>
 }
 
 // Its word, or a refusal; `count` goes up by the pairs that are evaluated.
-pub fn start_over(image: &[u8], text: &[u8], table: &mut [u64], count: &mut u64) -> Result<u64, Refusal>
+pub fn start_over(
+    image: &[u8],
+    text: &[u8],
+    table: &mut [u64],
+    count: &mut u64,
+) -> Result<u64, Refusal>
     requires { Accepted image.now × (length text.now ≤ 65535) }
     ensures { StartOver image.now text.now table.old count.old result table.new count.new }
 {

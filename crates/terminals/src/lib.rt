@@ -30,7 +30,11 @@ pub fn byte_between(text: &[u8], from: usize, to: usize, at: usize) -> u64
     let Some(&byte) = text.get(at) else {
         return NO_BYTE;
     };
-    if is_between(from, to, usize::from(byte)) { ONE_BYTE } else { NO_BYTE }
+    if is_between(from, to, usize::from(byte)) {
+        ONE_BYTE
+    } else {
+        NO_BYTE
+    }
 }
 
 // The other ASCII case of a letter; any other byte stands for itself.
@@ -54,7 +58,11 @@ pub fn byte_folded(text: &[u8], from: usize, to: usize, at: usize) -> u64
         return NO_BYTE;
     };
     let byte = usize::from(byte);
-    if is_between(from, to, byte) | is_between(from, to, other_case(byte)) { ONE_BYTE } else { NO_BYTE }
+    if is_between(from, to, byte) | is_between(from, to, other_case(byte)) {
+        ONE_BYTE
+    } else {
+        NO_BYTE
+    }
 }
 
 // What a terminal does at a position.

@@ -1,20 +1,10 @@
-use Rattle.grammar.proofs.Between.{bounds}
 use Rattle.grammar.proofs.Folding.{of_capital, of_small, of_no_letter}
-use native.Mathlib.Omega.{arith}
 use mathlib.Core.Path.{sym, ◌∙◌}
 use Rattle.terminals.proofs.other_case.Goals as goal
-
-pub overflow_add-result : goal.overflow_add-result
-overflow_add-result c =
-    omega (arith, bounds _ _ c.args.byte (sym c.is_between.ensures ∙ c.if-is_between.true))
 
 pub returns-then-is_between : goal.returns-then-is_between
 returns-then-is_between c =
     sym (of_capital c.args.byte (sym c.is_between.ensures ∙ c.if-is_between.true))
-
-pub overflow_sub-result : goal.overflow_sub-result
-overflow_sub-result c =
-    omega (arith, bounds _ _ c.args.byte (sym c.is_between-2.ensures ∙ c.if-is_between-2.true))
 
 pub returns-then-is_between-2 : goal.returns-then-is_between-2
 returns-then-is_between-2 c =

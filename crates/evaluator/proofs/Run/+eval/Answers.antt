@@ -3,19 +3,19 @@ use Rattle.packrat.proofs.Rules.{rule_impossible, rule_too_deep, rule_met, rule_
 use Rattle.evaluator.proofs.Terminals.{terminal_goes, first_any, first_range}
 use Rattle.grammar.proofs.Refusals.{left_with}
 use Rattle.packrat.proofs.Rules.{was_possible, was_impossible}
-use Rattle.evaluator.proofs.Steps.{answered, before, kept_on, ready_after, inside, looked_up, few}
+use Rattle.evaluator.proofs.Steps.{answered, before, kept_on, ready_after, inside, looked_up}
 use Rattle.packrat.proofs.LoadedRuns.{word_is}
 use Rattle.packrat.proofs.Stars.{rounds_start, round_refused, round_still, round_fails, round_goes, round_bounds}
 use Rattle.packrat.proofs.Runs.{not_refused, not_answered, call_refused, call_answered, length_within}
 use Rattle.packrat.proofs.Runs.{choice_refused, choice_first, choice_second_refused, choice_second}
 use Rattle.packrat.proofs.Runs.{sequence_refused, sequence_failed, sequence_second_refused, joinable, sequence_both}
-use Rattle.packrat.proofs.Gives.{was_refused, gives_value, gives_refusal}
+use Rattle.packrat.proofs.Gives.{gives_value, gives_refusal}
 use Rattle.packrat.specs.Model.{kind_m}
-use Rattle.records.specs.Words.{word_of, possible, record_of, record_word}
+use Rattle.records.specs.Words.{word_of, record_word}
 use Rattle.records.specs.declared.Record.{Record}
 use Rattle.evaluation.proofs.Shape.{empty_within}
 use Rattle.grammar.specs.Evaluates.{empty_here}
-use Rattle.std.proofs.Common.{ℕ, ◌+◌, ◌<◌, length, get_or, sym, refl, ap, ◌∙◌, arith}
+use Rattle.std.proofs.Common.{ℕ, ◌+◌, get_or, sym, refl, ap, ◌∙◌, arith}
 use Rattle.terminals.proofs.CharacterWords.{ascii_word}
 use Rattle.evaluator.specs.Runs.{node_run, rule_run}
 use Rattle.evaluator.proofs.Run.+eval.Goals as goal
@@ -215,8 +215,7 @@ eval_star-loop-x-smaller t c =
 pub eval_star-loop-x-preserved : goal.eval_star-loop-x-preserved
 eval_star-loop-x-preserved t c =
     let pre = c.requires.0.1 in
-    let so_far = c.loop-x.invariant in
-    (
+    let so_far = c.loop-x.invariant in (
       kept_on c.args.self.now c.loop-x.self c.eval_node.new.self so_far.0 c.eval_node.ensures.kept,
       round_goes _ _ pre.short pre.most so_far.1 (before c.args.self.now c.loop-x.self _ _ _ so_far.0 refl c.in_ok-x.ensures.gives) (sym c.matched_of.ensures ∙ c.if-not-matched_of.false) (rw c.examined_of.ensures.0 at c.max-examined.ensures) (rw c.nesting_of.ensures.0 at c.max-deepest.ensures) c.length_of-length.ensures.0 c.if-length-eq0.false,
     )

@@ -2,7 +2,7 @@
 -- packrat/proofs/Runs, Stars or Rules. The measure is four times the allowance: a kind below a node, a node below a rule, a rule below what has
 -- something inside.
 -- Assumes nothing.
-use Rattle.std.proofs.Common.{◌≡◌, suc, ◌+◌, ◌-◌, ◌*◌, length}
+use Rattle.std.proofs.Common.{suc, ◌+◌, ◌-◌, ◌*◌, length}
 use Rattle.packrat.proofs.Stars.{Rounds}
 use Rattle.packrat.specs.Model.{rounds_m}
 use Rattle.evaluator.specs.Runs.{Kept, node_run}

@@ -1,6 +1,4 @@
 use Rattle.reading.proofs.PlainReading.{start_refused, answered_reading}
-use Rattle.grammar.proofs.Acceptance.{accepted}
-use Rattle.std.proofs.Common.{refl}
 use Rattle.grammar.proofs.Refusals.{left_with}
 use Rattle.reading.proofs.plain.plain_reading.Goals as goal
 

@@ -1,4 +1,4 @@
-use Rattle.std.proofs.Common.{sym, ◌∙◌, arith}
+use Rattle.std.proofs.Common.{sym, ◌∙◌}
 use Rattle.packrat.proofs.Start.{start_met, start_refused, start_stored}
 use Rattle.grammar.proofs.Refusals.{left_with}
 use Rattle.reading.proofs.session.start_over.Goals as goal

@@ -1,7 +1,5 @@
-use Prim.Native.Nat.{◌+◌}
 use Rattle.terminals.proofs.CharacterWords.{one_of_two, two_bytes, one_of_three, three_bytes, one_of_four, four_bytes}
-use Rattle.grammar.specs.Characters.{◌to◌, is_in, tail}
-use Rattle.grammar.proofs.Terminals.{has_in_text}
+use Rattle.grammar.specs.Characters.{◌to◌}
 use native.Mathlib.Omega.{arith}
 use mathlib.Core.Path.{sym, ◌∙◌}
 use Rattle.terminals.proofs.characters.from_first.Goals as goal
@@ -16,11 +14,6 @@ returns-then-later-eq1 c =
     let a = c.args in
     two_bytes a.text.now a.at a.later (a.lowest to a.highest) c.if-later-eq1.true (sym c.has_at.ensures ∙ c.if-not-has_at.false)
 
-pub overflow_add-at-2 : goal.overflow_add-at-2
-overflow_add-at-2 c =
-    let a = c.args in
-    omega (arith, has_in_text (is_in (a.lowest to a.highest)) a.text.now (a.at + 1) (sym c.has_at.ensures ∙ c.if-not-has_at.false))
-
 pub returns-then-not-has_at-2 : goal.returns-then-not-has_at-2
 returns-then-not-has_at-2 c =
     let a = c.args in
@@ -32,11 +25,6 @@ returns-then-later-eq2 c =
     let a = c.args in
     three_bytes a.text.now a.at a.later (a.lowest to a.highest) c.if-later-eq2.true (sym c.has_at.ensures ∙ c.if-not-has_at.false)
     (sym c.has_at-2.ensures ∙ c.if-not-has_at-2.false)
-
-pub overflow_add-at-3 : goal.overflow_add-at-3
-overflow_add-at-3 c =
-    let a = c.args in
-    omega (arith, has_in_text (is_in tail) a.text.now (a.at + 2) (sym c.has_at-2.ensures ∙ c.if-not-has_at-2.false))
 
 pub returns-then-not-has_at-3 : goal.returns-then-not-has_at-3
 returns-then-not-has_at-3 c =

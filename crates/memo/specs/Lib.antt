@@ -1,0 +1,2 @@
+-- Which pairs have a slot.
+pub mod Pairs
