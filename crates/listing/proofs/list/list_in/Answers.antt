@@ -1,13 +1,13 @@
+use Rattle.grammar.proofs.Refusals.{left_with}
 use lib.ListN.{length}
 use Rattle.std.proofs.Common.{rules}
-use Rattle.listing.proofs.Gives.{exits}
 use Rattle.listing.proofs.Passes.{pass_bounded, refused, listed}
 use Rattle.listing.proofs.list.list_in.Goals as goal
 
 pub returns-in_err-list : goal.returns-in_err-list
 returns-in_err-list c =
     let a = c.args in
-    rw (exits c.from_residual.ensures.1)
+    rw (left_with c.from_residual.ensures)
     (refused (pass_bounded (length a.rows.now) a.words.now a.text.now a.table.now a.root a.start) c.list.ensures.passed c.in_err-list.was)
 
 pub returns : goal.returns
