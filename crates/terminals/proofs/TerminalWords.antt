@@ -1,5 +1,9 @@
 -- The words of a terminal that matches and of one that fails. Assumes nothing.
 use Prim.Native.Nat.{ℕ, ◌≤◌, ◌<◌}
+use native.Mathlib.Omega.{arith}
+use Rattle.std.specs.Prelude.{slice_get, Some, None}
+use Rattle.std.proofs.Common.{inl, inr}
+use Rattle.std.proofs.lemmas.Option.{slice_get_cases, slice_get_within, get_or_from_slice_get}
 use mathlib.Core.Path.{◌≡◌, sym, ap, ◌∙◌}
 use mathlib.Core.Bool.{Bool, true, false, ◌&&◌, ◌||◌, cond, and-false}
 use mathlib.Core.List.{List, []}
@@ -12,6 +16,14 @@ use Rattle.grammar.specs.Between.{between}
 use Rattle.grammar.specs.Terminal.{other_case, accepts, later_of, has_at, taken, continued, not_taken, terminal_at}
 use Rattle.grammar.proofs.Terminals.{has_not, has_there, by_byte}
 use Rattle.records.specs.Words.{word_of}
+
+-- What the one read of the text's byte says: there is none at the end, and else it is the text's.
+module _ (text : List ℕ) (at : ℕ) where
+  pub none_there : slice_get text at ≡ None → length text ≤ at
+  none_there e = elim (slice_get_cases text at).1 [ inl w ↦ absurd (let z : ◌≡◌ {A = ℕ} 0 1 = cc (e, w.3) in omega arith) | inr w ↦ w.0 ]
+
+  pub byte_there : {byte : ℕ} → slice_get text at ≡ Some byte → (at < length text) × (byte ≡ byte_at text at)
+  byte_there {byte} e = (slice_get_within text at byte e, sym (get_or_from_slice_get text at byte 0 e))
 
 module _ (t : Terminal) (text : List ℕ) (p : ℕ) where
   -- By the test of the first byte.

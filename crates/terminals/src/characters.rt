@@ -23,10 +23,10 @@ const ONE_OF_FOUR: u64 = ONE_OF_THREE + records::ONE_EXAMINED;
 fn has_at(text: &[u8], lowest: usize, highest: usize, place: usize) -> bool
     ensures { result ≡ has_at (is_in (lowest to highest)) text.now place }
 {
-    let Some(&byte) = text.get(place) else {
+    let Some(byte) = crate::byte_at(text, place) else {
         return false;
     };
-    crate::is_between(lowest, highest, usize::from(byte))
+    crate::is_between(lowest, highest, byte)
 }
 
 // From the first byte on, which has so many later bytes: the next one is from `lowest` to `highest`, the others from 0x80 to 0xBF.
@@ -82,8 +82,8 @@ pub fn is_ascii(text: &[u8], at: usize) -> bool
 pub fn any_character(text: &[u8], at: usize) -> u64
     ensures { result ≡ word_of (terminal_at Any text.now at) }
 {
-    let Some(&first) = text.get(at) else {
+    let Some(first) = crate::byte_at(text, at) else {
         return crate::NO_BYTE;
     };
-    by_first(text, usize::from(first), at)
+    by_first(text, first, at)
 }

@@ -3,7 +3,7 @@
 
 pub mod characters;
 
-ghost use Rattle.std.specs.Prelude.{◌≡◌};
+ghost use Rattle.std.specs.Prelude.{◌≡◌, slice_get};
 ghost use Rattle.grammar.specs.declared.node.Terminal.TheVariants.{Range, Folded};
 ghost use Rattle.grammar.specs.Between.{between};
 ghost use Rattle.grammar.specs.Terminal.{other_case, terminal_at};
@@ -16,6 +16,15 @@ pub const ONE_BYTE: u64 = records::HELD_MATCHED + records::ONE_NESTING + records
 
 const NO_BYTE: u64 = records::HELD + records::ONE_NESTING + records::ONE_EXAMINED;
 
+// The byte at a position of the text, none at its end: "A text has n bytes, positions 0 to n; position n is the end." The terminals read
+// the text here alone.
+fn byte_at(text: &[u8], at: usize) -> Option<usize>
+    ensures { result ≡ slice_get text.now at }
+{
+    let byte = text.get(at)?;
+    Some(usize::from(*byte))
+}
+
 // Whether a byte is one of those from one to another.
 fn is_between(from: usize, to: usize, byte: usize) -> bool
     ensures { result ≡ between from to byte }
@@ -27,10 +36,10 @@ fn is_between(from: usize, to: usize, byte: usize) -> bool
 pub fn byte_between(text: &[u8], from: usize, to: usize, at: usize) -> u64
     ensures { result ≡ word_of (terminal_at (Range from to) text.now at) }
 {
-    let Some(&byte) = text.get(at) else {
+    let Some(byte) = byte_at(text, at) else {
         return NO_BYTE;
     };
-    if is_between(from, to, usize::from(byte)) {
+    if is_between(from, to, byte) {
         ONE_BYTE
     } else {
         NO_BYTE
@@ -54,10 +63,9 @@ fn other_case(byte: usize) -> usize
 pub fn byte_folded(text: &[u8], from: usize, to: usize, at: usize) -> u64
     ensures { result ≡ word_of (terminal_at (Folded from to) text.now at) }
 {
-    let Some(&byte) = text.get(at) else {
+    let Some(byte) = byte_at(text, at) else {
         return NO_BYTE;
     };
-    let byte = usize::from(byte);
     if is_between(from, to, byte) | is_between(from, to, other_case(byte)) {
         ONE_BYTE
     } else {
