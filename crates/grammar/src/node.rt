@@ -16,7 +16,11 @@ impl Terminal {
     pub fn range(zero_bits: usize, from: usize, to: usize) -> Terminal
         ensures { result ≡ range_by zero_bits from to }
     {
-        if zero_bits % 2 == 1 { Terminal::Folded(from, to) } else { Terminal::Range(from, to) }
+        if zero_bits % 2 == 1 {
+            Terminal::Folded(from, to)
+        } else {
+            Terminal::Range(from, to)
+        }
     }
 }
 

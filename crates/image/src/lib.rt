@@ -27,7 +27,11 @@ pub struct Rule {
 fn byte_at(bytes: &[u8], at: usize) -> usize
     ensures { (result ≡ byte_at bytes.now at) × (result < 256) }
 {
-    if at < bytes.len() { usize::from(bytes[at]) } else { 0 }
+    if at < bytes.len() {
+        usize::from(bytes[at])
+    } else {
+        0
+    }
 }
 
 // The two bytes from a place on as a number, the first byte highest.

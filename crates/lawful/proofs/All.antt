@@ -55,9 +55,10 @@ pub told_below :
     → TestTells (λ x. x) g f P
     → IsTrue r ↔ ((k : ℕ) → k < n → P k)
 told_below u f r n P e ran tells =
-    let t = told_all u f r 0 P ran (YieldsList-from_range 0 n n e (omega arith)) tells in
-    ((λ is k l. rw (at_place k l) at (t.0 is k (omega (arith, l, length-range_with_len 0 n)))),
-    (λ h. t.1 (λ k l. let m : k < n = omega (arith, l, length-range_with_len 0 n) in rw (at_place k m) (h k m))))
+    let t = told_all u f r 0 P ran (YieldsList-from_range 0 n n e (omega arith)) tells in (
+      (λ is k l. rw (at_place k l) at (t.0 is k (omega (arith, l, length-range_with_len 0 n)))),
+      (λ h. t.1 (λ k l. let m : k < n = omega (arith, l, length-range_with_len 0 n) in rw (at_place k m) (h k m))),
+    )
   where
     at_place : (k : ℕ) → k < n → slice_index_or (range_with_len 0 n) k 0 ≡ k
     at_place k l = get_or-range_with_len 0 n k 0 l ∙ omega arith
@@ -71,6 +72,7 @@ pub told_front :
     → IsTrue r ↔ ((k : ℕ) → k < n → P (slice_index_or xs k d))
 told_front u f r n xs d P h e ran tells =
     let t = told_all u f r d P ran (YieldsList-from_slice (take n xs) e) tells in
-    let long = length-take-le n xs h in
-    ((λ is k l. rw (get_or-take n xs k d l) at (t.0 is k (omega (arith, l, long)))),
-    (λ h. t.1 (λ k l. let m : k < n = omega (arith, l, long) in rw (get_or-take n xs k d m) (h k m))))
+    let long = length-take-le n xs h in (
+      (λ is k l. rw (get_or-take n xs k d l) at (t.0 is k (omega (arith, l, long)))),
+      (λ h. t.1 (λ k l. let m : k < n = omega (arith, l, long) in rw (get_or-take n xs k d m) (h k m))),
+    )

@@ -105,27 +105,27 @@ module _ (rules root : ℕ) (text : List ℕ) (nodes : Evaluator) (left rule at 
     stores o = bind o (λ x u d. out (answered x) (set u (slot_of rules rule at) (word_of x)) ((d + 1) % 2 ^ 64))
 
     module _ (short : length text ≤ 65535) (most : left ≤ 4096) (e : is_held word ≡ false) {d : ℕ} {u : List ℕ} where
-        pub rule_refused :
-            {r : Refusal}
-            → Gives (length text) at left (nodes root at t c) (Err r) u d
-            → Gives (length text) at left (pair_m rules root text nodes left rule at t c) (Err r) u d
-        unfolding looked stores
-        rule_refused g = gives_refusal (looks e ∙ ap stores (was_refused short most g))
+      pub rule_refused :
+          {r : Refusal}
+          → Gives (length text) at left (nodes root at t c) (Err r) u d
+          → Gives (length text) at left (pair_m rules root text nodes left rule at t c) (Err r) u d
+      unfolding looked stores
+      rule_refused g = gives_refusal (looks e ∙ ap stores (was_refused short most g))
 
-        pub rule_stored :
-            {r : ℕ}
-            → Gives (length text) at left (nodes root at t c) (Ok r) u d
-            → Gives (length text) at left (pair_m rules root text nodes left rule at t c) (Ok r) (set u (slot_of rules rule at) r) ((d + 1) % 2 ^ 64)
-        unfolding looked stores
-        rule_stored g =
-            let v = found short most g in
-            gives_value v.value
-            (looks e
-            ∙ ap stores v.is
-            ∙ ap (λ (w : ℕ). out (answered v.value) (set u (slot_of rules rule at) w) ((d + 1) % 2 ^ 64)) (sym v.word_is))
-            v.word_is
-            v.bounds.shape
-            v.bounds.allowed
+      pub rule_stored :
+          {r : ℕ}
+          → Gives (length text) at left (nodes root at t c) (Ok r) u d
+          → Gives (length text) at left (pair_m rules root text nodes left rule at t c) (Ok r) (set u (slot_of rules rule at) r) ((d + 1) % 2 ^ 64)
+      unfolding looked stores
+      rule_stored g =
+          let v = found short most g in
+          gives_value v.value
+          (looks e
+          ∙ ap stores v.is
+          ∙ ap (λ (w : ℕ). out (answered v.value) (set u (slot_of rules rule at) w) ((d + 1) % 2 ^ 64)) (sym v.word_is))
+          v.word_is
+          v.bounds.shape
+          v.bounds.allowed
 
 module _ {n : ℕ} (ws text : List ℕ) (left : ℕ) where
   -- A node: without an allowance, and with one.

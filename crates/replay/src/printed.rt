@@ -19,11 +19,7 @@ impl fmt::Display for Shown<OpenAnswer> {
 impl fmt::Display for Shown<EditAnswer> {
     fn fmt<W: fmt::Write>(&self, f: &mut fmt::Formatter<W>) -> fmt::Result {
         match self.0 {
-            Ok(sheet) => write!(
-                f,
-                "length {}, standing {}",
-                sheet.length, sheet.standing
-            ),
+            Ok(sheet) => write!(f, "length {}, standing {}", sheet.length, sheet.standing),
             Err(refusal) => write!(f, "refused {refusal}"),
         }
     }

@@ -11,6 +11,7 @@ returns c =
     let is = c.header_of-header.ensures.its_nodes in
     let roots = c.tally_roots.ensures.all_rules in
     let all = c.tally_children.ensures.all_nodes in
-    let t = told_front _ _ _ (nodes img) _ 0 (λ k. k ≡ 1) (omega (arith, few, c.tally_children.array_long)) (rw is at c.iter.ensures.rest) c.all.ensures.ran (λ x b q k. search rules) in
-    ((λ yes. record { once = λ n l. once_of_count img _ _ 1024 n roots all (t.0 yes n l) }),
-    (λ q. t.1 (λ n l. count_of_once img _ _ 1024 n roots all (q.once n l))))
+    let t = told_front _ _ _ (nodes img) _ 0 (λ k. k ≡ 1) (omega (arith, few, c.tally_children.array_long)) (rw is at c.iter.ensures.rest) c.all.ensures.ran (λ x b q k. search rules) in (
+      (λ yes. record { once = λ n l. once_of_count img _ _ 1024 n roots all (t.0 yes n l) }),
+      (λ q. t.1 (λ n l. count_of_once img _ _ 1024 n roots all (q.once n l))),
+    )
