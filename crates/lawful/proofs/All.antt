@@ -1,8 +1,8 @@
 -- What `all` tells of the items that an iterator gives, by a test that tells P of each; of the numbers below n, and of the front of a slice.
 -- Assumes nothing.
-use Rattle.std.proofs.Common.{ℕ, ◌≡◌, ◌+◌, ◌-◌, ◌<◌, ◌≤◌, ◌↔◌, Bool, true, false, List, length, take, IsTrue, slice_index_or, arith, refl, sym, ◌∙◌}
+use Rattle.std.proofs.Common.{ℕ, ◌≡◌, ◌<◌, ◌≤◌, ◌↔◌, Bool, true, false, List, length, take, IsTrue, slice_index_or, arith, refl, sym, ◌∙◌}
 use mathlib.Core.Bool.{true≢false}
-use Rattle.std.specs.Prelude.{Option, None, MatchOption, MatchBool}
+use Rattle.std.specs.Prelude.{Option, MatchOption, MatchBool}
 use Rattle.std.specs.Fn.{Called}
 use Rattle.std.specs.List.{range_with_len, FoldsTo, AllWithin, HoldsAt}
 use Rattle.std.specs.Iterator.{YieldsThen}

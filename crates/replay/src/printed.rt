@@ -1,6 +1,5 @@
 // How answers are printed.
 use promises::{EditAnswer, ListAnswer, LookUpAnswer, OpenAnswer, ReadAnswer, SheetReading};
-use reading::plain::Outcome;
 use std::fmt;
 
 // An answer, or a part of one, as it is printed.
@@ -25,16 +24,6 @@ impl fmt::Display for Shown<EditAnswer> {
     }
 }
 
-impl fmt::Display for Shown<Outcome> {
-    fn fmt<W: fmt::Write>(&self, f: &mut fmt::Formatter<W>) -> fmt::Result {
-        match self.0 {
-            Outcome::Nothing => write!(f, "none"),
-            Outcome::Part => write!(f, "part"),
-            Outcome::Whole => write!(f, "whole"),
-        }
-    }
-}
-
 impl fmt::Display for Shown<SheetReading> {
     fn fmt<W: fmt::Write>(&self, f: &mut fmt::Formatter<W>) -> fmt::Result {
         let SheetReading {
@@ -46,8 +35,7 @@ impl fmt::Display for Shown<SheetReading> {
         } = self.0;
         write!(
             f,
-            "{}, length {length}, examined {examined}, nesting {nesting}, evaluations {evaluations}",
-            Shown(outcome)
+            "{outcome}, length {length}, examined {examined}, nesting {nesting}, evaluations {evaluations}"
         )
     }
 }

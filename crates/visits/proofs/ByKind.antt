@@ -7,8 +7,8 @@ use mathlib.Core.List.{List}
 use lib.ListN.{get_or}
 use Rattle.grammar.specs.declared.node.NodeFields.{NodeFields}
 use Rattle.grammar.specs.declared.node.Node.{Node}
-use Rattle.grammar.specs.Image.{root, fields_at, kind, field_a, field_b, node}
-use Rattle.grammar.proofs.Nodes.{is_empty, is_any, is_range, is_sequence, is_choice, is_star, is_not, is_call, is_unlawful}
+use Rattle.grammar.specs.Image.{fields_at, kind, node}
+use Rattle.grammar.proofs.Nodes.{is_empty, is_any, is_range, is_sequence, is_choice, is_star, is_not, is_call}
 use Rattle.image.specs.Linked.{Linked}
 use Rattle.visits.specs.Sets.{set_of_kind}
 use Rattle.rounds.specs.Visits.{gathered}

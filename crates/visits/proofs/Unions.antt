@@ -1,5 +1,5 @@
 -- The outcomes of either set, bit by bit. Assumes nothing.
-use Rattle.std.proofs.Common.{ℕ, ◌≡◌, ◌%◌, ◌/◌, ◌<◌, List, [], refl, sym, ap, ◌∙◌, arith, get_or, bit_or}
+use Rattle.std.proofs.Common.{ℕ, ◌≡◌, ◌%◌, ◌<◌, List, [], refl, sym, ap, ◌∙◌, arith, get_or, bit_or}
 use lib.Dec.{eqb}
 use Rattle.grammar.specs.Outcomes.{Outcome, matches_empty, consumes, fails}
 use Rattle.rounds.specs.Sets.{bit, pack, union}

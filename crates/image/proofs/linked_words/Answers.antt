@@ -1,8 +1,7 @@
-use Rattle.std.proofs.Common.{ℕ, List, ◌≡◌, ◌+◌, ◌-◌, ◌<◌, ◌≤◌, arith, length, ap, ◌∙◌, replicate}
+use Rattle.std.proofs.Common.{ℕ, List, ◌≡◌, ◌+◌, ◌-◌, arith, length, ap, ◌∙◌, replicate}
 use Rattle.std.proofs.lemmas.List.{get_or_append_left, get_or-append_right, get_or-drop, length-take-le}
 use lib.ListN.{length-replicate}
 use Rattle.grammar.proofs.Writes.{next_written, all_the_same}
-use Rattle.grammar.specs.Image.{nodes}
 use Rattle.image.specs.Linked.{linked_from, linked_word}
 use Rattle.image.proofs.linked_words.Goals as goal
 

@@ -1,8 +1,7 @@
-use Rattle.std.proofs.Common.{◌≡◌, ℕ, ◌-◌, ◌<◌, ◌≤◌, length, arith, refl, sym, ap, ◌∙◌}
+use Rattle.std.proofs.Common.{ℕ, ◌-◌, length, arith, refl, sym, ◌∙◌}
 use Rattle.std.proofs.lemmas.List.{take_all}
 use Rattle.grammar.proofs.Writes.{next_written}
 use Rattle.rounds.proofs.Orders.{descending_array}
-use Rattle.rounds.specs.Order.{descending}
 use Rattle.checker.proofs.order.count_down.Goals as goal
 
 pub loop-i-init : goal.loop-i-init

@@ -1,4 +1,4 @@
-use Rattle.std.proofs.Common.{◌≡◌, ◌<◌, ◌≤◌, arith, rules}
+use Rattle.std.proofs.Common.{◌≡◌, arith, rules}
 use Rattle.grammar.specs.Image.{nodes}
 use Rattle.lawful.proofs.All.{told_front}
 use Rattle.lawful.proofs.Tallies.{once_of_count, count_of_once}

@@ -1,5 +1,3 @@
-use mathlib.Core.Path.{◌∙◌}
-use native.Mathlib.Omega.{arith}
 use Rattle.lawful.proofs.InRange.{two_below, one_below, two_children, one_child, no_child}
 use Rattle.lawful.proofs.Tallies.{tallied_none, tallied_more}
 use Rattle.lawful.proofs.once.tally_children_of.Goals as goal
