@@ -57,57 +57,67 @@ fn of_reading(found: SheetReading, value: u64) -> Fields
     }
 }
 
-pub fn of_open(answer: OpenAnswer) -> Fields
-    ensures { result ≡ open_fields answer }
-{
-    match answer {
-        Ok(length) => Fields {
-            length: length as u64,
-            ..Fields::NONE
-        },
-        Err(refusal) => Fields::from(refusal),
+impl From<OpenAnswer> for Fields {
+    ghost from_gives = { λ a f. f ≡ open_fields a };
+
+    fn from(answer: OpenAnswer) -> Fields {
+        match answer {
+            Ok(length) => Fields {
+                length: length as u64,
+                ..Fields::NONE
+            },
+            Err(refusal) => Fields::from(refusal),
+        }
     }
 }
 
-pub fn of_edit(answer: EditAnswer) -> Fields
-    ensures { result ≡ edit_fields answer }
-{
-    match answer {
-        Ok(sheet) => Fields {
-            length: sheet.length as u64,
-            value: sheet.standing as u64,
-            ..Fields::NONE
-        },
-        Err(refusal) => Fields::from(refusal),
+impl From<EditAnswer> for Fields {
+    ghost from_gives = { λ a f. f ≡ edit_fields a };
+
+    fn from(answer: EditAnswer) -> Fields {
+        match answer {
+            Ok(sheet) => Fields {
+                length: sheet.length as u64,
+                value: sheet.standing as u64,
+                ..Fields::NONE
+            },
+            Err(refusal) => Fields::from(refusal),
+        }
     }
 }
 
-pub fn of_look_up(answer: LookUpAnswer) -> Fields
-    ensures { result ≡ look_up_fields answer }
-{
-    match answer {
-        Ok(word) => Fields {
-            value: word,
-            ..Fields::NONE
-        },
-        Err(refusal) => Fields::from(refusal),
+impl From<LookUpAnswer> for Fields {
+    ghost from_gives = { λ a f. f ≡ look_up_fields a };
+
+    fn from(answer: LookUpAnswer) -> Fields {
+        match answer {
+            Ok(word) => Fields {
+                value: word,
+                ..Fields::NONE
+            },
+            Err(refusal) => Fields::from(refusal),
+        }
     }
 }
 
-pub fn of_read(answer: ReadAnswer) -> Fields
-    ensures { result ≡ read_fields answer }
-{
-    match answer {
-        Ok(found) => of_reading(found, 0),
-        Err(refusal) => Fields::from(refusal),
+impl From<ReadAnswer> for Fields {
+    ghost from_gives = { λ a f. f ≡ read_fields a };
+
+    fn from(answer: ReadAnswer) -> Fields {
+        match answer {
+            Ok(found) => of_reading(found, 0),
+            Err(refusal) => Fields::from(refusal),
+        }
     }
 }
 
-pub fn of_list(answer: ListAnswer) -> Fields
-    ensures { result ≡ list_fields answer }
-{
-    match answer {
-        Ok(listing) => of_reading(listing.reading, listing.rows as u64),
-        Err(refusal) => Fields::from(refusal),
+impl From<ListAnswer> for Fields {
+    ghost from_gives = { λ a f. f ≡ list_fields a };
+
+    fn from(answer: ListAnswer) -> Fields {
+        match answer {
+            Ok(listing) => of_reading(listing.reading, listing.rows as u64),
+            Err(refusal) => Fields::from(refusal),
+        }
     }
 }

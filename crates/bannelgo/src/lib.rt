@@ -38,7 +38,7 @@ pub extern "C" fn bannelgo_open(
 ) -> Fields
     ensures { CodedOpen image.now text.now buffer.old table.old result buffer.new table.new }
 {
-    fields::of_open(sheet::open::open(image, text, buffer, table))
+    Fields::from(sheet::open::open(image, text, buffer, table))
 }
 
 #[unsafe(no_mangle)]
@@ -53,14 +53,14 @@ pub extern "C" fn bannelgo_edit(
 ) -> Fields
     ensures { CodedEdit image.now buffer.old n table.old start end replacement.now result buffer.new table.new }
 {
-    fields::of_edit(sheet::edit::edit(image, buffer, n, table, start, end, replacement))
+    Fields::from(sheet::edit::edit(image, buffer, n, table, start, end, replacement))
 }
 
 #[unsafe(no_mangle)]
 pub extern "C" fn bannelgo_read(image: &[u8], buffer: &[u8], n: usize, table: &mut [u64]) -> Fields
     ensures { CodedRead image.now buffer.now n table.old result table.new }
 {
-    fields::of_read(sheet::read::read_sheet(image, buffer, n, table))
+    Fields::from(sheet::read::read_sheet(image, buffer, n, table))
 }
 
 #[unsafe(no_mangle)]
@@ -74,7 +74,7 @@ pub extern "C" fn bannelgo_look_up(
 ) -> Fields
     ensures { CodedLookUp image.now buffer.now n table.now rule position result }
 {
-    fields::of_look_up(sheet::look_up::look_up(image, buffer, n, table, rule, position))
+    Fields::from(sheet::look_up::look_up(image, buffer, n, table, rule, position))
 }
 
 #[unsafe(no_mangle)]
@@ -87,5 +87,5 @@ pub extern "C" fn bannelgo_list(
 ) -> Fields
     ensures { CodedList image.now buffer.now n table.old rows.old result table.new rows.new }
 {
-    fields::of_list(sheet::list::list_sheet(image, buffer, n, table, rows))
+    Fields::from(sheet::list::list_sheet(image, buffer, n, table, rows))
 }
