@@ -1,4 +1,4 @@
-// The well-formed set, and question 7: "Is every node in the well-formed set?"
+// The well-formed set, and question 7: "Is every node in the well-formed set?" There is no heap: 1,024 is the most nodes.
 ghost use Rattle.std.specs.Prelude.{◌≡◌, ◌↔◌, IsTrue};
 ghost use Rattle.grammar.specs.Image.{nodes};
 ghost use Rattle.grammar.specs.Questions.{Question7};

@@ -1,5 +1,5 @@
 // The order in which a round visits the nodes. Children stand above their parents, so from the highest node down a round learns a
-// whole tree at once.
+// whole tree at once. There is no heap: 1,024 is the most nodes.
 ghost use Rattle.std.specs.Prelude.{◌≤◌, ◌≡◌, length, take};
 ghost use Rattle.grammar.specs.Image.{nodes};
 ghost use Rattle.grammar.specs.Questions.{Question2};

@@ -1,4 +1,4 @@
-// The outcome sets of all nodes, and question 6: "Does every star's body lack outcome 0?"
+// The outcome sets of all nodes, and question 6: "Does every star's body lack outcome 0?" There is no heap: 1,024 is the most nodes.
 ghost use Rattle.std.specs.Prelude.{◌<◌, ◌≡◌, ◌↔◌, IsTrue};
 ghost use Rattle.grammar.specs.Image.{nodes};
 ghost use Rattle.grammar.specs.Questions.{Question6};

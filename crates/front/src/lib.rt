@@ -24,7 +24,7 @@ fn keep_rows(part: &mut [u64], rules: usize, rows: usize, s: usize) -> usize
 }
 
 // Piece by piece, each of as many rows as the first size says. Where a scan shows that every word of a piece stays, nothing is stored;
-// any other piece is cut by the sizes after the first, and with none left row by row.
+// any other piece is cut by the sizes after the first, and with none left row by row. Pieces are cut out by index, as rows are.
 fn keep_pieces(part: &mut [u64], rules: usize, rows: usize, s: usize, sizes: &[usize]) -> usize
     requires { (1 ≤ rules) × (rows ≤ s) × (length part.old ≡ rows * rules) × All (λ size. 1 ≤ size) sizes.now }
     ensures { KeptRows rules s 0 part.old part.new (rows * rules) result }

@@ -25,7 +25,8 @@ impl Terminal {
 }
 
 // "Kinds: 0 empty; 1 any byte; 2 byte from A to B inclusive; 3 A then B; 4 A, else B; 5 A zero or more times; 6 not A; 7 call of rule A."
-// A number in a node is a child node, or the called rule; `Unlawful` is a kind above 7.
+// A number in a node is a child node, or the called rule. `Unlawful` is a kind above 7: the definitions give a meaning to every word, so
+// that reading one can't fail.
 #[derive(Clone, Copy, Debug, PartialEq, Eq)]
 pub enum Node {
     Empty,
@@ -63,6 +64,7 @@ impl From<NodeFields> for Node {
             6 => Node::NotPredicate(a),
             7 => Node::Call(a),
             8..=15 => Node::Unlawful,
+            // A kind has four bits.
             _ => Node::Unlawful,
         }
     }

@@ -121,7 +121,7 @@ pub fn node_of(word: u32) -> NodeFields
     }
 }
 
-// The first byte of a node's word: "kind 4, zero 4".
+// The first byte of a node's word: "kind 4, zero 4". The evaluator asks it where the kind alone is enough.
 pub fn first_byte(word: u32) -> usize
     ensures { result ≡ word / 2 ^ 24 }
 {

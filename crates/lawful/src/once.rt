@@ -1,4 +1,4 @@
-// Question 5: "Does each node occur exactly once among roots and children?"
+// Question 5: "Does each node occur exactly once among roots and children?" There is no heap: 1,024 is the most nodes.
 ghost use Rattle.std.specs.Prelude.{◌<◌, ◌≡◌, ◌↔◌, [], ◌∷◌, IsTrue};
 ghost use Rattle.grammar.specs.Image.{node, nodes, children};
 ghost use Rattle.grammar.specs.Questions.{Question2, Question4, Question5};

@@ -29,7 +29,7 @@ fn child_lawful(image: &[u8], n: usize, field: usize) -> bool
     n < field && field < header.nodes
 }
 
-// The zero bits of a node's word, of which kind 2 may have the fold bit.
+// The zero bits of a node's word, of which kind 2 may have the fold bit. The kind is a number as in `node_lawful`.
 fn zero_bits_lawful(kind: usize, zero: usize) -> bool
     ensures { IsTrue result ↔ ZeroBits kind zero }
 {

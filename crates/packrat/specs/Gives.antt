@@ -1,6 +1,6 @@
 -- What a function of the evaluator promises: its answer, the table and the count are the model's, and an evaluation is in its bounds.
 use Rattle.grammar.specs.declared.refusal.Refusal.{Refusal}
-use Rattle.std.specs.Prelude.{ℕ, ◌≤◌, ◌<◌, ◌≡◌, List, length, Result, Ok, Err}
+use Rattle.std.specs.Prelude.{ℕ, ◌≤◌, ◌≡◌, List, length, Result, Ok, Err}
 use Rattle.grammar.specs.declared.Evaluation.{Evaluation}
 use Rattle.evaluation.specs.Within.{Within}
 use Rattle.records.specs.Words.{word_of}

@@ -8,7 +8,7 @@ use evaluator::Run;
 use grammar::Refusal;
 use records::Record;
 
-// Its word, or a refusal; `count` goes up by the pairs that are evaluated.
+// Its word, or a refusal. `count` goes up by the pairs that are evaluated, in a run that is refused too.
 pub fn start_body(
     image: &[u8],
     text: &[u8],

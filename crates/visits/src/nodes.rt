@@ -9,7 +9,8 @@ ghost use Rattle.visits.specs.Sets.{SetTable, OnlySets};
 use crate::{sets, table};
 use grammar::{Node, NodeFields};
 
-// The image with its nodes' words, in which a call's B is the root of its rule, and the outcome sets by kind.
+// The image with its nodes' words, in which a call's B is the root of its rule, and the outcome sets by kind. There is no
+// heap: 1,024 is the most nodes.
 #[derive(Drop)]
 pub struct Nodes<'a> {
     pub image: &'a [u8],

@@ -1,4 +1,5 @@
-// The outcome sets of a node by its kind, from the sets of its A and B: a visit looks one entry up, with no branch on the kind.
+// The outcome sets of a node by its kind, from the sets of its A and B: a visit looks one entry up. With a branch by
+// kind the check of the worst-order image missed its bar (docs/BENCHMARKS.md).
 ghost use Rattle.std.specs.Prelude.{◌<◌, ◌≡◌};
 ghost use Rattle.visits.specs.Sets.{set_of_kind, SetTable};
 
