@@ -2,7 +2,7 @@
 // as 0. Which bits are which field is said in the crate `grammar`, specs/Image.antt.
 #![tactic(auto)]
 
-ghost use Rattle.std.specs.Prelude.{◌≡◌, ◌/◌, ◌^◌, ◌<◌, ◌≤◌};
+ghost use Rattle.std.specs.Prelude.{◌≡◌, ◌/◌, ◌^◌, ◌<◌, ◌≤◌, length, replicate};
 ghost use Rattle.grammar.specs.Image.{nodes, byte_at, word16, word32, node_word, fields_of, fields_at, node};
 ghost use Rattle.image.specs.Fields.{HeaderFields, RuleFields, SameFields};
 ghost use Rattle.image.specs.Linked.{linked_from, LinkedWords};
@@ -159,15 +159,13 @@ pub fn linked_word(image: &[u8], word: u32) -> u32
     (word as usize / 4096 * 4096 + body.root) as u32
 }
 
-// The nodes' linked words in an array of N places, 0 in those past the last node.
-pub fn linked_words<const N: usize>(image: &[u8]) -> [u32; N]
-    requires { nodes image.now ≤ N }
-    ensures { LinkedWords image.now result }
+// The nodes' linked words, in a slice of zeros; 0 stays in the places past the last node.
+pub fn link_words(image: &[u8], words: &mut [u32])
+    requires { (nodes image.now ≤ length words.old) × (words.old ≡ replicate (length words.old) 0) }
+    ensures { LinkedWords image.now words.new }
 {
     let header = header_of(image);
-    let mut words = [0u32; N];
     for (n, word) in words[..header.nodes].iter_mut().enumerate() {
         *word = linked_word(image, node_word(image, n));
     }
-    words
 }

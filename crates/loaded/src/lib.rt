@@ -10,7 +10,8 @@ pub fn load(image: &[u8]) -> [u32; 4097]
     requires { Lawful image.now }
     ensures { Loaded image.now result }
 {
-    let mut words = image::linked_words::<4097>(image);
+    let mut words = [0u32; 4097];
+    image::link_words(image, &mut words);
     words[4096] = image::header_of(image).rules as u32;
     words
 }

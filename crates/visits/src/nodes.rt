@@ -29,10 +29,12 @@ impl<'a> Nodes<'a> {
         ensures { result.image.now ≡ image.now }
     {
         let header = image::header_of(image);
+        let mut words = [0u32; 1024];
+        image::link_words(image, &mut words);
         Nodes {
             image,
             count: header.nodes,
-            words: image::linked_words(image),
+            words,
             table,
         }
     }
