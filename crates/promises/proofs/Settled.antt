@@ -13,7 +13,7 @@ use Rattle.packrat.specs.Over.{word_at}
 use Rattle.editing.specs.Text.{new_length}
 use Rattle.editing.specs.Table.{table_size, TableLent}
 use Rattle.editing.proofs.Loans.{cleared_tail}
-use Rattle.promises.specs.Answers.{LookUpAnswer, sheet_reading}
+use Rattle.promises.specs.Answers.{sheet_reading}
 use Rattle.promises.specs.Questions.{Question9, Question10, Question11}
 use Rattle.promises.specs.Promises.{OpenedSheet, LookUpValues}
 

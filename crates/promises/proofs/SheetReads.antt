@@ -41,7 +41,7 @@ use Rattle.packrat.specs.Session.{start_run}
 use Rattle.editing.specs.Table.{table_size, TableLent, cleared_table}
 use Rattle.editing.proofs.Loans.{cleared_long, cleared_tail}
 use Rattle.promises.specs.declared.SheetReading.{SheetReading}
-use Rattle.promises.specs.Answers.{ReadAnswer, sheet_reading}
+use Rattle.promises.specs.Answers.{sheet_reading}
 use Rattle.promises.specs.Questions.{Question8, of_sheet}
 use Rattle.promises.specs.Reading.{NotForeign, AnswersWith, SheetRead, ReadPromise}
 use Rattle.promises.specs.Run.{answer_of, words_of}

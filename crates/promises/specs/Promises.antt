@@ -2,7 +2,7 @@
 -- buffer B, whose length is cap, and the words W; it leaves B' and W'. "A refusal returns its number only and leaves all buffers".
 use Rattle.grammar.specs.Refusals.{number_in}
 use Rattle.std.specs.Prelude.{Ok, Err}
-use Rattle.std.specs.Prelude.{ℕ, ◌≤◌, ◌≡◌, List, length}
+use Rattle.std.specs.Prelude.{ℕ, ◌≡◌, List, length}
 use Rattle.grammar.specs.Image.{rules}
 use Rattle.grammar.specs.Questions.{First}
 use Rattle.packrat.specs.Over.{word_at}
