@@ -39,21 +39,20 @@ pub before :
 before p q i t c kept e g = rw (sym kept.1, sym kept.2, sym e) g
 
 pub kept_on : (p q s : Run) → Kept p q → Kept q s → Kept p s
-kept_on p q s k l = (l.0 ∙ k.0, l.1 ∙ k.1, l.2 ∙ k.2, l.3 ∙ k.3)
+kept_on p q s k l = (l.0 ∙ k.0, l.1 ∙ k.1, l.2 ∙ k.2)
 
 -- So it finds the run ready for what is evaluated inside, at a place of the text.
 pub ready_after :
     (p q : Run) {at next left : ℕ} → Kept p q → Ready p at (left + 1) → next ≤ length p.text.now → Ready q next left
 ready_after p q kept ready here =
-    let pre = ready.1 in
-    let most = pre.most in
-    (kept.3 ∙ ready.0 ∙ sym (ap rules_in kept.1), record { short = rw kept.2 pre.short; here = rw kept.2 here; most = omega arith })
+    let most = ready.most in
+    record { short = rw kept.2 ready.short; here = rw kept.2 here; most = omega arith }
 
 -- The pair's word, by the number of rules that is among the words.
 pub looked_up :
-    (p : Run) (rule at : ℕ) {word : ℕ}
-    → p.rules ≡ rules_in p.words.now
-    → word ≡ get_or p.table.now (slot_of p.rules rule at) 0
+    (p : Run) (rule at : ℕ) {word rules : ℕ}
+    → rules ≡ rules_in p.words.now
+    → word ≡ get_or p.table.now (slot_of rules rule at) 0
     → word ≡ get_or p.table.now (slot_of (rules_in p.words.now) rule at) 0
 looked_up p rule at e w = w ∙ ap (λ (n : ℕ). get_or p.table.now (slot_of n rule at) 0) e
 
@@ -91,9 +90,9 @@ pub inside :
     → n ≡ m
     → Ready p at (left - 1 + 1) × Few m
 inside p word {f = f} pre same e is =
-    let ready = pre.0.1 in
+    let ready = pre.0 in
     let some = pre.1 in
     let most = ready.most in (
-      (pre.0.0, record { short = ready.short; here = ready.here; most = omega arith }),
+      record { short = ready.short; here = ready.here; most = omega arith },
       few f (omega (arith, same.its_a)) (omega (arith, same.its_b)) (sym e ∙ is),
     )

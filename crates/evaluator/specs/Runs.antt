@@ -21,14 +21,13 @@ module _ (p : Run) (left : ℕ) where
   abbrev pub rule_run : (root : ℕ) → Evaluator
   rule_run root = pair_m (rules_in p.words.now) root p.text.now node_run left
 
--- What a method may assume: the number of rules is the grammar's; a text that is short enough, a position in it, an allowance.
+-- What a method may assume: a text that is short enough, a position in it, an allowance.
 abbrev pub Ready : (p : Run) (at left : ℕ) → Type 0
-Ready p at left = (p.rules ≡ rules_in p.words.now) × packrat.Ready p.text.now at left
+Ready p at left = packrat.Ready p.text.now at left
 
 -- What a method keeps: which table is lent, the grammar and the text.
 abbrev pub Kept : (before after : Run) → Type 0
-Kept p q =
-    (q.table.ghost_name ≡ p.table.ghost_name) × (q.words.now ≡ p.words.now) × (q.text.now ≡ p.text.now) × (q.rules ≡ p.rules)
+Kept p q = (q.table.ghost_name ≡ p.table.ghost_name) × (q.words.now ≡ p.words.now) × (q.text.now ≡ p.text.now)
 
 -- What it gives: the answer of the model over the run's table and count, which are the model's after it.
 abbrev pub Gives : (before : Run) (at left : ℕ) (model : (at : ℕ) → List ℕ → ℕ → Out) (given : Result ℕ Refusal) (after : Run) → Type 0

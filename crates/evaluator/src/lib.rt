@@ -14,8 +14,6 @@ use records::Record;
 #[derive(Drop)]
 pub struct Run<'a> {
     pub words: &'a [u32; 4097],
-    // As at the end of the words.
-    pub rules: u32,
     pub text: &'a [u8],
     pub table: &'a mut [u64],
     pub count: u64,
@@ -165,7 +163,7 @@ impl<'a> Run<'a> {
         ensures kept { Kept self.old self.new }
         ensures gives { Gives self.old at left (rule_run self.old left root rule) result self.new }
     {
-        let rules = self.rules as usize;
+        let rules = loaded::rules_in(self.words);
         let table = &mut *self.table;
         let word = memo::look(table, rules, rule, at);
         if records::is_held(word) {

@@ -23,7 +23,6 @@ pub fn start_body(
     let body = image::rule_at(image, header.start);
     let mut run = Run {
         words: &words,
-        rules: words[4096],
         text,
         table,
         count: *count,
