@@ -29,7 +29,7 @@ same_row R s i a k x old mid h e l w =
     let place : s - i - (0 + x / R) ≡ s - (0 + (a + x) / R) = omega arith in
     ap₂ kept_word place (mid_at a k mid x l ∙ w)
 
-rows_more :
+pub rows_more :
     {c b : ℕ} {old mid ys : List ℕ} (R s i a k : ℕ)
     → 1 ≤ R
     → a ≡ i * R
@@ -151,15 +151,15 @@ pub piece_counts :
 piece_counts s {R = R} P e C D =
     let few = counts_fit C D in let room = P.room in let done = ap (λ (x : ℕ). x * R) P.begins in omega arith
 
--- A piece of which a scan shows that nothing is to be dropped.
-nothing_dropped :
+-- Rows of which a scan shows that nothing is to be dropped.
+pub none_dropped :
     {w : List ℕ} {limit held : ℕ} (R s rows : ℕ)
     → 1 ≤ R
     → length w ≡ rows * R
     → limit + rows ≡ s + 1
     → AllStay w limit held
     → KeptRows R s 0 w w (rows * R) held
-nothing_dropped {w} {limit} {held} R s rows h l e S =
+none_dropped {w} {limit} {held} R s rows h l e S =
     record {
       filled = kept (rows * R) (none 0) (omega arith) (omega arith) (λ j a b. sym (same j b));
       counted = S.counted ∙ ap (held_to (at w)) l ∙ held_same (at w) (kept_at R s 0 w) (rows * R) (λ j b. sym (same j b));
@@ -190,4 +190,4 @@ piece_stays {held} s mid {R} {rows} {size} {piece} {next} h o l P S =
     let fits = P.fits in
     let some = P.some in
     let long = mid_long (row * R) (row * R + next * R - row * R) mid (omega arith) in
-    nothing_dropped R (s - row) next h (omega arith) (omega arith) S
+    none_dropped R (s - row) next h (omega arith) (omega arith) S
