@@ -11,7 +11,6 @@ use lib.ListN.{length, drop}
 use Rattle.grammar.specs.Image.{rules}
 use Rattle.grammar.specs.Questions.{Accepted}
 use Rattle.editing.specs.Table.{table_size}
-use Rattle.promises.specs.Answers.{OpenAnswer}
 use Rattle.promises.specs.Questions.{Question8}
 use Rattle.promises.specs.Promises.{OpenPromise}
 use Rattle.ledger.specs.Ledger.{Evaluations, Call, edit, reading, look_up, listing, Reply, Ledger, opened_ledger, turn, replies, left_by}

@@ -3,7 +3,7 @@
 use Rattle.grammar.specs.declared.refusal.Refusal.{Refusal}
 use Rattle.grammar.specs.Refusals.{number}
 use Rattle.std.specs.Prelude.{Ok, Err}
-use Prim.Native.Nat.{ℕ, ◌≤◌}
+use Prim.Native.Nat.{ℕ}
 use mathlib.Core.Path.{◌≡◌, refl}
 use mathlib.Core.List.{List}
 use lib.ListN.{length}
@@ -12,7 +12,6 @@ use Rattle.grammar.specs.Questions.{First}
 use Rattle.packrat.specs.Over.{word_at}
 use Rattle.editing.specs.Text.{new_length, text_after, opened}
 use Rattle.editing.specs.Table.{words_after, table_after, cleared_table, held_in}
-use Rattle.promises.specs.Answers.{OpenAnswer, EditAnswer, LookUpAnswer}
 use Rattle.promises.specs.declared.EditedSheet.{EditedSheet}
 use Rattle.promises.specs.Questions.{Question9, Question10, Question11, of_sheet, of_edit, of_look_up}
 use Rattle.promises.specs.Promises.{OpenPromise, EditPromise, LookUpPromise}

@@ -6,7 +6,6 @@
 use Rattle.std.specs.Prelude.{Ok, Err}
 use Rattle.grammar.specs.declared.refusal.Refusal.TheVariants.{EditRange, EditRoom, Pair}
 use Prim.Native.Nat.{ℕ}
-use native.Mathlib.Omega.{arith}
 use mathlib.Core.Path.{◌≡◌, refl, sym, ◌∙◌}
 use mathlib.Core.Bool.{Bool, true, false, ◌&&◌, true≢false}
 use mathlib.Core.List.{List, [], ◌∷◌}
@@ -19,7 +18,7 @@ use Rattle.packrat.specs.Over.{word_at}
 use Rattle.packrat.specs.Session.{start_run}
 use Rattle.editing.specs.Text.{new_length, text_after, opened}
 use Rattle.editing.specs.Table.{words_after, table_after, cleared_table, held_in, table_size}
-use Rattle.promises.specs.Answers.{OpenAnswer, EditAnswer, LookUpAnswer}
+use Rattle.promises.specs.Answers.{EditAnswer, LookUpAnswer}
 use Rattle.promises.specs.Questions.{Question8, Question9, of_sheet}
 use Rattle.promises.specs.Promises.{OpenPromise, EditPromise, LookUpPromise}
 use Rattle.promises.specs.Run.{answer_of, words_of}

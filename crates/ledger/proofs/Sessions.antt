@@ -17,7 +17,6 @@ use Rattle.grammar.proofs.Determinism.{one}
 use Rattle.reading.specs.Plain.{TooDeep}
 use Rattle.editing.specs.Text.{opened}
 use Rattle.editing.specs.Table.{table_size, cleared_table}
-use Rattle.promises.specs.Answers.{OpenAnswer, ReadAnswer, ListAnswer}
 use Rattle.promises.specs.Promises.{OpenPromise}
 use Rattle.ledger.specs.Ledger.{Evaluations, Call, reading, listing, Reply, reads, lists, opened_ledger, replies, turn}
 use Rattle.ledger.specs.Ledger.{passes14, passes15, read_turn, list_turn}

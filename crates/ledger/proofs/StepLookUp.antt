@@ -3,7 +3,7 @@ use Rattle.grammar.specs.declared.refusal.Refusal.TheVariants.{Pair}
 use Rattle.grammar.proofs.Refusals.{number_bounds, refused_with}
 use Rattle.grammar.specs.Refusals.{number_in}
 use Rattle.std.specs.Prelude.{Ok, Err}
-use Prim.Native.Nat.{ℕ, ◌≤◌}
+use Prim.Native.Nat.{ℕ}
 use native.Mathlib.Omega.{arith}
 use mathlib.Core.Path.{◌≡◌, refl, ap, ◌∙◌}
 use mathlib.Core.Bool.{Bool, true, false}

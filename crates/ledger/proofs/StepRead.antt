@@ -4,10 +4,9 @@
 --     sheet_step   a reading that passed questions 1 to 8
 --     read_step    a reading
 use Rattle.grammar.proofs.Refusals.{refused_with}
-use Rattle.grammar.specs.Refusals.{number_in}
 use Rattle.std.specs.Prelude.{Ok, Err}
 use Rattle.grammar.specs.declared.refusal.Refusal.TheVariants.{Nesting}
-use Prim.Native.Nat.{ℕ, suc, ◌+◌, ◌≤◌, ◌<◌}
+use Prim.Native.Nat.{ℕ, ◌+◌, ◌≤◌, ◌<◌}
 use native.Mathlib.Omega.{arith}
 use mathlib.Core.Path.{◌≡◌, refl, sym, ap, ◌∙◌}
 use mathlib.Core.Bool.{Bool, true, false, cond, not, ◌&&◌, ◌||◌, true≢false}

@@ -7,7 +7,7 @@ use Rattle.std.specs.Prelude.{ℕ, ◌≡◌, Bool, true, false, List, [], ◌�
 use Rattle.grammar.specs.Questions.{Accepted}
 use Rattle.reading.specs.Plain.{PlainAnswer}
 use Rattle.reading.specs.Plain.{PlainRead}
-use Rattle.promises.specs.Answers.{OpenAnswer, ReadAnswer, ListAnswer}
+use Rattle.promises.specs.Answers.{ReadAnswer, ListAnswer}
 use Rattle.promises.specs.declared.SheetReading.{SheetReading}
 use Rattle.promises.specs.Promises.{OpenPromise}
 use Rattle.promises.specs.Reading.{ReadPromise}

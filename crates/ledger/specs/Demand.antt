@@ -9,7 +9,7 @@ use Rattle.packrat.specs.Over.{word_at}
 use Rattle.packrat.specs.True.{IsTrue}
 use Rattle.editing.specs.Text.{opened}
 use Rattle.editing.specs.Table.{table_size}
-use Rattle.promises.specs.Answers.{OpenAnswer, EditAnswer, LookUpAnswer, ReadAnswer, ListAnswer}
+use Rattle.promises.specs.Answers.{EditAnswer, LookUpAnswer, ReadAnswer, ListAnswer}
 use Rattle.promises.specs.Promises.{OpenPromise, EditPromise, LookUpPromise}
 use Rattle.promises.specs.Reading.{ReadPromise}
 use Rattle.promises.specs.Listing.{ListPromise}
