@@ -16,7 +16,6 @@ use Rattle.grammar.specs.Questions.{of_image}
 use Rattle.grammar.proofs.First.{then_asked}
 use Rattle.reading.specs.declared.plain.Outcome.{Outcome}
 use Rattle.reading.specs.declared.plain.Reading.{Reading}
-use Rattle.reading.specs.Plain.{PlainAnswer}
 use Rattle.reading.specs.Plain.{Reports, ShortText, DepthAllowed, PlainRead}
 use Rattle.promises.proofs.Asked.{image_numbers}
 use Rattle.marked.specs.Images.{dot}

@@ -27,7 +27,6 @@ use Rattle.grammar.proofs.First.{then_asked}
 use Rattle.grammar.proofs.Acceptance.{checked, accepted}
 use Rattle.grammar.proofs.Determinism.{one}
 use Rattle.reading.specs.declared.plain.Outcome.{Outcome}
-use Rattle.reading.specs.Plain.{PlainAnswer}
 use Rattle.reading.specs.Plain.{ShortText, DepthAllowed, PlainRead}
 use Rattle.ledger.specs.Sessions.{SessionSays}
 use Rattle.promises.proofs.Asked.{image_numbers}

@@ -3,7 +3,6 @@ use Rattle.std.specs.Prelude.{Ok, Err}
 use Rattle.grammar.specs.declared.refusal.Refusal.TheVariants.{EditRange, EditRoom, Nesting, Pair, Rows}
 use Rattle.std.specs.Prelude.{ℕ, List, [], ◌∷◌}
 use Rattle.reading.specs.declared.plain.Outcome.{Outcome}
-use Rattle.promises.specs.Answers.{EditAnswer, LookUpAnswer, ReadAnswer, ListAnswer}
 use Rattle.ledger.specs.Ledger.{Call, edit, reading, look_up, listing, Reply, edits, reads, finds, lists}
 
 -- A reading's reply, an edit's, and a look-up's.
