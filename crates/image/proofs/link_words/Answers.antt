@@ -1,4 +1,4 @@
-use Rattle.std.proofs.Common.{ℕ, List, ◌≡◌, ◌+◌, ◌-◌, arith, length, ap, ◌∙◌, replicate, get_or, drop}
+use Rattle.std.proofs.Common.{ℕ, List, ◌≡◌, ◌+◌, ◌-◌, arith, length, ap, ◌∙◌, get_or}
 use Rattle.std.proofs.lemmas.List.{get_or_append_left, get_or-append_right, get_or-drop, length-take-le}
 use Rattle.grammar.proofs.Writes.{next_written, all_the_same}
 use Rattle.image.specs.Linked.{linked_from, linked_word}
