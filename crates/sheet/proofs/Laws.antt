@@ -1,5 +1,5 @@
 -- What the calls leave to be shown: from what their parts gave to their promises. Assumes nothing.
-use Prim.Native.Nat.{ℕ, ◌+◌, ◌*◌, ◌≤◌, ◌<◌}
+use Prim.Native.Nat.{ℕ, ◌+◌, ◌*◌, ◌≤◌}
 use native.Mathlib.Omega.{arith}
 use native.Mathlib.Nat.{mul-le-mul}
 use mathlib.Core.Path.{◌≡◌}
@@ -9,7 +9,6 @@ use Rattle.grammar.specs.Image.{rules}
 use Rattle.grammar.specs.Questions.{Accepted}
 use Rattle.editing.specs.Table.{TableLent}
 use Rattle.promises.specs.Questions.{Question8}
-use Rattle.records.proofs.Slots.{size_up}
 
 -- The number of words of a table is far below a machine word.
 pub size_fits : (rules cap : ℕ) → rules ≤ 64 → cap ≤ 65535 → rules * (cap + 1) ≤ 4194304

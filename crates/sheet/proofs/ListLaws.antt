@@ -2,18 +2,17 @@
 --     list_refused    where the reading is refused
 --     list_rows       where it is answered and the walk wrote rows
 --     list_stopped    where it is answered and the walk stopped
-use Rattle.std.specs.Prelude.{Ok, Err, Result}
+use Rattle.std.specs.Prelude.{Ok, Err}
 use Prim.Native.Nat.{ℕ, ◌≤◌}
 use native.Mathlib.Omega.{arith}
-use mathlib.Core.Path.{◌≡◌, refl, sym, ap, ◌∙◌, subst}
-use mathlib.Core.List.{List, ◌++◌}
-use lib.ListN.{length, take, drop}
+use mathlib.Core.Path.{◌≡◌, refl, ap, ◌∙◌, subst}
+use mathlib.Core.List.{List}
+use lib.ListN.{length, take}
 use lib.Dec.{eqb}
 use lib.Seq.{length-take-le}
 use Rattle.grammar.specs.declared.refusal.Refusal.{Refusal}
 use Rattle.grammar.specs.Refusals.{number}
-use Rattle.grammar.specs.Image.{rules}
-use Rattle.grammar.specs.Questions.{First, Accepted}
+use Rattle.grammar.specs.Questions.{Accepted}
 use Rattle.packrat.specs.Model.{answered, refused, Out, out}
 use Rattle.packrat.specs.Session.{start_run}
 use Rattle.rows.specs.Walk.{start_v}
@@ -21,7 +20,7 @@ use Rattle.listing.specs.Listed.{Written, NotWritten, ListedOver}
 use Rattle.loaded.proofs.LoadedImage.{image_loaded}
 use Rattle.promises.specs.declared.SheetReading.{SheetReading}
 use Rattle.promises.specs.Answers.{ReadAnswer, ListAnswer, sheet_reading}
-use Rattle.promises.specs.Questions.{Question8, of_sheet}
+use Rattle.promises.specs.Questions.{Question8}
 use Rattle.promises.specs.Listing.{SheetListed, ListPromise}
 use Rattle.promises.specs.Run.{answer_of, words_of, stopped_words}
 use Rattle.promises.proofs.Asked.{sheet_first}

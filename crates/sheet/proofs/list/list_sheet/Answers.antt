@@ -1,4 +1,4 @@
-use Rattle.std.proofs.Common.{◌≡◌, ℕ, sym, ap, ◌∙◌, refl}
+use Rattle.std.proofs.Common.{◌≡◌, sym, ap, ◌∙◌, refl}
 use Rattle.grammar.proofs.Refusals.{left_with}
 use Rattle.promises.proofs.SheetLists.{lists_unasked}
 use denote.Enum.Bare.{sameb}

@@ -1,7 +1,6 @@
-use Rattle.std.proofs.Common.{◌≡◌, ℕ, Ok, sym, ap, ◌∙◌, ◌≤◌, length, arith}
+use Rattle.std.proofs.Common.{Ok, sym, ap, ◌∙◌, ◌≤◌, length, arith}
 use Rattle.grammar.specs.declared.Evaluation.{Evaluation}
 use Rattle.reading.specs.declared.plain.Reading.{Reading}
-use Rattle.packrat.specs.Model.{Out}
 use Rattle.packrat.proofs.Gives.{found, says}
 use Rattle.promises.specs.Answers.{sheet_reading}
 use Rattle.promises.specs.Run.{answer_of}

@@ -1,9 +1,4 @@
-use Rattle.std.proofs.Common.{◌≡◌, ℕ, sym, ap, ◌∙◌, subst, take, length, List, Err}
 use lib.Seq.{length-take-le}
-use Rattle.packrat.specs.Session.{start_run}
-use Rattle.promises.specs.Answers.{ReadAnswer}
-use Rattle.promises.specs.Reading.{ReadPromise}
-use Rattle.promises.specs.Run.{answer_of, words_of}
 use Rattle.promises.proofs.SheetReads.{reads_are, reads_unasked}
 use Rattle.grammar.proofs.Refusals.{left_with}
 use Rattle.sheet.proofs.read.read_sheet.Goals as goal
