@@ -1,7 +1,7 @@
-// What an opening and an edit store in lent slices: a stretch of bytes is moved, a text copied in, words cleared.
+// What is stored in lent slices: a stretch of bytes is moved, a text copied in, words cleared, a word put in its slot.
 #![tactic(auto)]
 
-ghost use Rattle.std.specs.Prelude.{◌+◌, ◌-◌, ◌≤◌, ◌≡◌, length, replicate};
+ghost use Rattle.std.specs.Prelude.{◌+◌, ◌-◌, ◌≤◌, ◌≡◌, length, replicate, set};
 ghost use Rattle.buffers.specs.Filled.{Filled, at};
 
 // `count` bytes go from `from` to `to`; the stretches may overlap.
@@ -25,4 +25,13 @@ pub fn clear(part: &mut [u64])
     ensures { part.new ≡ replicate (length part.old) 0 }
 {
     part.fill(0);
+}
+
+// A word goes into its slot; past the slice nothing is stored. By index: `get_mut` promises nothing of the other words.
+pub fn store(part: &mut [u64], slot: usize, word: u64)
+    ensures { part.new ≡ set part.old slot word }
+{
+    if slot < part.len() {
+        part[slot] = word;
+    }
 }

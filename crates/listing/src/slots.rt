@@ -1,5 +1,5 @@
-// Row words, row slots and windows.
-ghost use Rattle.std.specs.Prelude.{◌+◌, ◌%◌, ◌≤◌, ◌^◌, ◌≡◌, length, set};
+// Row words and windows.
+ghost use Rattle.std.specs.Prelude.{◌+◌, ◌%◌, ◌≤◌, ◌^◌, ◌≡◌, length};
 ghost use Rattle.rows.specs.Rows.{row_word};
 ghost use Rattle.rows.specs.Window.{touches};
 
@@ -19,15 +19,6 @@ impl From<Row> for u64 {
     fn from(row: Row) -> u64 {
         let calls = row.rule % 256 * 72057594037927936 + row.depth % 65536 * 4294967296;
         (calls + row.start % 65536 * 65536 + row.length % 65536) as u64
-    }
-}
-
-// A store past the slots does nothing, so counting lends none. By `get_mut` the proof doesn't close: of a slice it tells no element.
-pub fn put(rows: &mut [u64], slot: usize, word: u64)
-    ensures { rows.new ≡ set rows.old slot word }
-{
-    if slot < rows.len() {
-        rows[slot] = word;
     }
 }
 

@@ -9,7 +9,7 @@ ghost use Rattle.listing.specs.Listed.{Passed};
 
 use crate::slots::{Row, Window};
 use crate::state::Walk;
-use crate::{bytes, slots};
+use crate::bytes;
 use grammar::{Node, Refusal};
 use records::Record;
 
@@ -196,7 +196,8 @@ impl<'a> Walk<'a> {
             start: at,
             length,
         };
-        slots::put(self.rows, self.count, u64::from(row));
+        // Past the slots nothing is stored, so counting lends none.
+        buffers::store(self.rows, self.count, u64::from(row));
         self.count += 1;
         self.walk_node(root, at, window, depth + 1, left)?;
         Ok(Some(length))

@@ -32,9 +32,5 @@ pub fn put(table: &mut [u64], rules: usize, rule: usize, position: usize, word: 
     requires { IsPair rules rule position }
     ensures { table.new ≡ set table.old (slot_of rules rule position) word }
 {
-    let slot = slot_of(rules, rule, position);
-    // By index: `get_mut` promises nothing of the table after the store.
-    if slot < table.len() {
-        table[slot] = word;
-    }
+    buffers::store(table, slot_of(rules, rule, position), word);
 }

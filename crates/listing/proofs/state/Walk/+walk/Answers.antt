@@ -141,11 +141,11 @@ walk_rule-returns-then-self-clause-gives t c =
 
 pub walk_rule-returns-in_err-walk_node-clause-gives : goal.walk_rule-returns-in_err-walk_node-clause-gives
 walk_rule-returns-in_err-walk_node-clause-gives t c =
-    rule_stops c.args.self.now c.requires.0 _ _ _ _ _ c.look-word.ensures (sym c.is_held.ensures ∙ c.if-not-is_held.false) c.in-Some.ensures c.if-not-held.false (sym c.touches.ensures ∙ c.if-not-touches.false) c.if-self.false c.from.ensures (rw c.put.ensures at c.walk_node.ensures.gives) c.in_err-walk_node.was (left_with c.from_residual.ensures)
+    rule_stops c.args.self.now c.requires.0 _ _ _ _ _ c.look-word.ensures (sym c.is_held.ensures ∙ c.if-not-is_held.false) c.in-Some.ensures c.if-not-held.false (sym c.touches.ensures ∙ c.if-not-touches.false) c.if-self.false c.from.ensures (rw c.store.ensures at c.walk_node.ensures.gives) c.in_err-walk_node.was (left_with c.from_residual.ensures)
 
 pub walk_rule-returns-clause-gives : goal.walk_rule-returns-clause-gives
 walk_rule-returns-clause-gives t c =
-    rule_goes c.args.self.now c.requires.0 _ _ _ _ _ c.look-word.ensures (sym c.is_held.ensures ∙ c.if-not-is_held.false) c.in-Some.ensures c.if-not-held.false (sym c.touches.ensures ∙ c.if-not-touches.false) c.if-self.false c.from.ensures (rw c.put.ensures at c.walk_node.ensures.gives) c.in_ok-walk_node.was
+    rule_goes c.args.self.now c.requires.0 _ _ _ _ _ c.look-word.ensures (sym c.is_held.ensures ∙ c.if-not-is_held.false) c.in-Some.ensures c.if-not-held.false (sym c.touches.ensures ∙ c.if-not-touches.false) c.if-self.false c.from.ensures (rw c.store.ensures at c.walk_node.ensures.gives) c.in_ok-walk_node.was
 
 pub walk_sequence-returns-in_err-x-clause-gives : goal.walk_sequence-returns-in_err-x-clause-gives
 walk_sequence-returns-in_err-x-clause-gives t c =
