@@ -1,6 +1,7 @@
 // What the calls are lent, and the calls. What is lent is then as the call left it, also where the answer cannot be printed.
 // Each call cuts its slices itself: a function that lent them all would have to say how what is written comes back. A call that writes takes
-// all by `&mut`, also what it only reads: the check covers no `&` to what one field refers to beside a `&mut` to what another does.
+// all by `&mut`, also what it only reads: the check covers no `&` to what one field refers to beside a `&mut` to what another does. Its
+// clause `kept` names what may change, and the rest of what is lent stays.
 ghost use Rattle.std.specs.Prelude.{◌≡◌, ◌≤◌, ◌<◌, length, take, IfOk, MatchResult};
 ghost use Rattle.answered.specs.After.{rows_in};
 ghost use Rattle.promises.specs.Promises.{LookUpPromise};
@@ -70,7 +71,8 @@ impl<'a> Desk<'a> {
 
     // The image that later calls are lent.
     pub fn keep_image(&mut self, image: &[u8]) -> Result<(), LineError>
-        ensures { IfOk result (λ _. self.new.image ≡ image.now) }
+        ensures image_is { IfOk result (λ _. self.new.image ≡ image.now) }
+        ensures kept { self.new ≡ record self.old { image = self.new.image } }
     {
         if self.image.len() < image.len() {
             return Err(LineError::TooLong);
@@ -82,7 +84,8 @@ impl<'a> Desk<'a> {
 
     // How much later calls are lent.
     pub fn lend(&mut self, cap: usize, words: usize) -> Result<(), LineError>
-        ensures { IfOk result (λ _. (length self.new.buffer ≡ cap) × (length self.new.table ≡ words)) }
+        ensures lengths_are { IfOk result (λ _. (length self.new.buffer ≡ cap) × (length self.new.table ≡ words)) }
+        ensures kept { self.new ≡ record self.old { buffer = self.new.buffer; table = self.new.table } }
     {
         if self.buffer.len() < cap || self.table.len() < words {
             return Err(LineError::TooMuchLent);
@@ -93,7 +96,8 @@ impl<'a> Desk<'a> {
     }
 
     pub fn open(&mut self, text: &[u8]) -> OpenAnswer
-        ensures { Opens self.old.image text.now self.old.buffer self.old.table self.old.n self.new.n self.new.buffer self.new.table }
+        ensures opens { Opens self.old.image text.now self.old.buffer self.old.table self.old.n self.new.n self.new.buffer self.new.table }
+        ensures kept { self.new ≡ record self.old { buffer = self.new.buffer; table = self.new.table; n = self.new.n } }
     {
         let image = &mut self.image[..self.image_length];
         let buffer = &mut self.buffer[..self.cap];
@@ -104,8 +108,9 @@ impl<'a> Desk<'a> {
     }
 
     pub fn edit(&mut self, s: usize, e: usize, replacement: &[u8]) -> EditAnswer
-        ensures { Edits self.old.image self.old.buffer self.old.n self.old.table s e replacement.now
+        ensures edits { Edits self.old.image self.old.buffer self.old.n self.old.table s e replacement.now
             self.new.n self.new.buffer self.new.table }
+        ensures kept { self.new ≡ record self.old { buffer = self.new.buffer; table = self.new.table; n = self.new.n } }
     {
         let image = &mut self.image[..self.image_length];
         let buffer = &mut self.buffer[..self.cap];
@@ -116,7 +121,8 @@ impl<'a> Desk<'a> {
     }
 
     pub fn read(&mut self) -> ReadAnswer
-        ensures { ReadsSheet self.old.image self.old.buffer self.old.n self.old.table self.new.table }
+        ensures reads_sheet { ReadsSheet self.old.image self.old.buffer self.old.n self.old.table self.new.table }
+        ensures kept { self.new ≡ record self.old { table = self.new.table } }
     {
         let image = &mut self.image[..self.image_length];
         let buffer = &mut self.buffer[..self.cap];
@@ -139,6 +145,7 @@ impl<'a> Desk<'a> {
         ensures lists_sheet { ListsSheet self.old.image self.old.buffer self.old.n self.old.table (take count self.old.slots)
             (rows_in result) self.new.table (take count self.new.slots) }
         ensures upper_bound { rows_in result ≤ count }
+        ensures kept { self.new ≡ record self.old { table = self.new.table; slots = self.new.slots } }
     {
         let image = &mut self.image[..self.image_length];
         let buffer = &mut self.buffer[..self.cap];
@@ -149,9 +156,10 @@ impl<'a> Desk<'a> {
 
     // Lists the rows into so many row slots, where there are so many.
     pub fn list(&mut self, count: usize) -> Result<ListAnswer, LineError>
-        ensures { MatchResult result
+        ensures lists_into { MatchResult result
             (λ _. ListsInto self.old.image self.old.buffer self.old.n self.old.table count self.new.table)
             (λ _. length self.old.slots < count) }
+        ensures kept { self.new ≡ record self.old { table = self.new.table; slots = self.new.slots } }
     {
         if self.slots.len() < count {
             return Err(LineError::TooManySlots);
