@@ -7,9 +7,9 @@ ghost use Rattle.grammar.specs.declared.node.Node.TheVariants.{Sequence, Choice,
 ghost use Rattle.listing.specs.Gives.{Steady, Kept, Walks, nodes_of, parts_of, rules_of, inside_of, nowhere};
 ghost use Rattle.listing.specs.Listed.{Passed};
 
+use crate::bytes;
 use crate::slots::{Row, Window};
 use crate::state::Walk;
-use crate::bytes;
 use grammar::{Node, Refusal};
 use records::Record;
 
