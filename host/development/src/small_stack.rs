@@ -4,7 +4,7 @@
 use std::panic::resume_unwind;
 use std::thread::Builder;
 
-/// The stack that a call may count on, in bytes. The most that was measured is a listing's: 1,482 KiB at
+/// The stack that a call may count on, in bytes. The most that was measured is a listing's: 1,248 KiB at
 /// nesting 4,096.
 pub const STACK_BYTES: usize = 2 << 20;
 
