@@ -30,7 +30,10 @@ fn perform(
         Request::List(count) => {
             let answer = desk.list(count)?;
             let slots = desk.slots();
-            println!(rt; "{line} list: {}", Listed { answer, slots })?;
+            println!(rt;
+                "{line} list: {}",
+                Shown(answer.map(|listing| Listed { listing, slots }))
+            )?;
         }
     }
     Ok(())
