@@ -50,6 +50,7 @@ pub of_pair : (r : Option ℕ) {P : Type 0} {v x : ℕ} → SomeIff r P v → r 
 of_pair (Some y) s e = search (rules, s)
 of_pair None s e = search rules
 
+-- A byte of a pair is a byte of the field.
 in_pair : (k i j : ℕ) (xs : List ℕ) → i < k → j < 2 → get_or (get_or (first_chunks 2 k xs) i []) j 0 ≡ get_or xs (2 * i + j) 0
 in_pair zero i j xs h l = absurd (omega arith)
 in_pair (suc k) zero j xs h l = get_or-take 2 xs j 0 l ∙ ap (λ (x : ℕ). get_or xs x 0) (let e : j ≡ 2 * 0 + j = omega arith in e)
@@ -57,13 +58,16 @@ in_pair (suc k) (suc i) j xs h l =
     let e : 2 + (2 * i + j) ≡ 2 * suc i + j = omega arith in
     in_pair k i j (drop 2 xs) (omega arith) l ∙ get_or-drop 2 xs (2 * i + j) 0 ∙ ap (λ (x : ℕ). get_or xs x 0) e
 
--- The digits of a pair are digits of the field.
-module _ (s : List ℕ) {pairs : List (List ℕ)} (i : ℕ) (e : pairs ≡ first_chunks 2 (length s / 2) s) (h : i < length s / 2) where
-  pub high : get_or (get_or pairs i []) 0 0 ≡ get_or s (2 * i) 0
-  high =
-      ap (λ (p : List (List ℕ)). get_or (get_or p i []) 0 0) e
-      ∙ in_pair (length s / 2) i 0 s h (omega arith)
-      ∙ ap (λ (x : ℕ). get_or s x 0) (let e : 2 * i + 0 ≡ 2 * i = omega arith in e)
-
-  pub low : get_or (get_or pairs i []) 1 0 ≡ get_or s (2 * i + 1) 0
-  low = ap (λ (p : List (List ℕ)). get_or (get_or p i []) 1 0) e ∙ in_pair (length s / 2) i 1 s h (omega arith)
+-- What is said of the digits of a pair is said of digits of the field.
+pub of_digits :
+    (s : List ℕ) (r : Option ℕ) {pairs : List (List ℕ)} {i : ℕ}
+    → pairs ≡ first_chunks 2 (length s / 2) s
+    → i < length s / 2
+    → SomeIff r ((hex_value (get_or (get_or pairs i []) 0 0) < 16) × (hex_value (get_or (get_or pairs i []) 1 0) < 16))
+    (hex_value (get_or (get_or pairs i []) 0 0) * 16 + hex_value (get_or (get_or pairs i []) 1 0))
+    → SomeIff r ((hex_value (get_or s (2 * i) 0) < 16) × (hex_value (get_or s (2 * i + 1) 0) < 16)) (byte_at s i)
+of_digits s r {pairs} {i} e h d =
+    let first : 2 * i + 0 ≡ 2 * i = omega arith in
+    let high = in_pair (length s / 2) i 0 s h (omega arith) ∙ ap (λ (x : ℕ). get_or s x 0) first in
+    let low = in_pair (length s / 2) i 1 s h (omega arith) in
+    rw (e, high, low) at d

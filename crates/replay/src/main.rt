@@ -45,10 +45,9 @@ fn replay(rt: &HostRuntime, input: &[u8]) -> io::Result<()> {
     let mut buffer = [0u8; 65536];
     let mut table = [0u64; 131072];
     let mut slots = [0u64; 65536];
-    let mut replay = Replay {
-        desk: Desk::new(&mut image, &mut buffer, &mut table, &mut slots),
-        given: [0; 65536],
-    };
+    let given = [0u8; 65536];
+    let desk = Desk::new(&mut image, &mut buffer, &mut table, &mut slots);
+    let mut replay = Replay { desk, given };
     for (i, text) in input.split(|byte| *byte == b'\n').enumerate() {
         replay.line(rt, i + 1, text)?;
     }

@@ -7,6 +7,7 @@ use std::fmt;
 #[derive(Drop)]
 pub struct Shown<T>(pub T);
 
+// What a call gives, or the number of the question that fails.
 impl<T: Copy> fmt::Display for Shown<Result<T, Refusal>>
 where
     Shown<T>: fmt::Display,
