@@ -61,7 +61,7 @@ fn hex_digit(byte: u8) -> Option<u8>
     ensures { SomeIff result (hex_value byte < 16) (hex_value byte) }
 {
     let digit = char::from(byte).to_digit(16)?;
-    Some(digit as u8)
+    u8::try_from(digit).ok()
 }
 
 // The byte that a pair of hexadecimal digits means.
@@ -76,16 +76,15 @@ pub fn hex(field: &[u8], given: &mut [u8]) -> Result<usize, HexError>
     ensures hex { HexOf field.now given.old given.new result }
     ensures room { IfOk result (λ n. n ≤ length given.new) }
 {
-    if field.len() % 2 == 1 {
+    let (pairs, rest) = field.as_chunks::<2>();
+    if !rest.is_empty() {
         return Err(HexError::NotHex);
     }
-    let count = field.len() / 2;
-    if given.len() < count {
+    if given.len() < pairs.len() {
         return Err(HexError::TooLong);
     }
-    // By index: of what a chain over `iter_mut` writes, the check knows nothing afterwards.
-    for i in 0..count {
-        given[i] = byte_of(field[2 * i], field[2 * i + 1]).ok_or(HexError::NotHex)?;
+    for (i, &[high, low]) in pairs.iter().enumerate() {
+        given[i] = byte_of(high, low).ok_or(HexError::NotHex)?;
     }
-    Ok(count)
+    Ok(pairs.len())
 }

@@ -39,14 +39,6 @@ impl<'a> Model for Desk<'a> {
     ghost invariant = { λ d. (d.image_length ≤ length d.image.now) × (d.cap ≤ length d.buffer.now) × (d.words ≤ length d.table.now) };
 }
 
-// A function of its own: through the field of a struct the check loses what the slice holds afterwards.
-fn copy_front(place: &mut [u8], bytes: &[u8])
-    requires { length bytes.now ≤ length place.old }
-    ensures { (take (length bytes.now) place.new ≡ bytes.now) × (length place.new ≡ length place.old) }
-{
-    place[..bytes.len()].copy_from_slice(bytes);
-}
-
 impl<'a> Desk<'a> {
     // With no image, and nothing lent yet.
     pub fn new(
@@ -77,7 +69,7 @@ impl<'a> Desk<'a> {
         if self.image.len() < image.len() {
             return Err(LineError::TooLong);
         }
-        copy_front(self.image, image);
+        buffers::copy(self.image, image);
         self.image_length = image.len();
         Ok(())
     }

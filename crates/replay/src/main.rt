@@ -35,6 +35,7 @@ mod printed;
 mod requests;
 
 use desk::Desk;
+use lines::Replay;
 use std::io;
 use std::io::Read;
 
@@ -44,10 +45,11 @@ fn replay(rt: &HostRuntime, input: &[u8]) -> io::Result<()> {
     let mut buffer = [0u8; 65536];
     let mut table = [0u64; 131072];
     let mut slots = [0u64; 65536];
-    let mut given = [0u8; 65536];
-    let mut desk = Desk::new(&mut image, &mut buffer, &mut table, &mut slots);
+    let given = [0u8; 65536];
+    let desk = Desk::new(&mut image, &mut buffer, &mut table, &mut slots);
+    let mut replay = Replay { desk, given };
     for (i, text) in input.split(|byte| *byte == b'\n').enumerate() {
-        lines::line(rt, i + 1, text, &mut desk, &mut given)?;
+        replay.line(rt, i + 1, text)?;
     }
     Ok(())
 }

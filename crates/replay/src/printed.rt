@@ -1,26 +1,36 @@
 // How answers are printed.
-use promises::{EditAnswer, ListAnswer, LookUpAnswer, OpenAnswer, ReadAnswer, SheetReading};
+use grammar::Refusal;
+use promises::{EditedSheet, SheetListing, SheetReading};
 use std::fmt;
 
 // An answer, or a part of one, as it is printed.
 #[derive(Drop)]
 pub struct Shown<T>(pub T);
 
-impl fmt::Display for Shown<OpenAnswer> {
+// What a call gives, or the number of the question that fails.
+impl<T: Copy> fmt::Display for Shown<Result<T, Refusal>>
+where
+    Shown<T>: fmt::Display,
+{
     fn fmt<W: fmt::Write>(&self, f: &mut fmt::Formatter<W>) -> fmt::Result {
         match self.0 {
-            Ok(length) => write!(f, "length {length}"),
+            Ok(given) => write!(f, "{}", Shown(given)),
             Err(refusal) => write!(f, "refused {refusal}"),
         }
     }
 }
 
-impl fmt::Display for Shown<EditAnswer> {
+// The text's length, which an opening gives.
+impl fmt::Display for Shown<usize> {
     fn fmt<W: fmt::Write>(&self, f: &mut fmt::Formatter<W>) -> fmt::Result {
-        match self.0 {
-            Ok(sheet) => write!(f, "length {}, standing {}", sheet.length, sheet.standing),
-            Err(refusal) => write!(f, "refused {refusal}"),
-        }
+        write!(f, "length {}", self.0)
+    }
+}
+
+impl fmt::Display for Shown<EditedSheet> {
+    fn fmt<W: fmt::Write>(&self, f: &mut fmt::Formatter<W>) -> fmt::Result {
+        let EditedSheet { length, standing } = self.0;
+        write!(f, "length {length}, standing {standing}")
     }
 }
 
@@ -40,42 +50,27 @@ impl fmt::Display for Shown<SheetReading> {
     }
 }
 
-impl fmt::Display for Shown<ReadAnswer> {
+// The word that a look gives.
+impl fmt::Display for Shown<u64> {
     fn fmt<W: fmt::Write>(&self, f: &mut fmt::Formatter<W>) -> fmt::Result {
-        match self.0 {
-            Ok(found) => write!(f, "{}", Shown(found)),
-            Err(refusal) => write!(f, "refused {refusal}"),
-        }
+        write!(f, "word {:016x}", self.0)
     }
 }
 
-impl fmt::Display for Shown<LookUpAnswer> {
-    fn fmt<W: fmt::Write>(&self, f: &mut fmt::Formatter<W>) -> fmt::Result {
-        match self.0 {
-            Ok(word) => write!(f, "word {word:016x}"),
-            Err(refusal) => write!(f, "refused {refusal}"),
-        }
-    }
-}
-
-// A listing's answer with the row slots that it wrote into.
-#[derive(Drop)]
+// What a listing gives, with the row slots that it wrote into.
+#[derive(Clone, Copy)]
 pub struct Listed<'a> {
-    pub answer: ListAnswer,
+    pub listing: SheetListing,
     pub slots: &'a [u64],
 }
 
-impl fmt::Display for Listed<'_> {
+impl fmt::Display for Shown<Listed<'_>> {
     fn fmt<W: fmt::Write>(&self, f: &mut fmt::Formatter<W>) -> fmt::Result {
-        match self.answer {
-            Ok(listing) => {
-                write!(f, "{}, rows {}", Shown(listing.reading), listing.rows)?;
-                for word in self.slots.iter().take(listing.rows) {
-                    write!(f, " {word:016x}")?;
-                }
-                Ok(())
-            }
-            Err(refusal) => write!(f, "refused {refusal}"),
+        let Listed { listing, slots } = self.0;
+        write!(f, "{}, rows {}", Shown(listing.reading), listing.rows)?;
+        for word in slots.iter().take(listing.rows) {
+            write!(f, " {word:016x}")?;
         }
+        Ok(())
     }
 }
