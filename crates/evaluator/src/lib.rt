@@ -12,14 +12,14 @@ use records::Record;
 
 // A loaded grammar over a text, the table that is lent, and the number of pairs whose body was evaluated.
 #[derive(Drop)]
-pub struct Run<'a> {
+pub struct Run<'a, 't> {
     pub words: &'a [u32; 4097],
     pub text: &'a [u8],
-    pub table: &'a mut [u64],
+    pub table: &'t mut [u64],
     pub count: u64,
 }
 
-impl<'a> Run<'a> {
+impl<'a, 't> Run<'a, 't> {
     // A node at a position. A byte range without the fold bit and an ASCII character are answered here, by the first byte of the word:
     // measured, it saves the call that most visits would end in (02, R-5).
     #[cycle(eval)]

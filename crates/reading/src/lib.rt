@@ -2,6 +2,7 @@
 #![tactic(auto)]
 
 pub mod code;
+pub mod pair;
 pub mod plain;
 pub mod session;
 mod start;

@@ -1,11 +1,11 @@
 // The plain reading: a reading without records. Its answer depends on the image and the text alone.
 ghost use Rattle.std.specs.Prelude.{◌≡◌, ◌≤◌, length, ◌==◌};
-ghost use Rattle.grammar.specs.Questions.{Accepted};
+ghost use Rattle.grammar.specs.Questions.{Lawful};
 ghost use Rattle.records.specs.Words.{value_of};
 ghost use Rattle.reading.specs.Plain.{PlainRead, outcome_of, reading_of};
 ghost use Rattle.packrat.specs.Session.{StartWord};
 
-use crate::start;
+use crate::pair::StartPair;
 use grammar::Refusal;
 use std::fmt;
 
@@ -65,10 +65,16 @@ pub fn reading_of(word: u64, n: usize) -> Reading
 
 // The start pair's word over no records: that of its rule's body.
 fn start_word(image: &[u8], text: &[u8]) -> Result<u64, Refusal>
-    requires { Accepted image.now × (length text.now ≤ 65535) }
+    requires { Lawful image.now × (length text.now ≤ 65535) }
     ensures { StartWord image.now text.now result }
 {
-    start::start_body(image, text, &mut [], &mut 0)
+    let mut pair = StartPair {
+        image,
+        text,
+        table: &mut [],
+        count: 0,
+    };
+    pair.body()
 }
 
 // The reading of a text by a grammar. Refuses an image with its number 1 to 7, a text above 65,535 bytes with 8, and a start pair

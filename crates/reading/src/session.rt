@@ -1,12 +1,12 @@
 // The start pair over lent records, for a reading in a session: "A reading looks a pair up before it evaluates the body, the start pair
 // first".
-ghost use Rattle.std.specs.Prelude.{◌≡◌, ◌≤◌, length, if◌then◌else◌, Ok, Err};
-ghost use Rattle.grammar.specs.Questions.{Accepted};
+ghost use Rattle.std.specs.Prelude.{◌≡◌, if◌then◌else◌, Ok, Err};
 ghost use Rattle.grammar.specs.declared.refusal.Refusal.TheVariants.{Records};
 ghost use Rattle.records.specs.Words.{possible, record_of, record_word};
 ghost use Rattle.packrat.specs.Session.{StartOver};
+ghost use Rattle.reading.specs.Start.{Kept};
 
-use crate::start;
+use crate::pair::StartPair;
 use grammar::Refusal;
 use records::Record;
 
@@ -20,25 +20,23 @@ fn met(word: u64, n: usize) -> Result<u64, Refusal>
     Ok(held.word())
 }
 
-// Its word, or a refusal; `count` goes up by the pairs that are evaluated.
-pub fn start_over(
-    image: &[u8],
-    text: &[u8],
-    table: &mut [u64],
-    count: &mut u64,
-) -> Result<u64, Refusal>
-    requires { Accepted image.now × (length text.now ≤ 65535) }
-    ensures { StartOver image.now text.now table.old count.old result table.new count.new }
-{
-    let header = image::header_of(image);
-    let rules = header.rules;
-    let rule = header.start;
-    let word = memo::look(table, rules, rule, 0);
-    if records::is_held(word) {
-        return met(word, text.len());
+impl<'a, 't> StartPair<'a, 't> {
+    // Its word, or a refusal; `count` goes up by the pairs that are evaluated.
+    pub fn word(&mut self) -> Result<u64, Refusal>
+        ensures kept { Kept self.old self.new }
+        ensures word { StartOver self.old.image.now self.old.text.now self.old.table.now self.old.count result self.new.table.now self.new.count }
+    {
+        let header = image::header_of(self.image);
+        let rules = header.rules;
+        let rule = header.start;
+        let table = &mut *self.table;
+        let word = memo::look(table, rules, rule, 0);
+        if records::is_held(word) {
+            return met(word, self.text.len());
+        }
+        let value = self.body()?;
+        memo::put(self.table, rules, rule, 0, value);
+        self.count = self.count.wrapping_add(1);
+        Ok(value)
     }
-    let value = start::start_body(image, text, table, count)?;
-    memo::put(table, rules, rule, 0, value);
-    *count = count.wrapping_add(1);
-    Ok(value)
 }

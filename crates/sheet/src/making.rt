@@ -6,7 +6,8 @@ ghost use Rattle.promises.specs.Questions.{Question8};
 ghost use Rattle.promises.specs.Run.{answer_of, words_of};
 
 use promises::{ReadAnswer, SheetReading};
-use reading::{plain, session};
+use reading::pair::StartPair;
+use reading::plain;
 
 // Of a text in a buffer of cap bytes. Refused, the table becomes 0: "zeroes the table with 12 and 14".
 pub fn make_reading(image: &[u8], text: &[u8], table: &mut [u64], cap: usize) -> ReadAnswer
@@ -15,8 +16,13 @@ pub fn make_reading(image: &[u8], text: &[u8], table: &mut [u64], cap: usize) ->
     ensures answer { result ≡ answer_of (length text.now) (start_run image.now text.now table.old 0) }
     ensures words { table.new ≡ words_of image.now cap (start_run image.now text.now table.old 0) }
 {
-    let mut evaluations = 0u64;
-    match session::start_over(image, text, table, &mut evaluations) {
+    let mut pair = StartPair {
+        image,
+        text,
+        table,
+        count: 0,
+    };
+    match pair.word() {
         Ok(word) => {
             let found = plain::reading_of(word, text.len());
             Ok(SheetReading {
@@ -24,7 +30,7 @@ pub fn make_reading(image: &[u8], text: &[u8], table: &mut [u64], cap: usize) ->
                 length: found.length,
                 examined: found.examined,
                 nesting: found.nesting,
-                evaluations,
+                evaluations: pair.count,
             })
         }
         Err(refusal) => {

@@ -9,9 +9,9 @@ use Rattle.sheet.proofs.making.make_reading.Goals as goal
 pub returns-in-Ok-clause-answer : goal.returns-in-Ok-clause-answer
 returns-in-Ok-clause-answer c =
     let n = length c.args.text.now in
-    let count = c.start_over.new.count in
+    let count = c.word.new.self.count in
     let short : n ≤ 65535 = omega (arith, c.requires.loan.short, c.requires.loan.text_fits) in
-    let f = found short (omega arith) c.in-Ok.ensures in
+    let f = found short (omega arith) c.in-Ok.ensures.word in
     ap
     (λ (r : Reading).
     Ok
