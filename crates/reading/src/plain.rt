@@ -63,20 +63,6 @@ pub fn reading_of(word: u64, n: usize) -> Reading
     }
 }
 
-// The start pair's word over no records: that of its rule's body.
-fn start_word(image: &[u8], text: &[u8]) -> Result<u64, Refusal>
-    requires { Lawful image.now × (length text.now ≤ 65535) }
-    ensures { StartWord image.now text.now result }
-{
-    let mut pair = StartPair {
-        image,
-        text,
-        table: &mut [],
-        count: 0,
-    };
-    pair.body()
-}
-
 // The reading of a text by a grammar. Refuses an image with its number 1 to 7, a text above 65,535 bytes with 8, and a start pair
 // whose nesting is above 4,096 with 14.
 pub fn plain_reading(image: &[u8], text: &[u8]) -> Result<Reading, Refusal>
@@ -86,6 +72,13 @@ pub fn plain_reading(image: &[u8], text: &[u8]) -> Result<Reading, Refusal>
     if records::MAX_CAP < text.len() {
         return Err(Refusal::Loan);
     }
-    let word = start_word(image, text)?;
+    // Over no records the start pair's word is its body's.
+    let mut pair = StartPair {
+        image,
+        text,
+        table: &mut [],
+        count: 0,
+    };
+    let word = pair.body()?;
     Ok(reading_of(word, text.len()))
 }
