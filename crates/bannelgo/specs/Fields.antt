@@ -3,8 +3,7 @@
 use Rattle.grammar.specs.Refusals.{number}
 use Rattle.std.specs.Prelude.{Ok, Err}
 use Rattle.std.specs.Prelude.{ℕ}
-use Rattle.reading.specs.declared.plain.Outcome.{Outcome}
-use Rattle.reading.specs.declared.plain.Outcome.TheVariants.{Whole, Part, Nothing}
+use Rattle.reading.specs.Code.{outcome_number}
 use Rattle.promises.specs.Answers.{OpenAnswer, EditAnswer, ReadAnswer, LookUpAnswer, ListAnswer}
 use Rattle.promises.specs.declared.SheetReading.{SheetReading}
 use Rattle.bannelgo.specs.declared.fields.Fields.{Fields}
@@ -28,11 +27,6 @@ edit_fields (Err r) = refusal (number r)
 abbrev pub look_up_fields : LookUpAnswer → Fields
 look_up_fields (Ok w) = record { number = 0; outcome = 0; length = 0; examined = 0; nesting = 0; evaluations = 0; value = w }
 look_up_fields (Err r) = refusal (number r)
-
-abbrev pub outcome_number : Outcome → ℕ
-outcome_number Nothing = 0
-outcome_number Part = 1
-outcome_number Whole = 2
 
 -- What a reading found, with a value.
 abbrev pub reading_fields : SheetReading → (value : ℕ) → Fields

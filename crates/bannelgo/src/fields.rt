@@ -48,7 +48,7 @@ fn of_reading(found: SheetReading, value: u64) -> Fields
 {
     Fields {
         number: 0,
-        outcome: found.outcome as u64,
+        outcome: u64::from(found.outcome),
         length: found.length as u64,
         examined: found.examined as u64,
         nesting: found.nesting as u64,

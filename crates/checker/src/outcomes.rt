@@ -30,7 +30,7 @@ fn outcome_round(all: &Nodes<'_>, order: &[u16], known: &mut [u8; 1024]) -> bool
     added
 }
 
-// The sets that the rounds over an order leave. "The rounds stop at the first that adds nothing."
+// The sets that the rounds over an order leave. "The rounds stop at the first that adds nothing." The labelled loop is document 01's form.
 pub fn outcome_sets(all: &Nodes<'_>, order: &[u16]) -> [u8; 1024]
     requires { VisitsAll (nodes all.now.image.now) order.now }
     ensures { result ≡ outcome_sets all.now.image.now order.now }

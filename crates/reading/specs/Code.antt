@@ -13,6 +13,12 @@ matched_in Whole = true
 matched_in Part = true
 matched_in Nothing = false
 
+-- The number of an outcome, which is the host's: include/bannelgo.h names them.
+abbrev pub outcome_number : Outcome → ℕ
+outcome_number Nothing = 0
+outcome_number Part = 1
+outcome_number Whole = 2
+
 abbrev pub code_of : PlainAnswer → ℕ
 code_of (Err r) = number r
 code_of (Ok x) =

@@ -1,11 +1,19 @@
-// An answer of a plain reading as one number, for the Rust host: a refusal is its number; an answered reading has bit 63 set, bit 62
-// for matched, and nesting, examined and length in the record's fields.
+// Numbers for the hosts. An answer of a plain reading as one number, for the Rust host: a refusal is its number; an answered reading has bit
+// 63 set, bit 62 for matched, and nesting, examined and length in the record's fields. And the number of an outcome.
 ghost use Rattle.std.specs.Prelude.{◌≡◌, Ok};
-ghost use Rattle.reading.specs.Code.{code_of};
+ghost use Rattle.reading.specs.Code.{code_of, outcome_number};
 
 use crate::plain::{Outcome, Reading};
 use grammar::Refusal;
 use records::Record;
+
+impl From<Outcome> for u64 {
+    ghost from_gives = { λ o k. k ≡ outcome_number o };
+
+    fn from(outcome: Outcome) -> u64 {
+        outcome as u64
+    }
+}
 
 impl From<Reading> for u64 {
     ghost from_gives = { λ x code. code ≡ code_of (Ok x) };
