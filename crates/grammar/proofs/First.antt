@@ -24,9 +24,3 @@ pub then_asked : (qs rs : List Question) (r : ℕ) → Numbered qs → First qs 
 then_asked [] rs r n a b = b
 then_asked (q ∷ qs) rs r n (inl a) b = absurd (let e = a.1 in let h = n.0 in omega arith)
 then_asked (q ∷ qs) rs r n (inr a) b = inr (a.0, then_asked qs rs r n.1 a.1 b)
-
--- Where one of qs fails, nothing after qs matters.
-pub refused_before : (qs rs : List Question) (r : ℕ) → 1 ≤ r → First qs r → First (qs ++ rs) r
-refused_before [] rs r h a = absurd (omega arith)
-refused_before (q ∷ qs) rs r h (inl a) = inl a
-refused_before (q ∷ qs) rs r h (inr a) = inr (a.0, refused_before qs rs r h a.1)
