@@ -1,9 +1,10 @@
 -- Tests made of two, and a test as a number, for the proofs of every crate. Assumes nothing.
-use Prim.Native.Nat.{◌≤◌}
+use Prim.Native.Nat.{◌≤◌, ◌<◌}
 use native.Mathlib.Omega.{arith}
 use mathlib.Core.Path.{◌≡◌, refl, sym, ap}
 use mathlib.Core.Bool.{Bool, true, false, ◌&&◌, ◌||◌, true≢false}
 use mathlib.Core.Logic.{◌⊎◌, inl, inr}
+use mir.Val.{bool_byte}
 use Rattle.grammar.specs.Questions.{one_if}
 
 pub both : (a b : Bool) → (a && b) ≡ true → (a ≡ true) × (b ≡ true)
@@ -27,3 +28,7 @@ or_right false b e = e
 pub at_most_1 : (b : Bool) → one_if b ≤ 1
 at_most_1 true = omega arith
 at_most_1 false = omega arith
+
+pub byte_small : (b : Bool) → bool_byte b < 2
+byte_small true = omega arith
+byte_small false = omega arith

@@ -5,12 +5,15 @@ use native.Mathlib.Omega.{arith}
 use mathlib.Core.Path.{◌≡◌, sym, ◌∙◌}
 use mathlib.Core.List.{List, [], ◌∷◌, ◌++◌}
 use mathlib.Core.Logic.{inl, inr}
-use Rattle.grammar.specs.Questions.{Question, First}
+use Rattle.grammar.specs.Questions.{Question, First, of_image}
 
 -- Every question of the list has a number above 0, so that 0 says that all hold.
 abbrev pub Numbered : List Question → Type 0
 Numbered [] = Unit {0}
 Numbered (q ∷ qs) = (1 ≤ q.number) × Numbered qs
+
+pub image_numbers : (img : List ℕ) → Numbered (of_image img)
+image_numbers img = (omega arith, (omega arith, (omega arith, (omega arith, (omega arith, (omega arith, (omega arith, tt)))))))
 
 pub unique : (qs : List Question) (r s : ℕ) → First qs r → First qs s → r ≡ s
 unique [] r s a b = a ∙ sym b
