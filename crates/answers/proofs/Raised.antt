@@ -2,19 +2,14 @@
 use Prim.Native.Nat.{◌+◌, ◌*◌, ◌^◌, ◌<◌}
 use native.Mathlib.Omega.{arith}
 use mathlib.Core.Path.{◌≡◌}
-use mathlib.Core.Bool.{Bool, true, false}
-use mir.Val.{bool_byte}
 use Rattle.grammar.specs.declared.Evaluation.{Evaluation}
 use Rattle.grammar.specs.Evaluates.{taken_over}
+use Rattle.grammar.proofs.Bools.{byte_small}
 use Rattle.records.specs.Words.{word_of}
 
 pub raised_word : (x : Evaluation) → word_of x + 8589934592 ≡ word_of (taken_over x)
 unfolding word_of
 raised_word x = omega arith
-
-byte_of : (b : Bool) → bool_byte b < 2
-byte_of true = omega arith
-byte_of false = omega arith
 
 pub word_below :
     (x : Evaluation)
@@ -23,5 +18,5 @@ pub word_below :
     → word_of x < 2 ^ 63 + 2 ^ 62 + (x.nesting + 1) * 8589934592
 unfolding word_of
 word_below x e k =
-    let b = byte_of x.matched in
+    let b = byte_small x.matched in
     omega arith

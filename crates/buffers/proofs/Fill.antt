@@ -29,16 +29,6 @@ module _ {f : ℕ → ℕ} {old : List ℕ} where
         past = λ j h. refl;
       }
 
-  -- A stretch that ends where it begins.
-  pub empty : {lo hi : ℕ} → lo ≡ hi → Filled f old old lo hi
-  empty e =
-      record {
-        long = refl;
-        before = λ j h. refl;
-        inside = λ j h k. absurd (omega arith);
-        past = λ j h. refl;
-      }
-
   -- One more at the upper end.
   pub up :
       {new : List ℕ} {lo hi v : ℕ} → Filled f old new lo hi → lo ≤ hi → hi < length old → v ≡ f hi → Filled f old (set new hi v) lo (hi + 1)

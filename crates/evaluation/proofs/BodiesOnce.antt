@@ -9,10 +9,9 @@ use Rattle.grammar.specs.declared.Evaluation.{Evaluation}
 use Rattle.grammar.specs.Evaluates.{Evaluates, Subject, CallAnswer, by_body, by_record}
 use Rattle.grammar.specs.Evaluates.{ev_empty, ev_terminal, ev_then_first_fails, ev_then, ev_else_first, ev_else_second}
 use Rattle.grammar.specs.Evaluates.{ev_star, ev_last_round, ev_round, ev_not, ev_call, ev_body, ev_record}
-use Rattle.grammar.proofs.Determinism.{one}
+use Rattle.grammar.proofs.Determinism.{one, no_record}
 use Rattle.evaluation.specs.Calls.{Pair, bodies_of}
 use Rattle.evaluation.proofs.Pairs.{one_by_one}
-use Rattle.evaluation.proofs.Plain.{no_record}
 
 module _ (img text : List ℕ) (answers : ℕ → ℕ → CallAnswer) where
   -- Two evaluations at one position, however it is written.

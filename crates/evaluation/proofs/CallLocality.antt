@@ -7,10 +7,10 @@ use Rattle.grammar.specs.declared.Evaluation.{Evaluation}
 use Rattle.grammar.specs.Evaluates.{Evaluates, Fresh, Subject, CallAnswer}
 use Rattle.grammar.specs.Evaluates.{ev_empty, ev_terminal, ev_then_first_fails, ev_then, ev_else_first, ev_else_second}
 use Rattle.grammar.specs.Evaluates.{ev_star, ev_last_round, ev_round, ev_not, ev_call, ev_body, ev_record}
+use Rattle.grammar.proofs.Determinism.{no_record}
 use Rattle.evaluation.specs.Calls.{Pair, calls_of}
 use Rattle.evaluation.proofs.Locality.{prefix_decides, moved}
 use Rattle.evaluation.proofs.Pairs.{one_by_one}
-use Rattle.evaluation.proofs.Plain.{no_record}
 
 module _ (img text other : List ℕ) (answers : ℕ → ℕ → CallAnswer) (m : ℕ)
     (in_text : m ≤ length text) (in-other : m ≤ length other) (agree : take m text ≡ take m other)

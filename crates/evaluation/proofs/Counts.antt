@@ -8,6 +8,7 @@ use mathlib.Core.Bool.{Bool, true, false, ◌&&◌}
 use lib.Dec.{eqb}
 use borrow.Author.Tests.{eq-eqb, ne_eqb, eqb-true, eqb-false}
 use Rattle.grammar.specs.Questions.{one_if}
+use Rattle.grammar.proofs.Bools.{at_most_1}
 use Rattle.evaluation.specs.Counts.{sum_to, count_pairs}
 
 sum_same : (n : ℕ) (f g : ℕ → ℕ) → ((i : ℕ) → i < n → f i ≡ g i) → sum_to n f ≡ sum_to n g
@@ -25,8 +26,8 @@ unfolding sum_to
 sum_most zero m f h = omega arith
 sum_most (suc n) m f h = let a = sum_most n m f h in rw mul-suc (omega (arith, h n))
 
--- A sum with one place that is not 0.
-sum_none : (n : ℕ) (f : ℕ → ℕ) → ((i : ℕ) → i < n → f i ≡ 0) → sum_to n f ≡ 0
+-- A sum of which every place is 0, and one with one place that is not.
+pub sum_none : (n : ℕ) (f : ℕ → ℕ) → ((i : ℕ) → i < n → f i ≡ 0) → sum_to n f ≡ 0
 unfolding sum_to
 sum_none zero f h = refl
 sum_none (suc n) f h = let a = sum_none n f (λ i l. h i (omega arith)) in let b = h n (omega arith) in omega arith
@@ -87,8 +88,4 @@ count_one R P r q l k =
 pub count_most : (rules positions : ℕ) (f : ℕ → ℕ → Bool) → count_pairs rules positions f ≤ rules * positions
 count_most R P f =
     sum_most P R (λ q. sum_to R (λ r. one_if (f r q)))
-    (λ q. let a = sum_most R 1 (λ r. one_if (f r q)) (λ r. at-most-1 (f r q)) in omega arith)
-  where
-    at-most-1 : (b : Bool) → one_if b ≤ 1
-    at-most-1 true = omega arith
-    at-most-1 false = omega arith
+    (λ q. let a = sum_most R 1 (λ r. one_if (f r q)) (λ r. at_most_1 (f r q)) in omega arith)

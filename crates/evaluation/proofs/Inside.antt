@@ -11,8 +11,9 @@ use Rattle.grammar.specs.Evaluates.{Fresh, Subject}
 use Rattle.grammar.specs.Evaluates.{ev_empty, ev_terminal, ev_then_first_fails, ev_then, ev_else_first, ev_else_second}
 use Rattle.grammar.specs.Evaluates.{ev_star, ev_last_round, ev_round, ev_not, ev_call, ev_body, ev_record}
 use Rattle.grammar.proofs.Terminals.{shape}
+use Rattle.grammar.proofs.Determinism.{no_record}
 use Rattle.evaluation.specs.Inside.{Inside, inside_of, deepest, level_of}
-use Rattle.evaluation.proofs.Plain.{fresh_within, no_record}
+use Rattle.evaluation.proofs.Plain.{fresh_within}
 use Rattle.evaluation.proofs.Locality.{seen, nested}
 
 module _ {img text : List ℕ} where

@@ -14,7 +14,7 @@ use Rattle.grammar.specs.Evaluates.{ev_empty, ev_terminal, ev_then_first_fails, 
 use Rattle.grammar.specs.Evaluates.{ev_star, ev_last_round, ev_round, ev_not, ev_call, ev_body, ev_record}
 use Rattle.grammar.specs.Terminal.{terminal_at}
 use Rattle.grammar.proofs.Terminals.{prefix, suffix}
-use Rattle.evaluation.proofs.Plain.{no_record}
+use Rattle.grammar.proofs.Determinism.{no_record}
 
 -- The examined length of an evaluation, from an equation with it.
 pub seen : {x z : Evaluation} → z ≡ x → x.examined ≡ z.examined

@@ -1,23 +1,15 @@
 -- Where every call is answered by the body, what is asked of records holds of all of them: there is none. Assumes nothing.
-use mathlib.Core.Path.{◌≡◌, subst}
 use Prim.Native.Nat.{ℕ, ◌≤◌}
 use mathlib.Core.List.{List}
 use lib.ListN.{length}
 use Rattle.grammar.specs.declared.Evaluation.{Evaluation}
 use Rattle.grammar.specs.declared.node.Node.{Node}
 use Rattle.grammar.specs.Outcomes.{Has}
-use Rattle.grammar.specs.Evaluates.{CallAnswer, by_body, by_record, no_answer, bodies_only, Fresh, Subject, a_node}
+use Rattle.grammar.specs.Evaluates.{bodies_only, Fresh, Subject, a_node}
+use Rattle.grammar.proofs.Determinism.{no_record}
 use Rattle.evaluation.specs.Within.{Within}
 use Rattle.evaluation.proofs.Shape.{within}
 use Rattle.evaluation.proofs.Described.{outcome, described}
-
-abbrev IsBody : CallAnswer → Type 0
-IsBody by_body = Unit {0}
-IsBody (by_record x) = ⊥
-IsBody no_answer = ⊥
-
-pub no_record : {x : Evaluation} → by_body ≡ by_record x → ⊥
-no_record e = subst (λ (c : CallAnswer). IsBody c) e tt
 
 module _ {img text : List ℕ} where
   pub fresh_within : {s : Subject} {p : ℕ} {z : Evaluation} → Fresh img text s p z → p ≤ length text → Within (length text) p z

@@ -13,9 +13,9 @@ use Rattle.grammar.specs.Image.{start, body}
 use Rattle.grammar.specs.Evaluates.{Fresh, Subject, bodies_only, a_node, a_pair}
 use Rattle.grammar.specs.Evaluates.{ev_empty, ev_terminal, ev_then_first_fails, ev_then, ev_else_first, ev_else_second}
 use Rattle.grammar.specs.Evaluates.{ev_star, ev_last_round, ev_round, ev_not, ev_call, ev_body, ev_record}
+use Rattle.grammar.proofs.Determinism.{no_record}
 use Rattle.evaluation.specs.Calls.{Pair, In, here, later, is_in, Reached, start_reached, called, calls_of, bodies_of}
 use Rattle.evaluation.proofs.Pairs.{none_in, in_either, in_left, in_right, in_is, is_in_lem}
-use Rattle.evaluation.proofs.Plain.{no_record}
 use Rattle.evaluation.proofs.Bodies.{shallower}
 use Rattle.evaluation.proofs.BodiesOnce.{bodies_once}
 use Rattle.evaluation.proofs.Range.{all_inside}

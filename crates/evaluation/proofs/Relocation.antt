@@ -13,8 +13,8 @@ use Rattle.grammar.specs.Evaluates.{Fresh, Subject}
 use Rattle.grammar.specs.Evaluates.{ev_empty, ev_terminal, ev_then_first_fails, ev_then, ev_else_first, ev_else_second}
 use Rattle.grammar.specs.Evaluates.{ev_star, ev_last_round, ev_round, ev_not, ev_call, ev_body, ev_record}
 use Rattle.grammar.proofs.Terminals.{suffix}
+use Rattle.grammar.proofs.Determinism.{no_record}
 use Rattle.evaluation.specs.Calls.{Pair, calls_of}
-use Rattle.evaluation.proofs.Plain.{no_record}
 use Rattle.evaluation.proofs.Locality.{moved}
 use Rattle.evaluation.proofs.CallLocality.{shifted, both, moved_calls}
 

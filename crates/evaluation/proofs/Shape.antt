@@ -7,6 +7,8 @@ use mathlib.Core.Bool.{Bool, true, false, true≢false}
 use mathlib.Core.List.{List}
 use lib.ListN.{length}
 use Rattle.grammar.specs.declared.Evaluation.{Evaluation}
+use Rattle.grammar.specs.declared.node.Terminal.{Terminal}
+use Rattle.grammar.specs.Terminal.{terminal_at}
 use Rattle.grammar.specs.Evaluates.{Evaluates, Subject, CallAnswer, by_record, length_if}
 use Rattle.grammar.specs.Evaluates.{empty_here, first_failed, in_sequence, taken_over, second_choice, last_round, round_then, negated}
 use Rattle.grammar.specs.Evaluates.{ev_empty, ev_terminal, ev_then_first_fails, ev_then, ev_else_first, ev_else_second}
@@ -71,22 +73,24 @@ module _ {n p : ℕ} where
       at_most true l = omega arith
       at_most false l = omega arith
 
+pub terminal_within : (t : Terminal) (text : List ℕ) (p : ℕ) → p ≤ length text → Within (length text) p (terminal_at t text p)
+terminal_within t text p h =
+    let s = shape t text p h in
+    record {
+      in_text = s.in_text;
+      up_to_end = s.up_to_end;
+      in_examined = s.in_examined;
+      failure = s.failure;
+      nested = omega (arith, s.flat);
+    }
+
 module _ (img text : List ℕ) (answers : ℕ → ℕ → CallAnswer)
     (records : (r p : ℕ) (x : Evaluation) → p ≤ length text → answers r p ≡ by_record x → Within (length text) p x)
   where
     pub within :
         {s : Subject} {p : ℕ} {z : Evaluation} → Evaluates img text answers s p z → p ≤ length text → Within (length text) p z
     within (ev_empty e) h = rw e (empty_within h)
-    within {p = p} (ev_terminal {t} e) h =
-        let s = shape t text p h in
-        rw e
-        (record {
-          in_text = s.in_text;
-          up_to_end = s.up_to_end;
-          in_examined = s.in_examined;
-          failure = s.failure;
-          nested = omega (arith, s.flat);
-        })
+    within {p = p} (ev_terminal {t} e) h = rw e (terminal_within t text p h)
     within (ev_then_first_fails a m e) h = rw e (failed_within (within a h))
     within (ev_then a m b e) h = let w = within a h in rw e (then_within w (within b w.in_text))
     within (ev_else_first a m e) h = rw e (taken_within (within a h))

@@ -9,6 +9,7 @@ use Rattle.grammar.specs.Image.{fields_of}
 use Rattle.grammar.specs.Terminal.{terminal_at}
 use Rattle.grammar.proofs.Nodes.{is_any, is_plain_range}
 use Rattle.grammar.proofs.Terminals.{shape}
+use Rattle.evaluation.proofs.Shape.{terminal_within}
 use Rattle.image.specs.Fields.{SameFields}
 use Rattle.image.proofs.FirstByte.{kind-alone}
 use Rattle.records.specs.Words.{word_of}
@@ -31,7 +32,7 @@ terminal_goes ws text left w at table count {t} ready some is e =
     let s = shape t text at ready.here in
     word_goes ws text left w at table count (λ z. omega arith) is
     (gives_value (terminal_at t text at) refl e
-    (record { in_text = s.in_text; up_to_end = s.up_to_end; in_examined = s.in_examined; failure = s.failure; nested = omega (arith, s.flat) })
+    (terminal_within t text at ready.here)
     (omega (arith, s.flat)))
 
 -- The words that are answered by their first byte: any,

@@ -2,4 +2,3 @@
 pub mod ScanLaw
 pub mod Pieces
 pub mod Rows
-pub mod FromRow

@@ -2,17 +2,15 @@
 -- neither held nor 0. Assumes nothing.
 use Prim.Native.Nat.{ℕ, ◌+◌, ◌/◌, ◌%◌, ◌^◌, ◌≤◌, ◌<◌}
 use native.Mathlib.Omega.{arith}
-use mathlib.Core.Path.{◌≡◌, refl, ap, ◌∙◌}
+use mathlib.Core.Path.{◌≡◌, ap, ◌∙◌}
 use mathlib.Core.Bool.{false}
 use mathlib.Core.List.{List}
-use lib.ListN.{length}
 use lib.Bits.{bit_or, bit_and, or_add_and, and_le_l, and_le_r, or_shr, or_mod}
 use borrow.Author.Count.{below_more}
 use borrow.Author.Tests.{leb-false}
 use Rattle.buffers.specs.Filled.{at}
 use Rattle.records.specs.Words.{is_held, examined_of}
 use Rattle.editing.specs.Held.{held_bit, held_to}
-use Rattle.front.specs.Front.{AllStay}
 use Rattle.editing.proofs.Held.{held_more}
 
 or_above : (a b : ℕ) → (a ≤ bit_or a b) × (b ≤ bit_or a b)
@@ -31,10 +29,6 @@ pub record Seen (words : List ℕ) (any all held i : ℕ) : Type 0 where
   pub bound : (j : ℕ) → j < i → examined_of (at words j) ≤ examined_of any
   pub counted : held ≡ held_to (at words) i
   pub empty : 2 ^ 63 ≤ all → (j : ℕ) → j < i → is_held (at words j) ≡ false → at words j ≡ 0
-
-pub nothing_seen : {words : List ℕ} {any all : ℕ} → Seen words any all 0 0
-nothing_seen =
-    record { bound = λ j h. absurd (omega arith); counted = refl; empty = λ l j h. absurd (omega arith) }
 
 pub seen_more :
     {words : List ℕ} {any all held i low bit : ℕ}
@@ -57,19 +51,4 @@ seen_more {words} {any} {all} {held} {i} {low} {bit} S L b =
           i
           (S.empty (let a = and_le_l all low in omega arith))
           (λ h. L (let a = and_le_r all low in omega arith) (leb-false (2 ^ 63) (at words i) h));
-    }
-
--- At the end the bound of all fields is within the limit.
-pub all_stay :
-    {words : List ℕ} {any all held i limit : ℕ}
-    → Seen words any all held i
-    → i ≡ length words
-    → 2 ^ 63 ≤ all
-    → examined_of any ≤ limit
-    → AllStay words limit held
-all_stay {words} S end clean few =
-    record {
-      counted = S.counted ∙ ap (held_to (at words)) end;
-      bound = λ j h. let a = S.bound j (omega arith) in omega arith;
-      empty = λ j h. S.empty clean j (omega arith);
     }

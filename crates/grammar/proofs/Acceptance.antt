@@ -1,34 +1,21 @@
 -- The image check's number: it is unique, and it is 0 exactly when the image is lawful and every node is well formed, since question
--- 6 follows from question 7. Also: the number of an image that fails one of questions 1 to 5, and of a lawful one. Assumes nothing.
-use Prim.Native.Nat.{ℕ, ◌≤◌}
+-- 6 follows from question 7. Also: the number of a lawful image. Assumes nothing.
+use Prim.Native.Nat.{ℕ}
 use native.Mathlib.Omega.{arith}
 use mathlib.Core.Path.{◌≡◌, refl}
-use mathlib.Core.List.{List, [], ◌∷◌}
+use mathlib.Core.List.{List}
 use mathlib.Core.Logic.{inl, inr, ◌↔◌}
 use Rattle.grammar.specs.declared.node.Node.TheVariants.{Star}
 use Rattle.grammar.specs.Image.{node}
 use Rattle.grammar.specs.Outcomes.{Has, matches_empty}
 use Rattle.grammar.specs.WellFormed.{WellFormed, wf_star}
-use Rattle.grammar.specs.Questions.{Question6, Question7, First, Checked, Lawful, Accepted, of_lawful, of_image}
-use Rattle.grammar.proofs.First.{unique, refused_before}
+use Rattle.grammar.specs.Questions.{Question6, Question7, First, Checked, Lawful, Accepted, of_image}
+use Rattle.grammar.proofs.First.{unique}
 
 pub one_number : {img : List ℕ} {r s : ℕ} → Checked img r → Checked img s → r ≡ s
 one_number {img} {r} {s} a b = unique (of_image img) r s a.first b.first
 
--- The number of an image that fails one of questions 1 to 5,
-pub refused_lawful : {img : List ℕ} (r : ℕ) → 1 ≤ r → First (of_lawful img) r → Checked img r
-refused_lawful {img} r h a =
-    record {
-      first =
-          refused_before
-          (of_lawful img)
-          (record { number = 6; holds = Question6 img } ∷ record { number = 7; holds = Question7 img } ∷ [])
-          r
-          h
-          a;
-    }
-
--- and of a lawful image that fails question 6, that fails question 7, and that passes both.
+-- The number of a lawful image that fails question 6, that fails question 7, and that passes both.
 module _ {img : List ℕ} (l : Lawful img) where
   pub refused_6 : (Question6 img → ⊥) → Checked img 6
   refused_6 n =
@@ -47,16 +34,6 @@ module _ {img : List ℕ} (l : Lawful img) where
       record {
         first = inr (l.header, inr (l.counts, inr (l.size, inr (l.words, inr (l.tree, inr (q, inr (f, refl)))))));
       }
-
--- An image that passes questions 1 to 5 is lawful.
-pub lawful_at_0 : (img : List ℕ) → First (of_lawful img) 0 → Lawful img
-lawful_at_0 img (inl a) = absurd (let e = a.1 in omega arith)
-lawful_at_0 img (inr (q1, inl a)) = absurd (let e = a.1 in omega arith)
-lawful_at_0 img (inr (q1, inr (q2, inl a))) = absurd (let e = a.1 in omega arith)
-lawful_at_0 img (inr (q1, inr (q2, inr (q3, inl a)))) = absurd (let e = a.1 in omega arith)
-lawful_at_0 img (inr (q1, inr (q2, inr (q3, inr (q4, inl a))))) = absurd (let e = a.1 in omega arith)
-lawful_at_0 img (inr (q1, inr (q2, inr (q3, inr (q4, inr (q5, e)))))) =
-    record { header = q1; counts = q2; size = q3; words = q4; tree = q5 }
 
 -- A star in the well-formed set has a body that lacks outcome 0.
 star_lacks_0 : {img : List ℕ} {a : ℕ} → WellFormed img (Star a) → Has img (node img a) matches_empty → ⊥

@@ -1,15 +1,17 @@
 -- One evaluation: whatever answers the calls, a subject at a position has at most one evaluation, all four components included.
 --     one      two evaluations of the same are equal
 --     still    after a matched round of length 0 the rounds of a star have none
+--     no_record    an answer by the body is not one by a record
 -- Assumes nothing.
 use Prim.Native.Nat.{ℕ, ◌+◌}
+use native.Mathlib.Omega.{arith}
 use native.Mathlib.Nat.{add-zero}
 use mathlib.Core.Path.{◌≡◌, sym, ◌∙◌, ap, subst}
 use mathlib.Core.Bool.{true, false, true≢false}
 use mathlib.Core.List.{List}
 use Rattle.grammar.specs.declared.Evaluation.{Evaluation}
 use Rattle.grammar.specs.Image.{node}
-use Rattle.grammar.specs.Evaluates.{Evaluates, Subject, CallAnswer, by_body, by_record, no_answer, a_node, rounds_of}
+use Rattle.grammar.specs.Evaluates.{Evaluates, Subject, CallAnswer, by_body, by_record, a_node, rounds_of}
 use Rattle.grammar.specs.Evaluates.{first_failed, in_sequence, taken_over, second_choice, last_round, round_then, negated}
 use Rattle.grammar.specs.Evaluates.{ev_empty, ev_terminal, ev_then_first_fails, ev_then, ev_else_first, ev_else_second}
 use Rattle.grammar.specs.Evaluates.{ev_star, ev_last_round, ev_round, ev_not, ev_call, ev_body, ev_record}
@@ -17,22 +19,11 @@ use Rattle.grammar.specs.Evaluates.{ev_star, ev_last_round, ev_round, ev_not, ev
 matched_once : {x y : Evaluation} → x ≡ y → x.matched ≡ true → y.matched ≡ false → ⊥
 matched_once e t f = true≢false (sym t ∙ ap (λ (u : Evaluation). u.matched) e ∙ f)
 
-abbrev IsBody : CallAnswer → Type 0
-IsBody by_body = Unit {0}
-IsBody (by_record y) = ⊥
-IsBody no_answer = ⊥
-
-body≢record : {z : Evaluation} → by_body ≡ by_record z → ⊥
-body≢record e = subst (λ (c : CallAnswer). IsBody c) e tt
-
-of_record : Evaluation → CallAnswer → Evaluation
-of_record d by_body = d
-of_record d (by_record z) = z
-of_record d no_answer = d
+pub no_record : {z : Evaluation} → by_body ≡ by_record z → ⊥
+no_record e = let zero_is_1 : ◌≡◌ {A = ℕ} 0 1 = cc e in omega arith
 
 record_inj : {y z : Evaluation} → by_record y ≡ by_record z → y ≡ z
-unfolding of_record
-record_inj {y} e = ap (of_record y) e
+record_inj e = cc e
 
 module _ (img text : List ℕ) (answers : ℕ → ℕ → CallAnswer) where
   pub one : {s : Subject} {p : ℕ} {y z : Evaluation} → Evaluates img text answers s p y → Evaluates img text answers s p z → y ≡ z
@@ -61,8 +52,8 @@ module _ (img text : List ℕ) (answers : ℕ → ℕ → CallAnswer) where
   one (ev_not a e) (ev_not a' f) = e ∙ ap negated (one a a') ∙ sym f
   one (ev_call a e) (ev_call a' f) = e ∙ ap taken_over (one a a') ∙ sym f
   one (ev_body q a) (ev_body q' a') = one a a'
-  one (ev_body q a) (ev_record q') = absurd (body≢record (sym q ∙ q'))
-  one (ev_record q) (ev_body q' a') = absurd (body≢record (sym q' ∙ q))
+  one (ev_body q a) (ev_record q') = absurd (no_record (sym q ∙ q'))
+  one (ev_record q) (ev_body q' a') = absurd (no_record (sym q' ∙ q))
   one (ev_record q) (ev_record q') = record_inj (sym q ∙ q')
 
   -- A star has no evaluation where a matched round has length 0: the next round is the same.

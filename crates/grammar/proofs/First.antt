@@ -5,12 +5,15 @@ use native.Mathlib.Omega.{arith}
 use mathlib.Core.Path.{◌≡◌, sym, ◌∙◌}
 use mathlib.Core.List.{List, [], ◌∷◌, ◌++◌}
 use mathlib.Core.Logic.{inl, inr}
-use Rattle.grammar.specs.Questions.{Question, First}
+use Rattle.grammar.specs.Questions.{Question, First, of_image}
 
 -- Every question of the list has a number above 0, so that 0 says that all hold.
 abbrev pub Numbered : List Question → Type 0
 Numbered [] = Unit {0}
 Numbered (q ∷ qs) = (1 ≤ q.number) × Numbered qs
+
+pub image_numbers : (img : List ℕ) → Numbered (of_image img)
+image_numbers img = (omega arith, (omega arith, (omega arith, (omega arith, (omega arith, (omega arith, (omega arith, tt)))))))
 
 pub unique : (qs : List Question) (r s : ℕ) → First qs r → First qs s → r ≡ s
 unique [] r s a b = a ∙ sym b
@@ -24,9 +27,3 @@ pub then_asked : (qs rs : List Question) (r : ℕ) → Numbered qs → First qs 
 then_asked [] rs r n a b = b
 then_asked (q ∷ qs) rs r n (inl a) b = absurd (let e = a.1 in let h = n.0 in omega arith)
 then_asked (q ∷ qs) rs r n (inr a) b = inr (a.0, then_asked qs rs r n.1 a.1 b)
-
--- Where one of qs fails, nothing after qs matters.
-pub refused_before : (qs rs : List Question) (r : ℕ) → 1 ≤ r → First qs r → First (qs ++ rs) r
-refused_before [] rs r h a = absurd (omega arith)
-refused_before (q ∷ qs) rs r h (inl a) = inl a
-refused_before (q ∷ qs) rs r h (inr a) = inr (a.0, refused_before qs rs r h a.1)

@@ -2,7 +2,7 @@
 use Prim.Native.Nat.{ℕ, zero, suc, ◌≤◌, min}
 use native.Mathlib.Omega.{arith}
 use borrow.Author.Tests.{eq-eqb, ne_eqb}
-use mathlib.Core.Path.{◌≡◌, refl, sym, ap, ◌∙◌}
+use mathlib.Core.Path.{◌≡◌, refl, ap, ◌∙◌}
 use mathlib.Core.Bool.{Bool, cond}
 use lib.ListN.{get_or, get_or-eq_default}
 use Rattle.grammar.specs.declared.node.NodeFields.{NodeFields}
@@ -87,25 +87,12 @@ read_back f = go f.kind refl
     go (suc (suc (suc (suc (suc (suc (suc (suc k)))))))) e h = ap kind_of (is_unlawful f (omega arith)) ∙ omega arith
 
 module _ (f : NodeFields) where
-  pub kind_of_star : {a : ℕ} → node_of f ≡ Star a → f.kind ≡ 5
-  kind_of_star e = let k = ap kind_of e in omega (arith, read_back f (omega arith))
-
   pub kind_of_call : {r : ℕ} → node_of f ≡ Call r → f.kind ≡ 7
   kind_of_call e = let k = ap kind_of e in omega (arith, read_back f (omega arith))
 
   pub kind_of_unlawful : node_of f ≡ Unlawful → 8 ≤ f.kind
   kind_of_unlawful e = let k = ap kind_of e in omega (arith, read_back f (omega arith))
 
--- The rule that a node calls, read back from it.
-abbrev called_by : Node → ℕ
-called_by Empty = 0
-called_by (Text t) = 0
-called_by (Sequence a b) = 0
-called_by (Choice a b) = 0
-called_by (Star a) = 0
-called_by (NotPredicate a) = 0
-called_by (Call r) = r
-called_by Unlawful = 0
-
+-- The rule that a node calls is its field A.
 pub rule_of_call : (f : NodeFields) {r : ℕ} → node_of f ≡ Call r → f.a ≡ r
-rule_of_call f e = ap called_by (sym (is_call f (kind_of_call f e)) ∙ e)
+rule_of_call f e = cc (is_call f (kind_of_call f e), e)

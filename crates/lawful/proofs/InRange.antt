@@ -1,29 +1,20 @@
--- What the arrays of the check ask: a child, and a called rule's root, are below 1,024; and the children of a node by what it is.
+-- What the arrays of the check ask: a rule's root and a child are below 1,024; and the children of a node by what it is.
 -- Assumes nothing.
-use Prim.Native.Nat.{ℕ, ◌≤◌, ◌<◌}
+use Prim.Native.Nat.{ℕ, ◌<◌}
 use native.Mathlib.Omega.{arith}
 use mathlib.Core.Path.{◌≡◌, refl, ap}
 use mathlib.Core.List.{List, [], ◌∷◌}
 use mathlib.Core.Logic.{◌⊎◌, inl, inr}
 use Rattle.grammar.specs.declared.node.Node.{Node}
 use Rattle.grammar.specs.declared.node.Node.TheVariants.{Empty, Text, Sequence, Choice, Star, NotPredicate, Call, Unlawful}
-use Rattle.grammar.specs.Image.{rules, nodes, root, kind, field_a, field_b, node, children}
+use Rattle.grammar.specs.Image.{rules, nodes, root, node, children}
 use Rattle.grammar.specs.Questions.{Question2, Question4}
 use Rattle.grammar.proofs.References.{refers}
 
--- A child, and a called rule's root, have a place in the arrays.
+-- A rule's root has a place in the arrays.
 module _ (img : List ℕ) (counts : Question2 img) (words : Question4 img) where
   pub root_below : (r : ℕ) → r < rules img → root img r < 1024
   root_below r l = omega (arith, (words.rule_words r l).root_node, counts.few_nodes)
-
-  pub a_below : (n : ℕ) → n < nodes img → 3 ≤ kind img n → kind img n ≤ 6 → field_a img n < 1024
-  a_below n l h k = omega (arith, ((words.node_words n l).child_A h k).1, counts.few_nodes)
-
-  pub b_below : (n : ℕ) → n < nodes img → 3 ≤ kind img n → kind img n ≤ 4 → field_b img n < 1024
-  b_below n l h k = omega (arith, ((words.node_words n l).child_B h k).1, counts.few_nodes)
-
-  pub called_below : (n : ℕ) → n < nodes img → kind img n ≡ 7 → root img (field_a img n) < 1024
-  called_below n l e = root_below (field_a img n) ((words.node_words n l).called e)
 
 -- The children of a node that has two, one and none, and their places in the arrays.
 module _ (img : List ℕ) (counts : Question2 img) (words : Question4 img) (n : ℕ) (l : n < nodes img) {a b : ℕ} where

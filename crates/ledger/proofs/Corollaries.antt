@@ -37,7 +37,8 @@ use Rattle.ledger.specs.Ledger.{Evaluations, Call, edit, reading, look_up, listi
 use Rattle.ledger.specs.Ledger.{value_in, rows_in, new_pairs, passes9, passes10, passes11, passes14, passes15, edit_turn, read_turn, look_up_turn, list_turn}
 use Rattle.ledger.specs.Demand.{loan, rows_given}
 use Rattle.ledger.specs.Corollaries.{LedgersNumber, All, OnlyTheseNumbers, in_session, AsPlain, in_listing, rows_if, ListsAsPlain}
-use Rattle.promises.proofs.Asked.{first_rest, image_numbers}
+use Rattle.promises.proofs.Asked.{first_rest}
+use Rattle.grammar.proofs.First.{image_numbers}
 use Rattle.ledger.proofs.Fresh.{evaluations}
 use Rattle.ledger.proofs.Inv.{Inv, text_is, short_text}
 use Rattle.ledger.proofs.StepRead.{read_step}

@@ -18,9 +18,8 @@ use Rattle.grammar.specs.declared.Evaluation.{Evaluation}
 use Rattle.grammar.specs.Image.{rules, start, body}
 use Rattle.grammar.specs.Questions.{Accepted}
 use Rattle.grammar.specs.Evaluates.{Fresh, bodies_only, a_node, a_pair, ev_body}
-use Rattle.grammar.proofs.Determinism.{one}
+use Rattle.grammar.proofs.Determinism.{one, no_record}
 use Rattle.evaluation.specs.Calls.{Pair, In, is_in, Reached, called, calls_of, bodies_of}
-use Rattle.evaluation.proofs.Plain.{no_record}
 use Rattle.evaluation.proofs.Pairs.{is_in_lem}
 use Rattle.evaluation.proofs.Counts.{count_same}
 use Rattle.evaluation.proofs.Bodies.{shallower}

@@ -2,15 +2,11 @@
 use Prim.Native.Nat.{ℕ, zero, suc, ◌+◌, ◌-◌, ◌≤◌}
 use native.Mathlib.Omega.{arith}
 use native.Mathlib.Nat.{add-zero, add-suc}
-use mathlib.Core.Path.{◌≡◌, refl, sym, ap, ◌∙◌}
+use mathlib.Core.Path.{◌≡◌, sym, ap, ◌∙◌}
 use mathlib.Core.Bool.{Bool, false}
 use Rattle.grammar.specs.Questions.{one_if}
 use Rattle.evaluation.specs.Counts.{sum_to, count_pairs}
-
-sum_none : (n : ℕ) (f : ℕ → ℕ) → ((i : ℕ) → f i ≡ 0) → sum_to n f ≡ 0
-unfolding sum_to
-sum_none zero f h = refl
-sum_none (suc n) f h = let a = sum_none n f h in let b = h n in omega arith
+use Rattle.evaluation.proofs.Counts.{sum_none}
 
 sum_add : (a b : ℕ) (f : ℕ → ℕ) → sum_to (a + b) f ≡ sum_to a f + sum_to b (λ j. f (a + j))
 unfolding sum_to
@@ -28,5 +24,5 @@ count_cut R m n test h none =
     let e = ap (λ (k : ℕ). sum_to k f) (let d : n ≡ m + (n - m) = omega arith in d) in
     let a = sum_add m (n - m) f in
     let b =
-    sum_none (n - m) (λ j. f (m + j)) (λ i. sum_none R (λ r. one_if (test r (m + i))) (λ r. ap one_if (none r (m + i) (omega arith)))) in
+    sum_none (n - m) (λ j. f (m + j)) (λ i l. sum_none R (λ r. one_if (test r (m + i))) (λ r k. ap one_if (none r (m + i) (omega arith)))) in
     omega arith

@@ -39,9 +39,6 @@ pass_bounded room ws text table root start =
 abbrev answer_of : Trail → Walked
 answer_of (trail a ws) = a
 
-abbrev words_of : Trail → List ℕ
-words_of (trail a ws) = ws
-
 module _ {n p : ℕ} {slots : List ℕ} {o : Trail} (b : Bounded n (length slots) p 0 o) where
   -- The counting pass is refused.
   pub refused : {l l' : List ℕ} {r : Result ℕ Refusal} {e : Refusal} → Passed l r l' o → r ≡ Err e → NotWritten o slots e slots

@@ -13,11 +13,10 @@ use Rattle.grammar.specs.Characters.{later_bytes}
 use Rattle.grammar.specs.Terminal.{accepts, later_of, taken, not_taken, terminal_at}
 use Rattle.grammar.specs.Evaluates.{Fresh, a_pair, ev_terminal, ev_body}
 use Rattle.grammar.specs.Questions.{of_image}
-use Rattle.grammar.proofs.First.{then_asked}
+use Rattle.grammar.proofs.First.{then_asked, image_numbers}
 use Rattle.reading.specs.declared.plain.Outcome.{Outcome}
 use Rattle.reading.specs.declared.plain.Reading.{Reading}
 use Rattle.reading.specs.Plain.{Reports, ShortText, DepthAllowed, PlainRead}
-use Rattle.promises.proofs.Asked.{image_numbers}
 use Rattle.marked.specs.Images.{dot}
 use Rattle.marked.specs.Cases.{Says, Hold, any_reads, complete, broken}
 use Rattle.marked.proofs.Images.{dot_accepted}

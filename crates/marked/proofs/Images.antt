@@ -33,7 +33,7 @@ passes = ((refl, refl, refl), (refl, refl, refl), (refl, refl, refl), (refl, ref
 lawful : {img : List ℕ} → Passes img → Lawful img
 lawful {img} p = lawful_image img p.0 p.1 p.2
 
-terminal_lacks_0 : {img : List ℕ} {t : Terminal} → Has img (Text t) matches_empty → ⊥
+pub terminal_lacks_0 : {img : List ℕ} {t : Terminal} → Has img (Text t) matches_empty → ⊥
 terminal_lacks_0 = elim [ ]
 
 -- D2: every node is well formed.

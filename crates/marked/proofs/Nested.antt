@@ -5,16 +5,13 @@ use Prim.Native.Nat.{ℕ, zero, suc, ◌+◌, ◌*◌, ◌≤◌, ◌<◌, max}
 use native.Mathlib.Omega.{arith}
 use mathlib.Core.Path.{◌≡◌, refl, sym, ap, ◌∙◌, subst}
 use mathlib.Core.Bool.{Bool, true, cond}
-use mathlib.Core.List.{List, [], ◌∷◌}
+use mathlib.Core.List.{[], ◌∷◌}
 use mathlib.Core.Logic.{inl, inr}
 use lib.ListN.{length, length-replicate, get_or-replicate}
 use Rattle.grammar.specs.declared.Evaluation.{Evaluation}
 use Rattle.grammar.specs.Image.{edition, rules, nodes, start, rule_zero, root, rule_word, node_word, fields_at}
-use Rattle.grammar.specs.declared.node.Terminal.{Terminal}
-use Rattle.grammar.specs.declared.node.Node.TheVariants.{Text}
 use Rattle.grammar.specs.declared.node.Terminal.TheVariants.{Range}
 use Rattle.grammar.specs.Image.{node, node_of, body, byte_at}
-use Rattle.grammar.specs.Outcomes.{Has, matches_empty}
 use Rattle.grammar.specs.WellFormed.{WellFormed, wf_empty, wf_terminal, wf_call, wf_then, wf_else}
 use Rattle.grammar.specs.Questions.{Question7, Checked, of_image, roots, children_below, occurrences}
 use Rattle.grammar.specs.Terminal.{terminal_at, accepts, has_at, taken, not_taken}
@@ -23,25 +20,22 @@ use Rattle.grammar.specs.Evaluates.{ev_empty, ev_terminal, ev_then_first_fails, 
 use Rattle.grammar.specs.Tests.{every, header_test, rule_test, node_test, words_test, once_test}
 use Rattle.grammar.proofs.Tests.{lawful_image}
 use Rattle.grammar.proofs.Terminals.{has_there, has_not, by_byte, range_alone}
-use Rattle.grammar.proofs.First.{then_asked}
+use Rattle.grammar.proofs.First.{then_asked, image_numbers}
 use Rattle.grammar.proofs.Acceptance.{checked, accepted}
 use Rattle.grammar.proofs.Determinism.{one}
 use Rattle.reading.specs.declared.plain.Outcome.{Outcome}
 use Rattle.reading.specs.Plain.{ShortText, DepthAllowed, PlainRead}
 use Rattle.ledger.specs.Sessions.{SessionSays}
-use Rattle.promises.proofs.Asked.{image_numbers}
 use Rattle.ledger.proofs.Sessions.{session_deep}
 use Rattle.marked.specs.Images.{M10, brackets}
 use Rattle.marked.specs.Sessions.{calls_deep, replies_deep}
+use Rattle.marked.proofs.Images.{terminal_lacks_0}
 
 -- The image is accepted.
 passes : (header_test M10 ≡ true) × (words_test M10 ≡ true) × (every (nodes M10) (once_test M10) ≡ true)
 unfolding M10 every header_test rule_test node_test words_test once_test edition rules nodes start rule_zero root rule_word fields_at
     node_word node_of roots children_below occurrences
 passes = (refl, refl, refl)
-
-terminal_lacks_0 : {img : List ℕ} {t : Terminal} → Has img (Text t) matches_empty → ⊥
-terminal_lacks_0 = elim [ ]
 
 formed : Question7 M10
 unfolding M10 rules nodes root rule_word fields_at node_word node_of body

@@ -16,9 +16,9 @@ use Rattle.grammar.specs.Evaluates.{Fresh, Subject, bodies_only, a_node, a_pair,
 use Rattle.grammar.specs.Evaluates.{in_sequence, taken_over, second_choice, last_round, round_then, negated}
 use Rattle.grammar.specs.Evaluates.{ev_empty, ev_terminal, ev_then_first_fails, ev_then, ev_else_first, ev_else_second}
 use Rattle.grammar.specs.Evaluates.{ev_star, ev_last_round, ev_round, ev_not, ev_call, ev_body, ev_record}
-use Rattle.grammar.proofs.Determinism.{still}
+use Rattle.grammar.proofs.Determinism.{still, no_record}
 use Rattle.grammar.proofs.Terminals.{shape}
-use Rattle.evaluation.proofs.Plain.{fresh_within, no_record}
+use Rattle.evaluation.proofs.Plain.{fresh_within}
 use Rattle.records.specs.Words.{word_of}
 use Rattle.records.specs.Slots.{slot_of}
 use Rattle.packrat.specs.Model.{answered, refused, Out, out, Evaluator, bind, made, after_first, after_choice, after_round, rounds_m}

@@ -20,9 +20,8 @@ use Rattle.grammar.specs.Questions.{Question4}
 use Rattle.grammar.specs.Evaluates.{in_sequence, taken_over, second_choice, round_then, negated}
 use Rattle.grammar.proofs.Nodes.{kind_of_unlawful}
 use Rattle.grammar.proofs.References.{Refers, refers, root_in_range}
-use Rattle.grammar.proofs.Terminals.{shape}
 use Rattle.evaluation.specs.Within.{Within}
-use Rattle.evaluation.proofs.Shape.{empty_within, failed_within, taken_within, negated_within, last_within, second_within}
+use Rattle.evaluation.proofs.Shape.{empty_within, failed_within, taken_within, negated_within, last_within, second_within, terminal_within}
 use Rattle.evaluation.proofs.Shape.{round_within, then_within}
 use Rattle.records.specs.Words.{is_held, possible, nesting_of, word_of}
 use Rattle.records.specs.Slots.{slot_of}
@@ -128,16 +127,7 @@ module _ (img text : List ℕ) where
         → (p : ℕ) → p ≤ length text → (t : List ℕ) (c : ℕ) → Framed img text t p (kind_m text ev called m p t c)
     unfolding kind_m
     kind-framed calls Empty r n p h t c = still t p c _ (empty_within h)
-    kind-framed calls (Text m) r n p h t c =
-        let s = shape m text p h in
-        still t p c _
-        (record {
-          in_text = s.in_text;
-          up_to_end = s.up_to_end;
-          in_examined = s.in_examined;
-          failure = s.failure;
-          nested = omega (arith, s.flat);
-        })
+    kind-framed calls (Text m) r n p h t c = still t p c _ (terminal_within m text p h)
     kind-framed calls (Sequence a b) r n p h t c =
         next (all a p r.0 h t c) (λ x u d. after_first x.matched ev b p x u d)
         (λ x u d w. then-framed x.matched b p x r.1 w u d)

@@ -3,7 +3,7 @@
 use Rattle.std.specs.Prelude.{Ok, Err}
 use Rattle.grammar.specs.declared.refusal.Refusal.{Refusal}
 use Rattle.grammar.specs.declared.refusal.Refusal.TheVariants.{Records, Nesting}
-use Prim.Native.Nat.{ℕ, zero, suc, ◌+◌, ◌-◌, ◌%◌, ◌≤◌, ◌<◌, ◌^◌}
+use Prim.Native.Nat.{ℕ, suc, ◌+◌, ◌-◌, ◌%◌, ◌≤◌, ◌<◌, ◌^◌}
 use native.Mathlib.Omega.{arith}
 use mathlib.Core.Path.{◌≡◌, refl, sym, ap, ◌∙◌, subst}
 use mathlib.Core.Bool.{Bool, true, false, cond}
@@ -164,25 +164,3 @@ module _ {n : ℕ} (ws text : List ℕ) (left : ℕ) where
       → Gives n at left (word_m ws text (left - 1) w at t c) r u d
   call_goes w at t c {rule = rule} {d} {r} {u} ne b e g =
       word_goes w at t c ne e (subst (λ (k : ℕ). Gives n at (left - 1 + 1) (kind_w ws text (left - 1) k (Call rule) at t c) r u d) b g)
-
--- A kind that is none of 0 to 7.
-pub past_7 :
-    (k : ℕ)
-    → (k ≡ 0 → ⊥)
-    → (k ≡ 1 → ⊥)
-    → (k ≡ 2 → ⊥)
-    → (k ≡ 3 → ⊥)
-    → (k ≡ 4 → ⊥)
-    → (k ≡ 5 → ⊥)
-    → (k ≡ 6 → ⊥)
-    → (k ≡ 7 → ⊥)
-    → 8 ≤ k
-past_7 zero a b c d e f g h = absurd (a refl)
-past_7 (suc zero) a b c d e f g h = absurd (b refl)
-past_7 (suc (suc zero)) a b c d e f g h = absurd (c refl)
-past_7 (suc (suc (suc zero))) a b c d e f g h = absurd (d refl)
-past_7 (suc (suc (suc (suc zero)))) a b c d e f g h = absurd (e refl)
-past_7 (suc (suc (suc (suc (suc zero))))) a b c d e f g h = absurd (f refl)
-past_7 (suc (suc (suc (suc (suc (suc zero)))))) a b c d e f g h = absurd (g refl)
-past_7 (suc (suc (suc (suc (suc (suc (suc zero))))))) a b c d e f g h = absurd (h refl)
-past_7 (suc (suc (suc (suc (suc (suc (suc (suc k)))))))) a b c d e f g h = omega arith

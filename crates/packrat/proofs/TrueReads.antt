@@ -17,10 +17,11 @@ use Rattle.grammar.specs.declared.Evaluation.{Evaluation}
 use Rattle.grammar.specs.Image.{rules, start, body}
 use Rattle.grammar.specs.Questions.{Accepted}
 use Rattle.grammar.specs.Evaluates.{Fresh, bodies_only, a_node, a_pair}
+use Rattle.grammar.proofs.Determinism.{no_record}
+use Rattle.grammar.proofs.Bools.{or_left, or_right}
 use Rattle.evaluation.specs.Calls.{Pair, In, is_in, calls_of, bodies_of}
 use Rattle.evaluation.proofs.Pairs.{in_is, is_in_lem}
 use Rattle.evaluation.proofs.Counts.{count_same, count_most}
-use Rattle.evaluation.proofs.Plain.{no_record}
 use Rattle.evaluation.proofs.Range.{called_in_range}
 use Rattle.evaluation.proofs.Reach.{bodies_closed}
 use Rattle.evaluation.proofs.Totality.{total_pair}
@@ -47,13 +48,6 @@ or_held true true e = refl
 or_held true false e = absurd (true≢false e)
 or_held false true e = refl
 or_held false false e = refl
-
-or_left : (a b : Bool) → a ≡ true → a || b ≡ true
-or_left a b e = ap (λ (k : Bool). k || b) e
-
-or_right : (a b : Bool) → b ≡ true → a || b ≡ true
-or_right true b e = refl
-or_right false b e = e
 
 module _ (img text table : List ℕ) (accepted : Accepted img) (short : length text ≤ 65535) (true_words : TrueTable img text table) where
   module _ (room : Room img text table) (closed : ClosedTable img text table) {r p : ℕ} {z : Evaluation}

@@ -17,10 +17,10 @@ use Rattle.grammar.specs.Questions.{Question4}
 use Rattle.grammar.specs.Evaluates.{Fresh, Subject, by_record, bodies_only, a_node, a_pair}
 use Rattle.grammar.specs.Evaluates.{ev_empty, ev_terminal, ev_then_first_fails, ev_then, ev_else_first, ev_else_second}
 use Rattle.grammar.specs.Evaluates.{ev_star, ev_last_round, ev_round, ev_not, ev_call, ev_body, ev_record}
-use Rattle.grammar.proofs.Determinism.{one}
+use Rattle.grammar.proofs.Determinism.{one, no_record}
 use Rattle.grammar.proofs.References.{refers, root_in_range}
 use Rattle.evaluation.specs.Calls.{Pair, is_in, bodies_of}
-use Rattle.evaluation.proofs.Plain.{fresh_within, no_record}
+use Rattle.evaluation.proofs.Plain.{fresh_within}
 use Rattle.evaluation.proofs.Pairs.{is_in_lem, is_in_both}
 use Rattle.evaluation.proofs.BodiesOnce.{bodies_once}
 use Rattle.evaluation.proofs.Range.{InImage, PairOf, all_inside, called_in_range}

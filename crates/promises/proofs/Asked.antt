@@ -1,11 +1,11 @@
--- The questions in front of each call: where they all hold, where the first one fails, and what is left to ask. Assumes nothing.
-use Prim.Native.Nat.{ℕ, ◌≤◌}
+-- The questions in front of each call: where they all hold, and what is left to ask. Assumes nothing.
+use Prim.Native.Nat.{ℕ}
 use native.Mathlib.Omega.{arith}
 use mathlib.Core.Path.{◌≡◌, refl}
 use mathlib.Core.List.{List, [], ◌∷◌, ◌++◌}
 use mathlib.Core.Logic.{inl, inr}
-use Rattle.grammar.specs.Questions.{Question, First, of_image, Checked, Accepted}
-use Rattle.grammar.proofs.First.{Numbered, then_asked, refused_before, unique}
+use Rattle.grammar.specs.Questions.{Question, First, of_image, Accepted}
+use Rattle.grammar.proofs.First.{Numbered, image_numbers, then_asked, unique}
 use Rattle.grammar.proofs.Acceptance.{accepted, checked}
 use Rattle.promises.specs.Questions.{Question8, Question9, Question10, Question11, of_sheet, of_edit, of_look_up}
 
@@ -22,23 +22,12 @@ first_rest (q ∷ qs) rs r n (inl a) b = absurd (let e = a.1 in let h = n.0 in o
 first_rest (q ∷ qs) rs r n (inr a) (inl b) = absurd (b.0 a.0)
 first_rest (q ∷ qs) rs r n (inr a) (inr b) = first_rest qs rs r n.1 a.1 b.1
 
-pub image_numbers : (img : List ℕ) → Numbered (of_image img)
-image_numbers img = (omega arith, (omega arith, (omega arith, (omega arith, (omega arith, (omega arith, (omega arith, tt)))))))
-
 sheet_numbers : (img : List ℕ) (cap n words : ℕ) → Numbered (of_sheet img cap n words)
 sheet_numbers img cap n words =
     (omega arith, (omega arith, (omega arith, (omega arith, (omega arith, (omega arith, (omega arith, (omega arith, tt))))))))
 
 module _ (img : List ℕ) (cap n words : ℕ) where
-  -- Questions 1 to 8: an image that is refused, a loan that is refused, and neither.
-  pub image_first : (k : ℕ) → 1 ≤ k → Checked img k → First (of_sheet img cap n words) k
-  image_first k h c = refused_before (of_image img) (record { number = 8; holds = Question8 img cap n words } ∷ []) k h c.first
-
-  pub loan_first : Checked img 0 → (Question8 img cap n words → ⊥) → First (of_sheet img cap n words) 8
-  loan_first c fails =
-      then_asked (of_image img) (record { number = 8; holds = Question8 img cap n words } ∷ []) 8 (image_numbers img) c.first
-      (inl (fails, refl))
-
+  -- Questions 1 to 8, where all hold.
   pub sheet_first : Accepted img → Question8 img cap n words → First (of_sheet img cap n words) 0
   sheet_first a q =
       then_asked (of_image img) (record { number = 8; holds = Question8 img cap n words } ∷ []) 0 (image_numbers img) (checked a).first
@@ -52,21 +41,6 @@ module _ (img : List ℕ) (cap n words : ℕ) where
       go : First (record { number = 8; holds = Question8 img cap n words } ∷ []) 0 → Question8 img cap n words
       go (inl a) = absurd (let e = a.1 in omega arith)
       go (inr a) = a.0
-
-  -- A call that fails one of questions 1 to 8 asks none of its own.
-  pub front_edit : (s e k number : ℕ) → 1 ≤ number → First (of_sheet img cap n words) number → First (of_edit img cap n words s e k) number
-  front_edit s e k number h f =
-      refused_before (of_sheet img cap n words)
-      (record { number = 9; holds = Question9 n s e } ∷ record { number = 10; holds = Question10 cap n s e k } ∷ [])
-      number
-      h
-      f
-
-  pub front_look_up :
-      (rule position number : ℕ) → 1 ≤ number → First (of_sheet img cap n words) number
-      → First (of_look_up img cap n words rule position) number
-  front_look_up rule position number h f =
-      refused_before (of_sheet img cap n words) (record { number = 11; holds = Question11 img n rule position } ∷ []) number h f
 
   module _ (good : First (of_sheet img cap n words) 0) where
     -- An edit that fails 9, that fails 10, and that passes both,

@@ -40,7 +40,7 @@ use Rattle.promises.specs.Answers.{ReadAnswer, ListAnswer, sheet_reading}
 use Rattle.promises.specs.declared.SheetReading.{SheetReading}
 use Rattle.promises.specs.Questions.{of_sheet}
 use Rattle.promises.specs.Reading.{NotForeign, SheetRead}
-use Rattle.promises.specs.Listing.{GivesRows, listed, no_slots, zeroed, RefusedAlso, ThenListed, SheetListed, ListPromise}
+use Rattle.promises.specs.Listing.{GivesRows, listed, no_slots, zeroed, RefusedAlso, ThenListed, SheetListed, ListPromise, ListedAfter}
 use Rattle.promises.specs.Run.{answer_of, words_of, stopped_words}
 use Rattle.promises.proofs.SheetReads.{sheet_read}
 
@@ -129,6 +129,12 @@ module _ (img text : List ℕ) (cap : ℕ) (W R : List ℕ) (accepted : Accepted
               let deep = start_deep img text W accepted short f.true_words d (leb-false y.nesting 4096 k) 0 in
               absurd (let x : 0 ≡ 14 = ap refusal_of (sym e ∙ deep.is) in omega arith)
 
+      then_listed :
+          {a : ListAnswer} {W' R' : List ℕ} → ListedAfter img text cap W (sheet_reading (length text) z count) words R a W' R'
+          → SheetListed img text cap W R a W' R'
+      then_listed then =
+          record { reading = Ok (sheet_reading (length text) z count); words = words; reads = the-reading e; then = then }
+
       pub written_listed :
           {m : Bool} {len c : ℕ} {rows : List ℕ} → start_v (length R) img ws text words 0 (length text) ≡ trail (walked m len c) rows
           → length rows ≤ length R
@@ -136,54 +142,18 @@ module _ (img text : List ℕ) (cap : ℕ) (W R : List ℕ) (accepted : Accepted
           (Ok (record { reading = sheet_reading (length text) z count; rows = length rows })) words
           (rows ++ drop (length rows) R)
       written_listed {rows = rows} w fit =
-          record {
-            reading = Ok (sheet_reading (length text) z count);
-            words = words;
-            reads = the-reading e;
-            then =
-                record {
-                  ends = listed rows fit;
-                  rows_are = λ f y d. (all_written (sheet_reading (length text) z count) (walk-fits f y d) w, refl);
-                };
-          }
+          then_listed (record { ends = listed rows fit; rows_are = λ f y d. (all_written (sheet_reading (length text) z count) (walk-fits f y d) w, refl) })
 
       pub stopped_listed :
           {k : Refusal} {rows : List ℕ} → start_v (length R) img ws text words 0 (length text) ≡ trail (stopped k) rows
           → Stops k
           → SheetListed img text cap W R (Err k) (stopped_words (eqb (number k) 15) img cap words) R
       stopped_listed w no_slot =
-          record {
-            reading = Ok (sheet_reading (length text) z count);
-            words = words;
-            reads = the-reading e;
-            then =
-                record {
-                  ends = no_slots;
-                  rows_are = λ f y d. (none_written (sheet_reading (length text) z count) (walk-fits f y d) w, refl);
-                };
-          }
+          then_listed (record { ends = no_slots; rows_are = λ f y d. (none_written (sheet_reading (length text) z count) (walk-fits f y d) w, refl) })
       stopped_listed w impossible =
-          record {
-            reading = Ok (sheet_reading (length text) z count);
-            words = words;
-            reads = the-reading e;
-            then =
-                record {
-                  ends = zeroed (inl refl);
-                  rows_are = λ f y d. absurd (no_other (λ z. omega arith) (walk-fits f y d) w);
-                };
-          }
+          then_listed (record { ends = zeroed (inl refl); rows_are = λ f y d. absurd (no_other (λ z. omega arith) (walk-fits f y d) w) })
       stopped_listed w too_deep =
-          record {
-            reading = Ok (sheet_reading (length text) z count);
-            words = words;
-            reads = the-reading e;
-            then =
-                record {
-                  ends = zeroed (inr refl);
-                  rows_are = λ f y d. absurd (no_other (λ z. omega arith) (walk-fits f y d) w);
-                };
-          }
+          then_listed (record { ends = zeroed (inr refl); rows_are = λ f y d. absurd (no_other (λ z. omega arith) (walk-fits f y d) w) })
 
 -- "gives 12 when the word of (start, 0) is held and impossible": a listing too, and then it leaves the row slots and zeroes the table.
 module _ {img text : List ℕ} {cap : ℕ} {W R : List ℕ} {a : ListAnswer} {W' R' : List ℕ} (s : SheetListed img text cap W R a W' R')

@@ -2,15 +2,13 @@
 -- Assumes nothing.
 --     sheet_read       of a text in a buffer of cap bytes, where questions 1 to 8 hold
 --     reads_are        of the first n bytes of a buffer
---     reads_answered, reads_refused    the same by cases of the run
---     reads_word, reads_refusal        the same by cases of what the evaluator answers
 --     reads_unasked    where one of questions 1 to 8 fails
 use Rattle.grammar.specs.Refusals.{number_in}
 use Rattle.grammar.specs.declared.refusal.Refusal.{Refusal}
 use Rattle.grammar.specs.declared.refusal.Refusal.TheVariants.{Records, Nesting}
 use Rattle.grammar.specs.Refusals.{number}
 use Rattle.grammar.proofs.Refusals.{number_bounds}
-use Rattle.std.specs.Prelude.{Result, Ok, Err}
+use Rattle.std.specs.Prelude.{Ok, Err}
 use Prim.Native.Nat.{ℕ, ◌+◌, ◌≤◌, ◌<◌, ◌^◌}
 use native.Mathlib.Omega.{arith}
 use native.Mathlib.Nat.{mul-le-mul}
@@ -25,20 +23,17 @@ use Rattle.grammar.specs.Questions.{First, Accepted}
 use Rattle.grammar.specs.Evaluates.{a_pair}
 use Rattle.evaluation.specs.Calls.{Pair, is_in, bodies_of}
 use Rattle.evaluation.proofs.Counts.{count_most}
-use Rattle.records.specs.Words.{value_of}
 use Rattle.records.proofs.Slots.{slot_in, size_up}
 use Rattle.packrat.specs.Model.{Answer, answered, refused, Out, out, node_m}
 use Rattle.reading.specs.Plain.{TooDeep}
 use Rattle.packrat.specs.Over.{Over}
 use Rattle.packrat.specs.Stores.{Room, evaluations}
-use Rattle.packrat.specs.Gives.{Gives}
 use Rattle.packrat.specs.Framed.{Fits, Framed}
-use Rattle.packrat.proofs.Gives.{found, was_refused, says}
 use Rattle.packrat.proofs.Framed.{pair_framed, pair_impossible}
 use Rattle.packrat.proofs.Stores.{determined}
 use Rattle.packrat.proofs.TrueReads.{start_deep, only_14}
 use Rattle.packrat.specs.Session.{start_run}
-use Rattle.editing.specs.Table.{table_size, TableLent, cleared_table}
+use Rattle.editing.specs.Table.{table_size, TableLent}
 use Rattle.editing.proofs.Loans.{cleared_long, cleared_tail}
 use Rattle.promises.specs.declared.SheetReading.{SheetReading}
 use Rattle.promises.specs.Answers.{sheet_reading}
@@ -163,47 +158,6 @@ reads_are img B n W accepted q =
           long
           read;
     }
-
--- The run answered or refused, with the table and the count that it left.
-pub reads_answered :
-    (img B : List ℕ) (n : ℕ) (W : List ℕ) → Accepted img → Question8 img (length B) n (length W)
-    → (z : Evaluation) (W' : List ℕ) (count : ℕ)
-    → start_run img (take n B) W 0 ≡ out (answered z) W' count
-    → ReadPromise img B n W (Ok (sheet_reading n z count)) W'
-reads_answered img B n W accepted q z W' count e =
-    subst (λ (o : Out). ReadPromise img B n W (answer_of n o) (words_of img (length B) o)) e (reads_are img B n W accepted q)
-
-pub reads_refused :
-    (img B : List ℕ) (n : ℕ) (W : List ℕ) → Accepted img → Question8 img (length B) n (length W)
-    → (k : Refusal) (table : List ℕ) (count : ℕ)
-    → start_run img (take n B) W 0 ≡ out (refused k) table count
-    → ReadPromise img B n W (Err k) (cleared_table (rules img) (length B) table)
-reads_refused img B n W accepted q k table count e =
-    subst (λ (o : Out). ReadPromise img B n W (answer_of n o) (words_of img (length B) o)) e (reads_are img B n W accepted q)
-
--- The same by what the evaluator answers: the word of an evaluation, or a refusal.
-module _ (img B : List ℕ) (n : ℕ) (W : List ℕ) (accepted : Accepted img) (q : Question8 img (length B) n (length W))
-  where
-    short-part : length (take n B) ≤ 65535
-    short-part = rw (length-take-le n B q.text_fits) (omega (arith, q.text_fits, q.short))
-
-    -- What the evaluator gave of the start pair.
-    abbrev Given : Result ℕ Refusal → List ℕ → ℕ → Type 0
-    Given r table count = Gives (length (take n B)) 0 4096 (start_run img (take n B) W 0) r table count
-
-    pub reads_word :
-        {word count : ℕ} {table : List ℕ} → Given (Ok word) table count
-        → ReadPromise img B n W (Ok (sheet_reading n (value_of word) count)) table
-    reads_word {count = count} {table} g =
-        let f = found short-part (omega arith) g in
-        subst (λ (z : Evaluation). ReadPromise img B n W (Ok (sheet_reading n z count)) table)
-        (sym (says short-part (omega arith) f))
-        (reads_answered img B n W accepted q f.value table count f.is)
-
-    pub reads_refusal :
-        {r : Refusal} {count : ℕ} {table : List ℕ} → Given (Err r) table count
-        → ReadPromise img B n W (Err r) (cleared_table (rules img) (length B) table)
-    reads_refusal {r} {count} {table} g = reads_refused img B n W accepted q r table count (was_refused short-part (omega arith) g)
 
 -- A reading that fails one of questions 1 to 8.
 pub reads_unasked :

@@ -3,4 +3,3 @@ pub mod Outcomes
 pub mod PlainReading
 pub mod Coding
 pub mod Consuming
-pub mod StartPair

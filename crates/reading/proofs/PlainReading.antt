@@ -3,15 +3,14 @@
 use Rattle.std.specs.Prelude as std
 use Rattle.std.specs.Prelude.{Ok, Err}
 use Rattle.grammar.specs.declared.refusal.Refusal.{Refusal}
-use Rattle.grammar.specs.declared.refusal.Refusal.TheVariants.{Loan, Nesting}
+use Rattle.grammar.specs.declared.refusal.Refusal.TheVariants.{Nesting}
 use Rattle.grammar.specs.Refusals.{number}
-use Rattle.grammar.proofs.Refusals.{number_bounds}
-use Rattle.std.proofs.Common.{◌≡◌, ℕ, ◌<◌, ◌≤◌, List, [], ◌∷◌, length, sym, refl, ap, ◌∙◌, subst, inl, inr, arith}
+use Rattle.std.proofs.Common.{◌≡◌, ℕ, ◌≤◌, List, [], ◌∷◌, length, sym, refl, ap, ◌∙◌, subst, inl, inr, arith}
 use Rattle.grammar.specs.declared.Evaluation.{Evaluation}
 use Rattle.grammar.specs.Image.{start}
 use Rattle.grammar.specs.Evaluates.{a_pair, bodies_only}
-use Rattle.grammar.specs.Questions.{Question, First, of_image, Checked}
-use Rattle.grammar.proofs.First.{then_asked, refused_before}
+use Rattle.grammar.specs.Questions.{Question, of_image, Checked}
+use Rattle.grammar.proofs.First.{image_numbers, then_asked}
 use Rattle.grammar.proofs.Acceptance.{accepted}
 use Rattle.grammar.proofs.Determinism.{one}
 use Rattle.evaluation.proofs.Totality.{Exists, total_pair}
@@ -32,39 +31,11 @@ use Rattle.packrat.proofs.OverTables.{Result, fine, deep, pair_over}
 reported : (n : ℕ) (z : Evaluation) → z.length ≤ n → Reports n z (reading_of n z)
 reported n z h = record { outcome_is = outcome_says n z h; length_is = refl; examined_is = refl; nesting_is = refl }
 
-numbers : (img : List ℕ) → Rattle.grammar.proofs.First.Numbered (of_image img)
-numbers img = (omega arith, (omega arith, (omega arith, (omega arith, (omega arith, (omega arith, (omega arith, tt)))))))
-
 module _ (img text : List ℕ) where
   abbrev last_two : List Question
   last_two = record { number = 8; holds = ShortText text } ∷ record { number = 14; holds = DepthAllowed img text } ∷ []
 
-  -- An image that is refused.
-  pub image_refused : (r : Refusal) → Checked img (number r) → PlainRead img text (Err r)
-  image_refused r c =
-      record {
-        first = refused_before (of_image img) last_two (number r) (number_bounds r).0 c.first;
-        values = λ e. absurd (not-14 (number r) c.first (ap number e));
-      }
-    where
-      not-14 : (k : ℕ) → First (of_image img) k → k ≡ 14 → ⊥
-      not-14 k (inl a) e = let d = a.1 in omega arith
-      not-14 k (inr (q1, inl a)) e = let d = a.1 in omega arith
-      not-14 k (inr (q1, inr (q2, inl a))) e = let d = a.1 in omega arith
-      not-14 k (inr (q1, inr (q2, inr (q3, inl a)))) e = let d = a.1 in omega arith
-      not-14 k (inr (q1, inr (q2, inr (q3, inr (q4, inl a))))) e = let d = a.1 in omega arith
-      not-14 k (inr (q1, inr (q2, inr (q3, inr (q4, inr (q5, inl a)))))) e = let d = a.1 in omega arith
-      not-14 k (inr (q1, inr (q2, inr (q3, inr (q4, inr (q5, inr (q6, inl a))))))) e = let d = a.1 in omega arith
-      not-14 k (inr (q1, inr (q2, inr (q3, inr (q4, inr (q5, inr (q6, inr (q7, d)))))))) e = omega arith
-
   module _ (c : Checked img 0) where
-    pub text_refused : 65535 < length text → PlainRead img text (Err Loan)
-    text_refused h =
-        record {
-          first = then_asked (of_image img) last_two 8 (numbers img) c.first (inl ((λ q. let s = q.short in omega arith), refl));
-          values = λ e. absurd (let d = ap number e in omega arith);
-        }
-
     module _ (short : length text ≤ 65535) {given-start : std.Result ℕ Refusal} (s : StartWord img text given-start) where
       start_exists : Exists img text (a_pair (start img)) 0
       start_exists = let a = accepted c in total_pair img text a (start img) a.lawful.counts.start_rule 0 (omega arith)
@@ -97,7 +68,7 @@ module _ (img text : List ℕ) where
               rw r_is
               (record {
                 first =
-                    then_asked (of_image img) last_two 14 (numbers img) c.first
+                    then_asked (of_image img) last_two 14 (image_numbers img) c.first
                     (inr (
                       record { short = short },
                       inl (
@@ -125,7 +96,7 @@ module _ (img text : List ℕ) where
               let w = fresh_within start_exists.evaluated (omega arith) in
               record {
                 first =
-                    then_asked (of_image img) last_two 0 (numbers img) c.first
+                    then_asked (of_image img) last_two 0 (image_numbers img) c.first
                     (inr (record { short = short }, inr (record { value = start_exists.value; evaluated = start_exists.evaluated; allowed = k }, refl)));
                 values =
                     record {

@@ -6,6 +6,7 @@ use mathlib.Core.Bool.{Bool, true, false}
 use lib.Dec.{eqb}
 use mir.Val.{bool_byte}
 use Rattle.grammar.specs.declared.Evaluation.{Evaluation}
+use Rattle.grammar.proofs.Bools.{byte_small}
 use Rattle.records.specs.Words.{matched_of, spare_of, nesting_of, examined_of, length_of, value_of, word_of, record_word, record_of}
 
 -- The fields fit their bits.
@@ -13,10 +14,6 @@ pub record InRange (x : Evaluation) : Type 0 where
   pub nesting_fits : x.nesting < 2 ^ 13
   pub examined_fits : x.examined < 2 ^ 17
   pub length_fits : x.length < 2 ^ 16
-
-byte_of : (b : Bool) → bool_byte b < 2
-byte_of true = omega arith
-byte_of false = omega arith
 
 tells : (b : Bool) → eqb (bool_byte b) 1 ≡ b
 tells true = refl
@@ -37,25 +34,25 @@ length_small word = omega arith
 module _ (x : Evaluation) (r : InRange x) where
   pub length_back : length_of (word_of x) ≡ x.length
   unfolding length_of word_of
-  length_back = omega (arith, r.nesting_fits, r.examined_fits, r.length_fits, byte_of x.matched)
+  length_back = omega (arith, r.nesting_fits, r.examined_fits, r.length_fits, byte_small x.matched)
 
   pub examined_back : examined_of (word_of x) ≡ x.examined
   unfolding examined_of word_of
-  examined_back = omega (arith, r.nesting_fits, r.examined_fits, r.length_fits, byte_of x.matched)
+  examined_back = omega (arith, r.nesting_fits, r.examined_fits, r.length_fits, byte_small x.matched)
 
   pub nesting_back : nesting_of (word_of x) ≡ x.nesting
   unfolding nesting_of word_of
-  nesting_back = omega (arith, r.nesting_fits, r.examined_fits, r.length_fits, byte_of x.matched)
+  nesting_back = omega (arith, r.nesting_fits, r.examined_fits, r.length_fits, byte_small x.matched)
 
   pub spare_back : spare_of (word_of x) ≡ 0
   unfolding spare_of word_of
-  spare_back = omega (arith, r.nesting_fits, r.examined_fits, r.length_fits, byte_of x.matched)
+  spare_back = omega (arith, r.nesting_fits, r.examined_fits, r.length_fits, byte_small x.matched)
 
   pub matched_back : matched_of (word_of x) ≡ x.matched
   unfolding matched_of word_of
   matched_back =
       let e : (2 ^ 63 + bool_byte x.matched * 2 ^ 62 + x.nesting * 2 ^ 33 + x.examined * 2 ^ 16 + x.length) / 2 ^ 62 % 2 ≡ bool_byte x.matched =
-      omega (arith, r.nesting_fits, r.examined_fits, r.length_fits, byte_of x.matched) in
+      omega (arith, r.nesting_fits, r.examined_fits, r.length_fits, byte_small x.matched) in
       ap (λ (k : ℕ). eqb k 1) e ∙ tells x.matched
 
   pub value_back : value_of (word_of x) ≡ x

@@ -7,7 +7,7 @@ use lib.Dec.{eqb}
 use Rattle.grammar.proofs.Bools.{both, joined}
 use Rattle.records.specs.declared.Record.{Record}
 use Rattle.std.specs.Prelude.{Some, None}
-use Rattle.records.specs.Words.{matched_of, spare_of, nesting_of, examined_of, length_of, IsPossible, possible, record_of, decoded}
+use Rattle.records.specs.Words.{matched_of, spare_of, nesting_of, examined_of, length_of, IsPossible, possible, record_of, SaidBy, decoded}
 
 module _ (word at n : ℕ) where
   pub says_possible : possible word at n ≡ true → IsPossible word at n
@@ -58,5 +58,14 @@ module _ (word at n : ℕ) where
   pub none_found : (IsPossible word at n → ⊥) → None ≡ decoded word at n
   none_found h = ap (λ (b : Bool). cond b (Some (record_of word)) None) (sym (fails_test h))
 
-  pub found : (r : Record) → r ≡ record_of word → IsPossible word at n → Some r ≡ decoded word at n
-  found r e h = ap Some e ∙ ap (λ (b : Bool). cond b (Some (record_of word)) None) (sym (passes_test h))
+  pub found : {r : Record} → SaidBy word r → IsPossible word at n → Some r ≡ decoded word at n
+  found {r} s h = ap Some said ∙ ap (λ (b : Bool). cond b (Some (record_of word)) None) (sym (passes_test h))
+    where
+      said : r ≡ record_of word
+      said = λ i. record {
+        matched = s.matched_is i;
+        spare = s.spare_is i;
+        nesting = s.nesting_is i;
+        examined = s.examined_is i;
+        length = s.length_is i;
+      }

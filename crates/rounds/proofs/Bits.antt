@@ -5,6 +5,7 @@ use mathlib.Core.Path.{◌≡◌, refl}
 use mathlib.Core.Bool.{Bool, true, false, ◌||◌}
 use mir.Val.{bool_byte}
 use Rattle.grammar.specs.Outcomes.{Outcome, matches_empty, consumes, fails}
+use Rattle.grammar.proofs.Bools.{byte_small}
 use Rattle.rounds.specs.Sets.{bit, pack, union}
 
 -- Of three bools, the one that tells of an outcome.
@@ -53,10 +54,6 @@ repack (suc (suc (suc (suc (suc zero))))) h = refl
 repack (suc (suc (suc (suc (suc (suc zero)))))) h = refl
 repack (suc (suc (suc (suc (suc (suc (suc zero))))))) h = refl
 repack (suc (suc (suc (suc (suc (suc (suc (suc x)))))))) h = absurd (omega arith)
-
-pub byte_small : (b : Bool) → bool_byte b < 2
-byte_small true = omega arith
-byte_small false = omega arith
 
 byte_or : (a b : Bool) → bool_byte a ≤ bool_byte (a || b)
 byte_or true b = omega arith

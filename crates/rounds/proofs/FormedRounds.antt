@@ -13,6 +13,7 @@ use mathlib.Core.List.{List}
 use lib.ListN.{length, get_or, set, replicate, length-set, length-replicate}
 use lib.Seq.{set-get_or, get_or-set_same}
 use Rattle.grammar.proofs.Writes.{after_write, all_the_same}
+use Rattle.grammar.proofs.Bools.{at_most_1}
 use Rattle.grammar.specs.Image.{nodes, node}
 use Rattle.grammar.specs.WellFormed.{WellFormed}
 use Rattle.grammar.specs.Questions.{Question2, Question4, one_if}
@@ -94,12 +95,8 @@ module _
 pub marks_bound : (img : List ℕ) (formed : List Bool) → SoundMarks img formed → marks formed ≤ nodes img
 marks_bound img formed sound =
     let most =
-    weight_most one_if 1 (nodes img) formed false (λ k. at-most-1 (get_or formed k false)) (λ k l. ap one_if (sound.beyond k l)) in
+    weight_most one_if 1 (nodes img) formed false (λ k. at_most_1 (get_or formed k false)) (λ k l. ap one_if (sound.beyond k l)) in
     omega arith
-  where
-    at-most-1 : (b : Bool) → one_if b ≤ 1
-    at-most-1 true = omega arith
-    at-most-1 false = omega arith
 
 module _
     (img known order : List ℕ)

@@ -11,10 +11,9 @@ use Rattle.grammar.specs.declared.node.Node.{Node}
 use Rattle.grammar.specs.declared.node.Node.TheVariants.{Empty, Text, Sequence, Choice, Star, NotPredicate, Call, Unlawful}
 use Rattle.grammar.specs.Image.{node, nodes}
 use Rattle.grammar.specs.Outcomes.{Has, matches_empty}
-use Rattle.grammar.specs.Questions.{Question, First, of_image, Checked, Question1, Question2, Question3, Question4, Question5, Question6, Question7}
+use Rattle.grammar.specs.Questions.{Question, First, of_image, Question1, Question2, Question3, Question4, Question5, Question6, Question7}
 use Rattle.grammar.specs.Tests.{every, edition_test, counts_test, size_test, words_test, once_test}
 use Rattle.grammar.proofs.References.{Refers, refers}
-use Rattle.grammar.proofs.Acceptance.{one_number}
 use Rattle.grammar.proofs.Tests.{below, all_below, edition_asked, edition_passes, counts_asked, counts_passes, size_asked, size_passes}
 use Rattle.grammar.proofs.Tests.{words_asked, words_passes, once_asked, once_passes}
 use Rattle.rounds.specs.Sets.{bit}
@@ -153,10 +152,3 @@ module _ (img : List ℕ) where
   pub image_number_lem : First (of_image img) (image_number img)
   unfolding image_number
   image_number_lem = asked (one 1 (Question1 img)) from2 (edition_test img) number2 (edition_asked img) (edition_passes img) (λ h. asked_2)
-
-pub has_number : (img : List ℕ) → Checked img (image_number img)
-has_number img = record { first = image_number_lem img }
-
--- No other number is an image's number.
-pub number_is : {img : List ℕ} {r : ℕ} → Checked img r → r ≡ image_number img
-number_is {img} c = one_number c (has_number img)

@@ -40,11 +40,3 @@ descending_array count array long at =
   where
     as_long : length (take count array) ≡ count
     as_long = length-take-le count array long
-
--- A place of an array whose first places visit every node.
-pub array_node :
-    (count : ℕ) (array : List ℕ) (i : ℕ)
-    → VisitsAll count (take count array)
-    → i < count
-    → get_or array i 0 < count
-array_node count array i all l = omega (arith, get_or-take count array i 0 l, all.only_nodes i (omega (arith, all.as_long)))

@@ -14,10 +14,11 @@ use Rattle.grammar.specs.declared.Evaluation.{Evaluation}
 use Rattle.grammar.specs.Image.{start, root}
 use Rattle.grammar.specs.Questions.{Accepted}
 use Rattle.grammar.specs.Evaluates.{Fresh, a_pair, ev_body, ev_record}
+use Rattle.grammar.proofs.Determinism.{no_record}
 use Rattle.evaluation.specs.Calls.{is_in, bodies_of}
 use Rattle.evaluation.proofs.Pairs.{in_is}
 use Rattle.evaluation.proofs.Reach.{own_body}
-use Rattle.evaluation.proofs.Plain.{fresh_within, no_record}
+use Rattle.evaluation.proofs.Plain.{fresh_within}
 use Rattle.records.specs.Words.{is_held}
 use Rattle.packrat.specs.Over.{word_at}
 use Rattle.packrat.specs.True.{TrueTable}

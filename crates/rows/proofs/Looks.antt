@@ -15,11 +15,11 @@ use Rattle.grammar.specs.Questions.{Question4}
 use Rattle.grammar.specs.Evaluates.{Fresh, Subject, bodies_only, a_node, a_pair, rounds_of, length_if}
 use Rattle.grammar.specs.Evaluates.{ev_empty, ev_terminal, ev_then_first_fails, ev_then, ev_else_first, ev_else_second}
 use Rattle.grammar.specs.Evaluates.{ev_star, ev_last_round, ev_round, ev_not, ev_call, ev_body, ev_record}
-use Rattle.grammar.proofs.Determinism.{still}
+use Rattle.grammar.proofs.Determinism.{still, no_record}
 use Rattle.grammar.proofs.References.{refers}
 use Rattle.evaluation.specs.Calls.{calls_of, here}
 use Rattle.evaluation.proofs.Pairs.{in_left, in_right}
-use Rattle.evaluation.proofs.Plain.{fresh_within, no_record}
+use Rattle.evaluation.proofs.Plain.{fresh_within}
 use Rattle.evaluation.proofs.Range.{InImage}
 use Rattle.packrat.specs.True.{TrueTable}
 use Rattle.packrat.specs.Loaded.{Loaded, rules_in, word_b}

@@ -16,7 +16,8 @@ use Rattle.grammar.specs.Evaluates.{Fresh, Subject, a_node, a_pair, rounds_of, l
 use Rattle.grammar.specs.Evaluates.{ev_empty, ev_terminal, ev_then_first_fails, ev_then, ev_else_first, ev_else_second}
 use Rattle.grammar.specs.Evaluates.{ev_star, ev_last_round, ev_round, ev_not, ev_call, ev_body, ev_record}
 use Rattle.grammar.proofs.References.{refers, root_in_range}
-use Rattle.evaluation.proofs.Plain.{fresh_within, no_record}
+use Rattle.grammar.proofs.Determinism.{no_record}
+use Rattle.evaluation.proofs.Plain.{fresh_within}
 use Rattle.evaluation.proofs.Range.{InImage}
 use Rattle.rows.specs.Rows.{Row, row_word, Fields, AllFields, if_matched, rows_of}
 

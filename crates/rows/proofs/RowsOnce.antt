@@ -9,8 +9,7 @@ use Rattle.grammar.specs.declared.Evaluation.{Evaluation}
 use Rattle.grammar.specs.Evaluates.{Fresh, Subject, bodies_only}
 use Rattle.grammar.specs.Evaluates.{ev_empty, ev_terminal, ev_then_first_fails, ev_then, ev_else_first, ev_else_second}
 use Rattle.grammar.specs.Evaluates.{ev_star, ev_last_round, ev_round, ev_not, ev_call, ev_body, ev_record}
-use Rattle.grammar.proofs.Determinism.{one}
-use Rattle.evaluation.proofs.Plain.{no_record}
+use Rattle.grammar.proofs.Determinism.{one, no_record}
 use Rattle.rows.specs.Rows.{Row, if_matched, rows_of}
 
 both_same : {us vs xs ys : List Row} → us ≡ xs → vs ≡ ys → us ++ vs ≡ xs ++ ys

@@ -1,3 +1,2 @@
 -- The laws of the calls.
-pub mod Laws
 pub mod ListLaws

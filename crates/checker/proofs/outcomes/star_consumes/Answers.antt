@@ -1,32 +1,19 @@
 use mathlib.Core.Bool.{Bool, true, false, not, true≢false}
 use mathlib.Core.Path.{◌≡◌, refl, sym, ap, ◌∙◌}
 use mathlib.Core.Logic.{inl}
-use Prim.Native.Nat.{ℕ}
 use Rattle.grammar.proofs.References.{refers}
 use Rattle.grammar.specs.Outcomes.{matches_empty}
 use Rattle.lawful.proofs.InRange.{one_below}
 use Rattle.rounds.specs.Rounds.{StarConsumes}
 use Rattle.std.proofs.Common.{IsTrue}
 use Rattle.grammar.specs.Image.{node}
-use Rattle.grammar.specs.declared.node.Node.{Node}
-use Rattle.grammar.specs.declared.node.Node.TheVariants.{Empty, Text, Sequence, Choice, Star, NotPredicate, Call, Unlawful}
+use Rattle.grammar.specs.declared.node.Node.TheVariants.{Star}
 use Rattle.checker.proofs.outcomes.star_consumes.Goals as goal
 
 pub bounds-known-a : goal.bounds-known-a
 bounds-known-a c =
     let all = c.args.all.now in
     one_below all.image.now all.lawful.counts all.lawful.words c.args.n c.requires.1 (inl (rw c.node.ensures at c.in-Star.is))
-
--- The child of a star, read back from it.
-abbrev child_of : Node → ℕ
-child_of Empty = 0
-child_of (Text t) = 0
-child_of (Sequence a b) = 0
-child_of (Choice a b) = 0
-child_of (Star a) = a
-child_of (NotPredicate a) = 0
-child_of (Call r) = 0
-child_of Unlawful = 0
 
 -- A star's body lacks outcome 0 exactly where its set does.
 pub returns-in-Star : goal.returns-in-Star
@@ -40,7 +27,8 @@ returns-in-Star c = (yes, no c.has_empty.result refl)
         record {
           lacks_0 = λ b e h.
               let child = rw is at (refers c.args.all.now.image.now c.args.all.now.lawful.words c.args.n c.requires.1) in
-              let has = c.has_empty.ensures ∙ c.requires.0.all c.in-Star.a matches_empty child (rw (ap child_of (sym e ∙ is)) at h) in
+              let same : b ≡ c.in-Star.a = cc (e, is) in
+              let has = c.has_empty.ensures ∙ c.requires.0.all c.in-Star.a matches_empty child (rw same at h) in
               true≢false (sym (rw has at t));
         }
 

@@ -40,14 +40,7 @@ returns-then-said-ne0-2 c =
 
 pub returns-else-said-ne0-2 : goal.returns-else-said-ne0-2
 returns-else-said-ne0-2 c =
-    found c.args.word c.args.at c.args.n _
-    (λ i. record {
-      matched = c.said_by-said.ensures.matched_is i;
-      spare = c.said_by-said.ensures.spare_is i;
-      nesting = c.said_by-said.ensures.nesting_is i;
-      examined = c.said_by-said.ensures.examined_is i;
-      length = c.said_by-said.ensures.length_is i;
-    })
+    found c.args.word c.args.at c.args.n c.said_by-said.ensures
     (record {
       some_nesting = omega arith;
       most_nesting = omega arith;
@@ -60,14 +53,7 @@ returns-else-said-ne0-2 c =
 
 pub returns-else-not-said : goal.returns-else-not-said
 returns-else-not-said c =
-    found c.args.word c.args.at c.args.n _
-    (λ i. record {
-      matched = c.said_by-said.ensures.matched_is i;
-      spare = c.said_by-said.ensures.spare_is i;
-      nesting = c.said_by-said.ensures.nesting_is i;
-      examined = c.said_by-said.ensures.examined_is i;
-      length = c.said_by-said.ensures.length_is i;
-    })
+    found c.args.word c.args.at c.args.n c.said_by-said.ensures
     (record {
       some_nesting = omega arith;
       most_nesting = omega arith;

@@ -1,4 +1,4 @@
-use Prim.Native.Nat.{ℕ, ◌≤◌, ◌<◌}
+use Prim.Native.Nat.{ℕ}
 use Rattle.grammar.specs.Characters.{Octets, later_bytes}
 use Rattle.grammar.specs.Terminal.{continued}
 use Rattle.grammar.proofs.Characters.{below_C2, from_C2, from_E0, from_E1, from_ED, from_EE, from_F0, from_F1, from_F4, past_F4}
@@ -16,10 +16,6 @@ has-later :
     → r ≡ word_of (continued later text at 1)
     → r ≡ word_of (continued (later_bytes first) text at 1)
 has-later first text at e w = w ∙ sym (ap (λ (later : List Octets). word_of (continued later text at 1)) e)
-
--- The match passes by a byte that has an arm of its own.
-next : {k first : ℕ} → k ≤ first → (first ≡ k → ⊥) → k < first
-next h n = omega (arith, n)
 
 pub returns-in-224 : goal.returns-in-224
 returns-in-224 c =
