@@ -41,22 +41,31 @@ fn word16_at(bytes: &[u8], at: usize) -> u16
 }
 
 // The four bytes from a place on as a number, the first byte highest.
+fn partial_word32_at(bytes: &[u8], at: usize) -> u32
+    ensures { result ≡ word32 bytes.now at }
+{
+    if bytes.len() <= at {
+        return 0;
+    }
+    u32::from_be_bytes([
+        byte_at(bytes, at),
+        byte_at(bytes, at + 1),
+        byte_at(bytes, at + 2),
+        byte_at(bytes, at + 3),
+    ])
+}
+
+// The same, with one test where all four bytes are there: the compiler then makes one load of them.
 fn word32_at(bytes: &[u8], at: usize) -> u32
     ensures { result ≡ word32 bytes.now at }
 {
-    let Some(rest) = bytes.get(at..) else {
-        return 0;
-    };
-    // Where all four are there the compiler makes one load of them.
-    if let Some(word) = rest.first_chunk::<4>() {
-        return u32::from_be_bytes(*word);
+    if bytes.len() < 4 {
+        return partial_word32_at(bytes, at);
     }
-    u32::from_be_bytes([
-        byte_at(rest, 0),
-        byte_at(rest, 1),
-        byte_at(rest, 2),
-        byte_at(rest, 3),
-    ])
+    if bytes.len() - 4 < at {
+        return partial_word32_at(bytes, at);
+    }
+    u32::from_be_bytes([bytes[at], bytes[at + 1], bytes[at + 2], bytes[at + 3]])
 }
 
 // The fields of the header.
