@@ -24,39 +24,40 @@ pub struct Rule {
 }
 
 // The byte at a place, 0 past the end.
-fn byte_at(bytes: &[u8], at: usize) -> usize
-    ensures { (result ≡ byte_at bytes.now at) × (result < 256) }
+fn byte_at(bytes: &[u8], at: usize) -> u8
+    ensures { result ≡ byte_at bytes.now at }
 {
-    if at < bytes.len() {
-        usize::from(bytes[at])
-    } else {
-        0
-    }
+    bytes.get(at).copied().unwrap_or(0)
 }
 
 // The two bytes from a place on as a number, the first byte highest.
-fn word16_at(bytes: &[u8], at: usize) -> usize
-    ensures { (result ≡ word16 bytes.now at) × (result < 65536) }
+fn word16_at(bytes: &[u8], at: usize) -> u16
+    ensures { result ≡ word16 bytes.now at }
 {
     if bytes.len() <= at {
         return 0;
     }
-    byte_at(bytes, at) * 256 + byte_at(bytes, at + 1)
+    u16::from_be_bytes([byte_at(bytes, at), byte_at(bytes, at + 1)])
 }
 
 // The four bytes from a place on as a number, the first byte highest.
-fn partial_word32_at(bytes: &[u8], at: usize) -> usize
-    ensures { (result ≡ word32 bytes.now at) × (result < 4294967296) }
+fn partial_word32_at(bytes: &[u8], at: usize) -> u32
+    ensures { result ≡ word32 bytes.now at }
 {
     if bytes.len() <= at {
         return 0;
     }
-    word16_at(bytes, at) * 65536 + word16_at(bytes, at + 2)
+    u32::from_be_bytes([
+        byte_at(bytes, at),
+        byte_at(bytes, at + 1),
+        byte_at(bytes, at + 2),
+        byte_at(bytes, at + 3),
+    ])
 }
 
 // The same, with one test where all four bytes are there: the compiler then makes one load of them.
-fn word32_at(bytes: &[u8], at: usize) -> usize
-    ensures { (result ≡ word32 bytes.now at) × (result < 4294967296) }
+fn word32_at(bytes: &[u8], at: usize) -> u32
+    ensures { result ≡ word32 bytes.now at }
 {
     if bytes.len() < 4 {
         return partial_word32_at(bytes, at);
@@ -64,17 +65,14 @@ fn word32_at(bytes: &[u8], at: usize) -> usize
     if bytes.len() - 4 < at {
         return partial_word32_at(bytes, at);
     }
-    usize::from(bytes[at]) * 16777216
-        + usize::from(bytes[at + 1]) * 65536
-        + usize::from(bytes[at + 2]) * 256
-        + usize::from(bytes[at + 3])
+    u32::from_be_bytes([bytes[at], bytes[at + 1], bytes[at + 2], bytes[at + 3]])
 }
 
 // The fields of the header.
 pub fn header_of(image: &[u8]) -> Header
     ensures { HeaderFields image.now result }
 {
-    let word = word32_at(image, 0);
+    let word = word32_at(image, 0) as usize;
     Header {
         edition: word / 268435456 % 16,
         rules: word / 1048576 % 256,
@@ -90,7 +88,7 @@ pub fn rule_at(image: &[u8], rule: usize) -> Rule
     if image.len() / 2 <= rule {
         return Rule { zero: 0, root: 0 };
     }
-    let word = word16_at(image, 4 + 2 * rule);
+    let word = usize::from(word16_at(image, 4 + 2 * rule));
     Rule {
         zero: word / 4096 % 16,
         root: word % 4096,
@@ -104,8 +102,8 @@ pub fn node_word(image: &[u8], node: usize) -> u32
     if image.len() / 4 <= node {
         return 0;
     }
-    let header = word32_at(image, 0);
-    word32_at(image, 4 + 2 * (header / 1048576 % 256) + 4 * node) as u32
+    let header = word32_at(image, 0) as usize;
+    word32_at(image, 4 + 2 * (header / 1048576 % 256) + 4 * node)
 }
 
 // The fields of a word that is a node's.

@@ -20,17 +20,14 @@ const ONE_OF_THREE: u64 = ONE_OF_TWO + records::ONE_EXAMINED;
 const ONE_OF_FOUR: u64 = ONE_OF_THREE + records::ONE_EXAMINED;
 
 // Whether the text has a byte at a place, and it is one of these.
-fn has_at(text: &[u8], lowest: usize, highest: usize, place: usize) -> bool
+fn has_at(text: &[u8], lowest: u8, highest: u8, place: usize) -> bool
     ensures { result ≡ has_at (is_in (lowest to highest)) text.now place }
 {
-    let Some(byte) = crate::byte_at(text, place) else {
-        return false;
-    };
-    crate::is_between(lowest, highest, byte)
+    crate::has_at(text, place, |byte| (lowest..=highest).contains(&byte))
 }
 
 // From the first byte on, which has so many later bytes: the next one is from `lowest` to `highest`, the others from 0x80 to 0xBF.
-fn from_first(text: &[u8], lowest: usize, highest: usize, later: usize, at: usize) -> u64
+fn from_first(text: &[u8], lowest: u8, highest: u8, later: usize, at: usize) -> u64
     requires { (at < length text.now) × (1 ≤ later) × (later ≤ 3) }
     ensures { result ≡ word_of (continued ((lowest to highest) ∷ replicate (later - 1) tail) text.now at 1) }
 {
@@ -53,7 +50,7 @@ fn from_first(text: &[u8], lowest: usize, highest: usize, later: usize, at: usiz
 }
 
 // The same, by the first byte: the lines of RFC 3629's table. A byte below 0xC2 or above 0xF4 has no later bytes.
-fn by_first(text: &[u8], first: usize, at: usize) -> u64
+fn by_first(text: &[u8], first: u8, at: usize) -> u64
     requires { at < length text.now }
     ensures { result ≡ word_of (continued (later_bytes first) text.now at 1) }
 {
@@ -75,7 +72,7 @@ fn by_first(text: &[u8], first: usize, at: usize) -> u64
 pub fn is_ascii(text: &[u8], at: usize) -> bool
     ensures { result ≡ has_at (is_in (0x00 to 0x7F)) text.now at }
 {
-    has_at(text, 0x00, 0x7F, at)
+    crate::has_at(text, at, |byte| byte.is_ascii())
 }
 
 // "Kind 1 now matches one character as RFC 3629 defines it" (02, R-5).

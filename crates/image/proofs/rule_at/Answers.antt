@@ -9,4 +9,4 @@ returns-then-image-rule c = let e = past_rules c.args.image.now c.args.rule c.if
 
 pub returns : goal.returns
 unfolding rule_zero root rule_word
-returns c = let e = c.word16_at-word.ensures.0 in record { its_zero = cc; its_root = omega (arith, e, c.word16_at-word.ensures.1) }
+returns c = let e = c.word16_at.ensures in record { its_zero = omega (arith, e); its_root = omega (arith, e) }

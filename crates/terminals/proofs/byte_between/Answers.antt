@@ -1,25 +1,15 @@
-use Rattle.terminals.proofs.TerminalWords.{match_word, failure_word, end_word, none_there, byte_there, range_test}
+use borrow.Author.Rules.{rules}
 use Rattle.grammar.proofs.Terminals.{range_alone}
 use Rattle.grammar.specs.declared.node.Terminal.TheVariants.{Range}
 use Rattle.grammar.specs.Image.{byte_at}
-use mathlib.Core.Path.{sym, ◌∙◌}
+use Rattle.grammar.specs.Terminal.{accepts}
+use Rattle.terminals.proofs.TerminalWords.{tested, byte_word}
 use Rattle.terminals.proofs.byte_between.Goals as goal
 
-pub returns-in_default : goal.returns-in_default
-returns-in_default c =
+pub returns : goal.returns
+unfolding accepts
+returns c =
     let a = c.args in
-    end_word (Range a.from a.to) a.text.now a.at (none_there a.text.now a.at (sym c.byte_at.ensures ∙ c.in_default.is))
-
-pub returns-then-is_between : goal.returns-then-is_between
-returns-then-is_between c =
-    let a = c.args in
-    let read = byte_there a.text.now a.at (sym c.byte_at.ensures ∙ c.in-Some.is) in
-    match_word (Range a.from a.to) a.text.now a.at read.0
-    (range_test a.from a.to read.1 c.is_between.ensures c.if-is_between.true)
-    (range_alone a.from a.to (byte_at a.text.now a.at))
-
-pub returns-else-is_between : goal.returns-else-is_between
-returns-else-is_between c =
-    let a = c.args in
-    failure_word (Range a.from a.to) a.text.now a.at
-    (range_test a.from a.to (byte_there a.text.now a.at (sym c.byte_at.ensures ∙ c.in-Some.is)).1 c.is_between.ensures c.if-is_between.false)
+    byte_word (Range a.from a.to) a.text.now a.at (range_alone a.from a.to (byte_at a.text.now a.at))
+    (tested (accepts (Range a.from a.to)) a.text.now a.at (λ byte k. search rules) c.has_at.ensures)
+    c.one_byte.ensures

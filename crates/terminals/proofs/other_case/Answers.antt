@@ -1,19 +1,12 @@
-use Rattle.grammar.proofs.Folding.{of_capital, of_small, of_no_letter}
-use mathlib.Core.Path.{sym, ◌∙◌}
+use Rattle.std.proofs.Common.{arith}
+use Rattle.std.proofs.lemmas.Bool.Decides.{nat_tests}
+use Rattle.grammar.specs.Terminal.{other_case}
 use Rattle.terminals.proofs.other_case.Goals as goal
 
-pub returns-then-is_between : goal.returns-then-is_between
-returns-then-is_between c =
-    sym (of_capital c.args.byte (sym c.is_between.ensures ∙ c.if-is_between.true))
+pub returns-then-is_ascii_lowercase : goal.returns-then-is_ascii_lowercase
+unfolding other_case
+returns-then-is_ascii_lowercase c = grind (arith, nat_tests)
 
-pub returns-then-is_between-2 : goal.returns-then-is_between-2
-returns-then-is_between-2 c =
-    sym
-    (of_small c.args.byte (sym c.is_between.ensures ∙ c.if-is_between.false)
-    (sym c.is_between-2.ensures ∙ c.if-is_between-2.true))
-
-pub returns : goal.returns
-returns c =
-    sym
-    (of_no_letter c.args.byte (sym c.is_between.ensures ∙ c.if-is_between.false)
-    (sym c.is_between-2.ensures ∙ c.if-is_between-2.false))
+pub returns-else-is_ascii_lowercase : goal.returns-else-is_ascii_lowercase
+unfolding other_case
+returns-else-is_ascii_lowercase c = grind (arith, nat_tests)
