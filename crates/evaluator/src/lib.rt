@@ -8,6 +8,7 @@ ghost use Rattle.grammar.specs.declared.node.Node.TheVariants.{Sequence, Choice,
 ghost use Rattle.evaluator.specs.Runs.{node_run, word_run, kind_run, rule_run, Ready, Kept, Gives};
 
 use grammar::{Node, Refusal};
+use memo::Pair;
 use records::Record;
 
 // A loaded grammar over a text, the table that is lent, and the number of pairs whose body was evaluated.
@@ -164,8 +165,13 @@ impl<'a> Run<'a> {
         ensures gives { Gives self.old at left (rule_run self.old left root rule) result self.new }
     {
         let rules = loaded::rules_in(self.words);
+        let pair = Pair {
+            rules,
+            rule,
+            position: at,
+        };
         let table = &mut *self.table;
-        let word = memo::look(table, rules, rule, at);
+        let word = pair.look(table);
         if records::is_held(word) {
             let Some(held) = Record::from_word(word, at, self.text.len()) else {
                 return Err(Refusal::Records);
@@ -176,7 +182,7 @@ impl<'a> Run<'a> {
             return Ok(held.word());
         }
         let value = self.eval_node(root, at, left)?;
-        memo::put(self.table, rules, rule, at, value);
+        pair.put(self.table, value);
         self.count = self.count.wrapping_add(1);
         Ok(value)
     }

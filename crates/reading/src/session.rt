@@ -8,6 +8,7 @@ ghost use Rattle.packrat.specs.Session.{StartOver};
 
 use crate::start;
 use grammar::Refusal;
+use memo::Pair;
 use records::Record;
 
 // What a held word gives at the start of a text of n bytes: itself where it is possible, else the refusal 12.
@@ -31,14 +32,17 @@ pub fn start_over(
     ensures { StartOver image.now text.now table.old count.old result table.new count.new }
 {
     let header = image::header_of(image);
-    let rules = header.rules;
-    let rule = header.start;
-    let word = memo::look(table, rules, rule, 0);
+    let pair = Pair {
+        rules: header.rules,
+        rule: header.start,
+        position: 0,
+    };
+    let word = pair.look(table);
     if records::is_held(word) {
         return met(word, text.len());
     }
     let value = start::start_body(image, text, table, count)?;
-    memo::put(table, rules, rule, 0, value);
+    pair.put(table, value);
     *count = count.wrapping_add(1);
     Ok(value)
 }
