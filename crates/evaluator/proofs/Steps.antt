@@ -12,7 +12,6 @@ use Rattle.image.specs.Fields.{SameFields}
 use Rattle.records.specs.Words.{word_of, value_of, nesting_of}
 use Rattle.records.specs.Slots.{slot_of}
 use Rattle.packrat.specs.Model.{Out}
-use Rattle.packrat.specs.Loaded.{rules_in}
 use Rattle.packrat.specs.Gives as packrat
 use Rattle.packrat.specs.Gives.{Gives}
 use Rattle.packrat.proofs.Runs.{nesting_allowed, says_itself}
@@ -47,14 +46,6 @@ pub ready_after :
 ready_after p q kept ready here =
     let most = ready.most in
     record { short = rw kept.2 ready.short; here = rw kept.2 here; most = omega arith }
-
--- The pair's word, by the number of rules that is among the words.
-pub looked_up :
-    (p : Run) (rule at : ℕ) {word rules : ℕ}
-    → rules ≡ rules_in p.words.now
-    → word ≡ get_or p.table.now (slot_of rules rule at) 0
-    → word ≡ get_or p.table.now (slot_of (rules_in p.words.now) rule at) 0
-looked_up p rule at e w = w ∙ ap (λ (n : ℕ). get_or p.table.now (slot_of n rule at) 0) e
 
 -- The numbers in a node are below 4096 where its fields are.
 abbrev pub Few : Node → Type 0

@@ -8,13 +8,14 @@ ghost use Rattle.grammar.specs.declared.node.Node.TheVariants.{Sequence, Choice,
 ghost use Rattle.evaluator.specs.Runs.{node_run, word_run, kind_run, rule_run, Ready, Kept, Gives};
 
 use grammar::{Node, Refusal};
+use loaded::LoadedGrammar;
 use memo::Pair;
 use records::Record;
 
 // A loaded grammar over a text, the table that is lent, and the number of pairs whose body was evaluated.
 #[derive(Drop)]
 pub struct Run<'a> {
-    pub words: &'a [u32; 4097],
+    pub grammar: &'a LoadedGrammar,
     pub text: &'a [u8],
     pub table: &'a mut [u64],
     pub count: u64,
@@ -32,7 +33,7 @@ impl<'a> Run<'a> {
         if left == 0 {
             return Err(Refusal::Nesting);
         }
-        let word = self.words[node];
+        let word = self.grammar.words[node];
         let first = image::first_byte(word);
         if first <= image::PLAIN_RANGE {
             if first == image::PLAIN_RANGE {
@@ -164,9 +165,8 @@ impl<'a> Run<'a> {
         ensures kept { Kept self.old self.new }
         ensures gives { Gives self.old at left (rule_run self.old left root rule) result self.new }
     {
-        let rules = loaded::rules_in(self.words);
         let pair = Pair {
-            rules,
+            rules: self.grammar.rules,
             rule,
             position: at,
         };

@@ -32,7 +32,7 @@ impl<'a> Walk<'a> {
         if left == 0 {
             return Err(Refusal::Nesting);
         }
-        let fields = image::node_of(self.words[node]);
+        let fields = image::node_of(self.grammar.words[node]);
         match Node::from(fields) {
             Node::Empty => Ok(Some(0)),
             Node::Text(terminal) => Ok(bytes::leaf(self.text, terminal, at)),
@@ -175,7 +175,7 @@ impl<'a> Walk<'a> {
         ensures gives { Walks self.old result self.new (rules_of self.old left root rule) at window depth }
     {
         let pair = Pair {
-            rules: self.rules,
+            rules: self.grammar.rules,
             rule,
             position: at,
         };

@@ -18,16 +18,16 @@ pub fn start_body(
     requires { Accepted image.now × (length text.now ≤ 65535) }
     ensures { BodyOver image.now text.now table.old count.old result table.new count.new }
 {
-    let words = loaded::load(image);
+    let grammar = loaded::load(image);
     let header = image::header_of(image);
     let body = image::rule_at(image, header.start);
     let mut run = Run {
-        words: &words,
+        grammar: &grammar,
         text,
         table,
         count: *count,
     };
-    let answer = run.eval_word(words[body.root], 0, Record::MAX_NESTING);
+    let answer = run.eval_word(grammar.words[body.root], 0, Record::MAX_NESTING);
     *count = run.count;
     answer
 }
