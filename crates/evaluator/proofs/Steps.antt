@@ -1,7 +1,7 @@
 -- What a step of a run gives to the next: an answered word's bounds, the run after a step, the children of a node.
 -- Assumes nothing.
 use Rattle.std.specs.Prelude.{Ok, Result}
-use Rattle.std.proofs.Common.{◌≡◌, ℕ, zero, suc, ◌+◌, ◌-◌, ◌≤◌, ◌<◌, List, length, get_or, refl, sym, ap, ◌∙◌, subst, arith}
+use Rattle.std.proofs.Common.{◌≡◌, ℕ, zero, suc, ◌+◌, ◌-◌, ◌≤◌, ◌<◌, List, length, refl, sym, ◌∙◌, subst, arith}
 use Rattle.grammar.specs.declared.refusal.Refusal.{Refusal}
 use Rattle.grammar.specs.declared.node.NodeFields.{NodeFields}
 use Rattle.grammar.specs.declared.node.Node.{Node}
@@ -10,7 +10,6 @@ use Rattle.grammar.specs.Image.{fields_of, node_of}
 use Rattle.grammar.proofs.Nodes.{is_empty, is_any, is_range, is_sequence, is_choice, is_star, is_not, is_call, is_unlawful}
 use Rattle.image.specs.Fields.{SameFields}
 use Rattle.records.specs.Words.{word_of, value_of, nesting_of}
-use Rattle.records.specs.Slots.{slot_of}
 use Rattle.packrat.specs.Model.{Out}
 use Rattle.packrat.specs.Gives as packrat
 use Rattle.packrat.specs.Gives.{Gives}

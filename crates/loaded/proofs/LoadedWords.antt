@@ -4,12 +4,11 @@ use native.Mathlib.Omega.{arith}
 use mathlib.Core.Path.{◌≡◌, refl, sym, ap, ◌∙◌}
 use mathlib.Core.Bool.{Bool, true, false}
 use mathlib.Core.List.{List}
-use lib.ListN.{length, get_or, set}
-use lib.Seq.{get_or-set_same, get_or-set_other}
-use lib.Dec.{eqb, ltb}
-use borrow.Author.Tests.{eqb-true, eqb-false, ltb-true, ltb-false}
+use lib.ListN.{get_or}
+use lib.Dec.{ltb}
+use borrow.Author.Tests.{ltb-true, ltb-false}
 use Rattle.grammar.specs.Image.{node_word, fields_of, fields_at, kind, rules, nodes, root}
-use Rattle.grammar.specs.Questions.{Question2, Question3}
+use Rattle.grammar.specs.Questions.{Question3}
 use Rattle.grammar.proofs.Nodes.{is_empty, kind_of_call, rule_of_call}
 use Rattle.image.specs.Linked.{linked_word, LinkedWords}
 use Rattle.image.proofs.PastTheEnd.{past_word32}
