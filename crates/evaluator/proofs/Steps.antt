@@ -1,7 +1,7 @@
 -- What a step of a run gives to the next: an answered word's bounds, the run after a step, the children of a node.
 -- Assumes nothing.
 use Rattle.std.specs.Prelude.{Ok, Result}
-use Rattle.std.proofs.Common.{◌≡◌, ℕ, zero, suc, ◌+◌, ◌-◌, ◌≤◌, ◌<◌, List, length, get_or, refl, sym, ap, ◌∙◌, subst, arith}
+use Rattle.std.proofs.Common.{◌≡◌, ℕ, zero, suc, ◌+◌, ◌-◌, ◌≤◌, ◌<◌, List, length, refl, sym, ◌∙◌, subst, arith}
 use Rattle.grammar.specs.declared.refusal.Refusal.{Refusal}
 use Rattle.grammar.specs.declared.node.NodeFields.{NodeFields}
 use Rattle.grammar.specs.declared.node.Node.{Node}
@@ -10,9 +10,7 @@ use Rattle.grammar.specs.Image.{fields_of, node_of}
 use Rattle.grammar.proofs.Nodes.{is_empty, is_any, is_range, is_sequence, is_choice, is_star, is_not, is_call, is_unlawful}
 use Rattle.image.specs.Fields.{SameFields}
 use Rattle.records.specs.Words.{word_of, value_of, nesting_of}
-use Rattle.records.specs.Slots.{slot_of}
 use Rattle.packrat.specs.Model.{Out}
-use Rattle.packrat.specs.Loaded.{rules_in}
 use Rattle.packrat.specs.Gives as packrat
 use Rattle.packrat.specs.Gives.{Gives}
 use Rattle.packrat.proofs.Runs.{nesting_allowed, says_itself}
@@ -47,14 +45,6 @@ pub ready_after :
 ready_after p q kept ready here =
     let most = ready.most in
     record { short = rw kept.2 ready.short; here = rw kept.2 here; most = omega arith }
-
--- The pair's word, by the number of rules that is among the words.
-pub looked_up :
-    (p : Run) (rule at : ℕ) {word rules : ℕ}
-    → rules ≡ rules_in p.words.now
-    → word ≡ get_or p.table.now (slot_of rules rule at) 0
-    → word ≡ get_or p.table.now (slot_of (rules_in p.words.now) rule at) 0
-looked_up p rule at e w = w ∙ ap (λ (n : ℕ). get_or p.table.now (slot_of n rule at) 0) e
 
 -- The numbers in a node are below 4096 where its fields are.
 abbrev pub Few : Node → Type 0

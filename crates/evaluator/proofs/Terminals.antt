@@ -14,23 +14,25 @@ use Rattle.image.specs.Fields.{SameFields}
 use Rattle.image.proofs.FirstByte.{kind-alone}
 use Rattle.records.specs.Words.{word_of}
 use Rattle.packrat.specs.Model.{kind_m}
-use Rattle.packrat.specs.Loaded.{word_node, word_m}
+use Rattle.loaded.specs.declared.form.LoadedGrammar.{LoadedGrammar}
+use Rattle.loaded.specs.Loaded.{word_node}
+use Rattle.packrat.specs.Loaded.{word_m}
 use Rattle.packrat.specs.Gives.{Ready, Gives}
 use Rattle.packrat.proofs.Gives.{gives_value}
 use Rattle.packrat.proofs.Rules.{word_goes}
 use Rattle.packrat.proofs.LoadedRuns.{word_is}
 
 pub terminal_goes :
-    (ws text : List ℕ) (left w at : ℕ) (table : List ℕ) (count : ℕ) {t : Terminal} {r : ℕ}
+    (g : LoadedGrammar) (text : List ℕ) (left w at : ℕ) (table : List ℕ) (count : ℕ) {t : Terminal} {r : ℕ}
     → Ready text at left
     → 0 < left
     → word_node w ≡ Text t
     → r ≡ word_of (terminal_at t text at)
-    → Gives (length text) at left (word_m ws text (left - 1) w at table count) (Ok r) table count
+    → Gives (length text) at left (word_m g text (left - 1) w at table count) (Ok r) table count
 unfolding kind_m
-terminal_goes ws text left w at table count {t} ready some is e =
+terminal_goes g text left w at table count {t} ready some is e =
     let s = shape t text at ready.here in
-    word_goes ws text left w at table count (λ z. omega arith) is
+    word_goes g text left w at table count (λ z. omega arith) is
     (gives_value (terminal_at t text at) refl e
     (terminal_within t text at ready.here)
     (omega (arith, s.flat)))

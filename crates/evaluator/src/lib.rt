@@ -8,12 +8,14 @@ ghost use Rattle.grammar.specs.declared.node.Node.TheVariants.{Sequence, Choice,
 ghost use Rattle.evaluator.specs.Runs.{node_run, word_run, kind_run, rule_run, Ready, Kept, Gives};
 
 use grammar::{Node, Refusal};
+use loaded::LoadedGrammar;
+use memo::Pair;
 use records::Record;
 
 // A loaded grammar over a text, the table that is lent, and the number of pairs whose body was evaluated.
 #[derive(Drop)]
 pub struct Run<'a, 't> {
-    pub words: &'a [u32; 4097],
+    pub grammar: &'a LoadedGrammar,
     pub text: &'a [u8],
     pub table: &'t mut [u64],
     pub count: u64,
@@ -31,7 +33,7 @@ impl<'a, 't> Run<'a, 't> {
         if left == 0 {
             return Err(Refusal::Nesting);
         }
-        let word = self.words[node];
+        let word = self.grammar.words[node];
         let first = image::first_byte(word);
         if first <= image::PLAIN_RANGE {
             if first == image::PLAIN_RANGE {
@@ -163,9 +165,13 @@ impl<'a, 't> Run<'a, 't> {
         ensures kept { Kept self.old self.new }
         ensures gives { Gives self.old at left (rule_run self.old left root rule) result self.new }
     {
-        let rules = loaded::rules_in(self.words);
+        let pair = Pair {
+            rules: self.grammar.rules,
+            rule,
+            position: at,
+        };
         let table = &mut *self.table;
-        let word = memo::look(table, rules, rule, at);
+        let word = pair.look(table);
         if records::is_held(word) {
             let Some(held) = Record::from_word(word, at, self.text.len()) else {
                 return Err(Refusal::Records);
@@ -176,7 +182,7 @@ impl<'a, 't> Run<'a, 't> {
             return Ok(held.word());
         }
         let value = self.eval_node(root, at, left)?;
-        memo::put(self.table, rules, rule, at, value);
+        pair.put(self.table, value);
         self.count = self.count.wrapping_add(1);
         Ok(value)
     }

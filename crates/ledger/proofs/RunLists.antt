@@ -14,7 +14,6 @@ use Rattle.grammar.specs.declared.Evaluation.{Evaluation}
 use Rattle.grammar.specs.Image.{rules, start, root}
 use Rattle.grammar.specs.Questions.{First, Accepted}
 use Rattle.packrat.specs.Model.{answered, refused, Out, out}
-use Rattle.packrat.specs.Loaded.{rules_in}
 use Rattle.packrat.specs.Session.{start_run}
 use Rattle.rows.specs.Walk.{Walked, walked, stopped, Trail, trail, node_v, start_v}
 use Rattle.rows.specs.Bounds.{Bounded, May}
@@ -28,12 +27,12 @@ use Rattle.promises.specs.Run.{stopped_words}
 use Rattle.ledger.specs.Ledger.{Reply, listing, lists}
 use Rattle.ledger.specs.Demand.{loan, Link, list_link, rows_given}
 use Rattle.promises.proofs.Asked.{sheet_passed}
-use Rattle.loaded.proofs.LoadedImage.{loaded_words, image_loaded}
+use Rattle.loaded.proofs.LoadedImage.{loaded_grammar, image_loaded}
 use Rattle.promises.proofs.SheetLists.{refused_listed, written_listed, stopped_listed, lists_done}
 
 -- The walk over the words that its reading left, its reply, and the words that are left then.
 abbrev pub walk_over : (slots : ℕ) (img text words : List ℕ) → Trail
-walk_over slots img text words = start_v slots img (loaded_words img) text words 0 (length text)
+walk_over slots img text words = start_v slots img (loaded_grammar img) text words 0 (length text)
 
 abbrev pub walk_reply : SheetReading → Trail → Reply
 walk_reply x (trail (walked m l c) rows) = lists (Ok (record { reading = x; rows = length rows })) rows
@@ -111,9 +110,9 @@ module _ (img B : List ℕ) (n : ℕ) (W : List ℕ) (good : First (of_sheet img
     unfolding start_v
     run-linked (out (answered z) words count) e =
         walk-linked e
-        (pair_bounded (rules_in (loaded_words img)) (root img (start img)) (length R) (take n B) words
-        (node_v (length R) (loaded_words img) (take n B) words 4096)
-        (node_bounded (length R) (loaded_words img) (take n B) words 4096) (start img) 0 0 (length (take n B)) 0 0 (omega arith)
+        (pair_bounded (rules img) (root img (start img)) (length R) (take n B) words
+        (node_v (length R) (loaded_grammar img) (take n B) words 4096)
+        (node_bounded (length R) (loaded_grammar img) (take n B) words 4096) (start img) 0 0 (length (take n B)) 0 0 (omega arith)
         (omega arith))
     run-linked (out (refused k) words count) e =
         linked

@@ -153,14 +153,14 @@ module _ {w v : Walk} (kept : Kept w v) where
       → Gives c l r l' d (nodes_of v left i p lo hi k c) → Gives c l r l' d (nodes_of w left i p lo hi k c)
   same_walk left i p lo hi k {c} =
       just
-      (λ j. node_v (sym kept.room_is j) (sym kept.words_are j) (sym kept.text_is j) (sym kept.table_is j) left i p lo hi k c)
+      (λ j. node_v (sym kept.room_is j) (sym kept.grammar_is j) (sym kept.text_is j) (sym kept.table_is j) left i p lo hi k c)
 
   pub same_parts :
       (left i p lo hi k : ℕ) {c : ℕ} {l : List ℕ} {r : Result (Option ℕ) Refusal} {l' : List ℕ} {d : ℕ}
       → Gives c l r l' d (parts_of v left i p lo hi k c) → Gives c l r l' d (parts_of w left i p lo hi k c)
   same_parts left i p lo hi k {c} =
       just
-      (λ j. part_v (length (sym kept.text_is j)) (node_v (sym kept.room_is j) (sym kept.words_are j) (sym kept.text_is j) (sym kept.table_is j) left) i p lo hi k c)
+      (λ j. part_v (length (sym kept.text_is j)) (node_v (sym kept.room_is j) (sym kept.grammar_is j) (sym kept.text_is j) (sym kept.table_is j) left) i p lo hi k c)
 
   pub steady :
       {at k allowance p left : ℕ} → Steady w.text.now at k allowance → p ≤ length w.text.now → left ≤ allowance → Steady v.text.now p k left
@@ -170,8 +170,7 @@ module _ {w v : Walk} (kept : Kept w v) where
   kept_on k =
       record {
         slots_are = kept.slots_are ∙ k.slots_are;
-        words_are = kept.words_are ∙ k.words_are;
-        rules_are = kept.rules_are ∙ k.rules_are;
+        grammar_is = kept.grammar_is ∙ k.grammar_is;
         text_is = kept.text_is ∙ k.text_is;
         table_is = kept.table_is ∙ k.table_is;
         room_is = kept.room_is ∙ k.room_is;

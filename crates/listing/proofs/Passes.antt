@@ -7,7 +7,7 @@ use mathlib.Core.List.{List, ◌++◌}
 use lib.ListN.{length, drop}
 use lib.Seq.{sets-eq}
 use Rattle.grammar.specs.declared.refusal.Refusal.{Refusal}
-use Rattle.packrat.specs.Loaded.{rules_in}
+use Rattle.loaded.specs.declared.form.LoadedGrammar.{LoadedGrammar}
 use Rattle.rows.specs.Walk.{Walked, walked, stopped, Trail, trail, node_v, rule_v}
 use Rattle.rows.proofs.Bounds.{node_bounded, pair_bounded}
 use Rattle.rows.specs.Bounds.{Stops, Bounded}
@@ -30,10 +30,10 @@ pass_counted {l = l} {l' = l'} {d = d} {o = o} {x = x} b g i = go g.answer g.is 
 
 -- The walk of a pass ends in its bounds.
 pub pass_bounded :
-    (room : ℕ) (ws text table : List ℕ) (root start : ℕ)
-    → Bounded (length text) room 0 0 (rule_v room ws text table 4096 root start 0 0 (length text) 0 0)
-pass_bounded room ws text table root start =
-    pair_bounded (rules_in ws) root room text table (node_v room ws text table 4096) (node_bounded room ws text table 4096) start 0 0
+    (room : ℕ) (g : LoadedGrammar) (text table : List ℕ) (root start : ℕ)
+    → Bounded (length text) room 0 0 (rule_v room g text table 4096 root start 0 0 (length text) 0 0)
+pass_bounded room g text table root start =
+    pair_bounded g.rules root room text table (node_v room g text table 4096) (node_bounded room g text table 4096) start 0 0
     (length text) 0 0 (omega arith) (omega arith)
 
 abbrev answer_of : Trail → Walked

@@ -49,7 +49,7 @@ abbrev Answer : Type 0
 Answer = Result (Option ℕ) Refusal
 
 stays : (w : Walk) (left : ℕ) → Stays (length w.text.now) w.room (nodes_of w left)
-stays w left = node_bounded w.room w.words.now w.text.now w.table.now left
+stays w left = node_bounded w.room w.grammar.now w.text.now w.table.now left
 
 parts_stay : (w : Walk) (left : ℕ) → Stays (length w.text.now) w.room (parts_of w left)
 parts_stay w left = part_bounded (length w.text.now) w.room (nodes_of w left) (stays w left)

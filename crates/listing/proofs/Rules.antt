@@ -24,7 +24,7 @@ use Rattle.records.specs.declared.Record.{Record}
 use Rattle.records.specs.Words.{is_held, possible, matched_of, length_of, record_of, decoded}
 use Rattle.records.specs.Slots.{slot_of}
 use Rattle.records.proofs.Test.{says_possible}
-use Rattle.packrat.specs.Loaded.{word_b}
+use Rattle.loaded.specs.Loaded.{word_b}
 use Rattle.rows.specs.Rows.{row_word}
 use Rattle.rows.specs.Window.{touches}
 use Rattle.rows.specs.Walk.{walked, stopped, Trail, trail, bind, after, met, entered, pair_v, kind_v, node_v}
@@ -44,7 +44,7 @@ held_in_text word at n {h} from =
     omega arith
 
 module _ (w : Walk) {at k allowance : ℕ} (s : Steady w.text.now at k allowance) (left root r lo hi : ℕ) {word : ℕ}
-    (word_is : word ≡ get_or w.table.now (slot_of w.rules r at) 0)
+    (word_is : word ≡ get_or w.table.now (slot_of w.grammar.now.rules r at) 0)
   where
     abbrev n : ℕ
     n = length w.text.now
@@ -66,7 +66,7 @@ module _ (w : Walk) {at k allowance : ℕ} (s : Steady w.text.now at k allowance
     unfolding pair_v
     opens =
         ap (λ (v : ℕ). met (is_held v && possible v at n) (matched_of v) w.count (Inner (length_of v)))
-        (sym (word_is ∙ ap (λ (m : ℕ). get_or w.table.now (slot_of m r at) 0) w.rules_are))
+        (sym word_is)
 
     pub rule_empty :
         is_held word ≡ false
@@ -167,7 +167,7 @@ module _ (w : Walk) {at k allowance : ℕ} (s : Steady w.text.now at k allowance
               rule_goes {x} i = go x i
                 where
                   stays : Bounded n w.room at (w.count + 1) (body (w.count + 1))
-                  stays = node_bounded w.room w.words.now w.text.now w.table.now left root at lo hi (k + 1) (w.count + 1) s.here (omega arith)
+                  stays = node_bounded w.room w.grammar.now w.text.now w.table.now left root at lo hi (k + 1) (w.count + 1) s.here (omega arith)
 
                   go : (x : Option ℕ) → y ≡ Ok x → Gives w.count w.rows.now (Ok (Some h.length)) l1 d (rules_of w left root r at lo hi k w.count)
                   go (Some x) i =
@@ -230,17 +230,17 @@ module _ (w : Walk) {at k left : ℕ} (s : Steady w.text.now at k left) (i lo hi
       (unfold node_v in at_once (stopped Nesting) refl refl)
 
   abbrev pub Inside : (left : ℕ) → Node → Trail
-  Inside left m = inside_of w left (word_b (get_or w.words.now i 0)) m at lo hi k w.count
+  Inside left m = inside_of w left (word_b (get_or w.grammar.now.words i 0)) m at lo hi k w.count
 
-  module _ (some : left ≡ 0 → ⊥) {f : NodeFields} (same : SameFields f (fields_of (get_or w.words.now i 0))) {m : Node} (is : m ≡ node_of f)
+  module _ (some : left ≡ 0 → ⊥) {f : NodeFields} (same : SameFields f (fields_of (get_or w.grammar.now.words i 0))) {m : Node} (is : m ≡ node_of f)
     where
       node_is : (j : ℕ) → nodes_of w (suc j) i at lo hi k w.count ≡ Inside j m
       unfolding node_v
-      node_is j = ap (Inside j) (word_is (get_or w.words.now i 0) same (sym is))
+      node_is j = ap (Inside j) (word_is (get_or w.grammar.now.words i 0) same (sym is))
 
       pub node_goes :
           {r : Result (Option ℕ) Refusal} {d : ℕ} {l1 : List ℕ}
-          → Gives w.count w.rows.now r l1 d (inside_of w (left - 1) (word_b (get_or w.words.now i 0)) m at lo hi k w.count)
+          → Gives w.count w.rows.now r l1 d (inside_of w (left - 1) (word_b (get_or w.grammar.now.words i 0)) m at lo hi k w.count)
           → Gives w.count w.rows.now r l1 d (nodes_of w left i at lo hi k w.count)
       node_goes {r} {d} {l1} g = go left some g
         where
@@ -251,7 +251,7 @@ module _ (w : Walk) {at k left : ℕ} (s : Steady w.text.now at k left) (i lo hi
           go (suc j) ne g =
               just (node_is j) (subst (λ (q : ℕ). Gives w.count w.rows.now r l1 d (Inside q m)) (omega arith) g)
 
-  module _ (some : left ≡ 0 → ⊥) {f : NodeFields} (same : SameFields f (fields_of (get_or w.words.now i 0))) where
+  module _ (some : left ≡ 0 → ⊥) {f : NodeFields} (same : SameFields f (fields_of (get_or w.grammar.now.words i 0))) where
     pub empty_goes : Empty ≡ node_of f → Gives w.count w.rows.now (Ok (Some 0)) w.rows.now w.count (nodes_of w left i at lo hi k w.count)
     unfolding kind_v
     empty_goes e = node_goes some same e (at_once (walked true 0 w.count) refl refl)

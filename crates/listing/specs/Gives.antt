@@ -31,16 +31,16 @@ pub record Gives (c : ℕ) (before : List ℕ) (given : Result (Option ℕ) Refu
 
 -- The walks of crate rows over the grammar, the text and the table of a walk w, with its room.
 abbrev pub nodes_of : Walk → (left : ℕ) → Walker
-nodes_of w left = node_v w.room w.words.now w.text.now w.table.now left
+nodes_of w left = node_v w.room w.grammar.now w.text.now w.table.now left
 
 abbrev pub parts_of : Walk → (left : ℕ) → Walker
 parts_of w left = part_v (length w.text.now) (nodes_of w left)
 
 abbrev pub rules_of : Walk → (left root : ℕ) → Walker
-rules_of w left root = rule_v w.room w.words.now w.text.now w.table.now left root
+rules_of w left root = rule_v w.room w.grammar.now w.text.now w.table.now left root
 
 abbrev pub inside_of : Walk → (left root : ℕ) → Node → (at lo hi around count : ℕ) → Trail
-inside_of w left root m = inside_v w.room w.words.now w.text.now w.table.now left root m
+inside_of w left root m = inside_v w.room w.grammar.now w.text.now w.table.now left root m
 
 -- A step at a position, with a window and so many rows around it, that leaves the walk v: it is that walk of crate rows.
 abbrev pub Walks :
@@ -54,8 +54,7 @@ nowhere = record { lo = 0; hi = 0 }
 -- What a step keeps: the slots that are lent, the grammar, the text, the table and the room.
 pub record Kept (w v : Walk) : Type 0 where
   pub slots_are : v.rows.ghost_name ≡ w.rows.ghost_name
-  pub words_are : v.words.now ≡ w.words.now
-  pub rules_are : v.rules ≡ w.rules
+  pub grammar_is : v.grammar.now ≡ w.grammar.now
   pub text_is : v.text.now ≡ w.text.now
   pub table_is : v.table.now ≡ w.table.now
   pub room_is : v.room ≡ w.room

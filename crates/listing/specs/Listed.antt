@@ -4,7 +4,8 @@ use Rattle.grammar.specs.declared.refusal.Refusal.{Refusal}
 use Rattle.std.specs.Prelude.{ℕ, ◌≤◌, ◌≡◌, Bool, List, ◌++◌, length, drop, Result, Ok, Err}
 use Rattle.std.proofs.lemmas.List.Edits.{sets}
 use Rattle.grammar.specs.Image.{start, root}
-use Rattle.packrat.specs.Loaded.{Loaded}
+use Rattle.loaded.specs.declared.form.LoadedGrammar.{LoadedGrammar}
+use Rattle.loaded.specs.Loaded.{Loaded}
 use Rattle.rows.specs.Walk.{Walked, walked, stopped, Trail, trail, rule_v}
 use Rattle.rows.specs.Bounds.{Stops}
 
@@ -41,12 +42,12 @@ ListedAs o slots (Ok m) left = Written o slots m left
 ListedAs o slots (Err r) left = NotWritten o slots r left
 
 -- The window (0, n) of the whole text.
-abbrev pub ListedIn : (ws text table : List ℕ) (start root : ℕ) (slots : List ℕ) → Result ℕ Refusal → List ℕ → Type 0
-ListedIn ws text table start root slots r left =
-    ListedAs (rule_v (length slots) ws text table 4096 root start 0 0 (length text) 0 0) slots r left
+abbrev pub ListedIn : (g : LoadedGrammar) (text table : List ℕ) (start root : ℕ) (slots : List ℕ) → Result ℕ Refusal → List ℕ → Type 0
+ListedIn g text table start root slots r left =
+    ListedAs (rule_v (length slots) g text table 4096 root start 0 0 (length text) 0 0) slots r left
 
 -- The start pair of an image, by a grammar that was loaded from it.
 pub record ListedOver (img text table slots : List ℕ) (r : Result ℕ Refusal) (left : List ℕ) : Type 0 where
-  pub grammar : List ℕ
+  pub grammar : LoadedGrammar
   pub loaded : Loaded img grammar
   pub listed : ListedIn grammar text table (start img) (root img (start img)) slots r left

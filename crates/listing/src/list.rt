@@ -4,11 +4,12 @@ ghost use Rattle.listing.specs.Listed.{ListedIn};
 
 use crate::state::Walk;
 use grammar::Refusal;
+use loaded::LoadedGrammar;
 
 // "Counting ends at the first row too many". The start rule has that number and its body that root. Text, table and slots come one by one,
 // as C lends them.
 pub fn list_in(
-    words: &[u32; 4097],
+    grammar: &LoadedGrammar,
     text: &[u8],
     table: &[u64],
     rows: &mut [u64],
@@ -16,13 +17,11 @@ pub fn list_in(
     root: usize,
 ) -> Result<usize, Refusal>
     requires { (length text.now ≤ 65535) × (start < 4096) × (root < 4096) }
-    ensures { ListedIn words.now text.now table.now start root rows.old result rows.new }
+    ensures { ListedIn grammar.now text.now table.now start root rows.old result rows.new }
 {
-    let rules = loaded::rules_in(words);
     let room = rows.len();
     let mut counting = Walk {
-        words,
-        rules,
+        grammar,
         text,
         table,
         rows: &mut [],
@@ -31,8 +30,7 @@ pub fn list_in(
     };
     counting.list(start, root)?;
     let mut writing = Walk {
-        words,
-        rules,
+        grammar,
         text,
         table,
         rows,

@@ -16,10 +16,10 @@ pub fn list_over(
     requires { Accepted image.now × (length text.now ≤ 65535) }
     ensures { ListedOver image.now text.now table.now rows.old result rows.new }
 {
-    let words = loaded::load(image);
+    let grammar = loaded::load(image);
     let header = image::header_of(image);
     let start = header.start;
     let body = image::rule_at(image, start);
     let root = body.root;
-    list::list_in(&words, text, table, rows, start, root)
+    list::list_in(&grammar, text, table, rows, start, root)
 }

@@ -11,6 +11,7 @@ use crate::bytes;
 use crate::slots::{Row, Window};
 use crate::state::Walk;
 use grammar::{Node, Refusal};
+use memo::Pair;
 use records::Record;
 
 impl<'a> Walk<'a> {
@@ -31,7 +32,7 @@ impl<'a> Walk<'a> {
         if left == 0 {
             return Err(Refusal::Nesting);
         }
-        let fields = image::node_of(self.words[node]);
+        let fields = image::node_of(self.grammar.words[node]);
         match Node::from(fields) {
             Node::Empty => Ok(Some(0)),
             Node::Text(terminal) => Ok(bytes::leaf(self.text, terminal, at)),
@@ -173,7 +174,12 @@ impl<'a> Walk<'a> {
         ensures kept { Kept self.old self.new }
         ensures gives { Walks self.old result self.new (rules_of self.old left root rule) at window depth }
     {
-        let word = memo::look(self.table, self.rules, rule, at);
+        let pair = Pair {
+            rules: self.grammar.rules,
+            rule,
+            position: at,
+        };
+        let word = pair.look(self.table);
         if !records::is_held(word) {
             return Err(Refusal::Records);
         }

@@ -4,17 +4,17 @@ use native.Mathlib.Omega.{arith}
 use mathlib.Core.Path.{◌≡◌, refl, sym, ap, ◌∙◌}
 use mathlib.Core.Bool.{Bool, true, false}
 use mathlib.Core.List.{List}
-use lib.ListN.{length, get_or, set}
-use lib.Seq.{get_or-set_same, get_or-set_other}
-use lib.Dec.{eqb, ltb}
-use borrow.Author.Tests.{eqb-true, eqb-false, ltb-true, ltb-false}
+use lib.ListN.{get_or}
+use lib.Dec.{ltb}
+use borrow.Author.Tests.{ltb-true, ltb-false}
 use Rattle.grammar.specs.Image.{node_word, fields_of, fields_at, kind, rules, nodes, root}
-use Rattle.grammar.specs.Questions.{Question2, Question3}
+use Rattle.grammar.specs.Questions.{Question3}
 use Rattle.grammar.proofs.Nodes.{is_empty, kind_of_call, rule_of_call}
 use Rattle.image.specs.Linked.{linked_word, LinkedWords}
 use Rattle.image.proofs.PastTheEnd.{past_word32}
 use Rattle.image.proofs.Linked.{linked, same_node}
-use Rattle.packrat.specs.Loaded.{word_node, LoadedWord, Loaded}
+use Rattle.loaded.specs.declared.form.LoadedGrammar.{LoadedGrammar}
+use Rattle.loaded.specs.Loaded.{word_node, LoadedWord, Loaded}
 
 module _ (img : List ℕ) (n : ℕ) where
   pub linked_loaded : LoadedWord img n (linked_word img n)
@@ -37,25 +37,12 @@ module _ (img : List ℕ) (n : ℕ) where
         root_is = λ r c. absurd (let d = kind_of_call (fields_at img n) c in omega arith);
       }
 
--- All words, and after them the number of rules.
-pub loaded :
-    (img xs : List ℕ) (r : ℕ)
-    → Question2 img
-    → Question3 img
-    → length xs ≡ 4097
-    → r ≡ rules img
-    → LinkedWords img xs
-    → Loaded img (set xs 4096 r)
-loaded img xs r q2 q3 l e h =
-    record { rules_are = get_or-set_same xs 4096 r 0 (omega arith) ∙ e; words_are = λ k. go k (eqb k 4096) refl (ltb k (nodes img)) refl }
+-- The linked words with the number of rules are the image's grammar.
+pub loaded : (img : List ℕ) (g : LoadedGrammar) → Question3 img → g.rules ≡ rules img → LinkedWords img g.words → Loaded img g
+loaded img g q3 e h = record { rules_are = e; words_are = λ k. go k (ltb k (nodes img)) refl }
   where
-    go : (k : ℕ) (b : Bool) → eqb k 4096 ≡ b → (c : Bool) → ltb k (nodes img) ≡ c → LoadedWord img k (get_or (set xs 4096 r) k 0)
-    go k true d c f =
-        let at = eqb-true k 4096 d in
-        rw (at, get_or-set_same xs 4096 r 0 (omega arith))
-        (past_word img 4096 q3 (omega (arith, q2.few_nodes)) (omega (arith, e, q2.few_rules)))
-    go k false d true f =
-        rw (get_or-set_other xs 4096 k r 0 (eqb-false k 4096 d), h.word_of k (ltb-true k (nodes img) f)) (linked_loaded img k)
-    go k false d false f =
+    go : (k : ℕ) (c : Bool) → ltb k (nodes img) ≡ c → LoadedWord img k (get_or g.words k 0)
+    go k true f = rw (h.word_of k (ltb-true k (nodes img) f)) (linked_loaded img k)
+    go k false f =
         let past = ltb-false k (nodes img) f in
-        rw (get_or-set_other xs 4096 k r 0 (eqb-false k 4096 d), h.past k past) (past_word img k q3 past (omega arith))
+        rw (h.past k past) (past_word img k q3 past (omega arith))

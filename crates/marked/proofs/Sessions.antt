@@ -11,7 +11,7 @@ use Rattle.grammar.proofs.Acceptance.{accepted}
 use Rattle.records.specs.Words.{matched_of, spare_of, nesting_of, examined_of, length_of, value_of, word_of, possible}
 use Rattle.records.specs.Slots.{slot_of}
 use Rattle.packrat.specs.Model.{after_first, after_choice, after_round, rounds_m, met, looked, pair_m, kind_m, node_m}
-use Rattle.packrat.specs.Loaded.{word_node}
+use Rattle.loaded.specs.Loaded.{word_node}
 use Rattle.rows.specs.Rows.{row_word, row_words}
 use Rattle.rows.specs.Window.{touches}
 use Rattle.rows.specs.Walk.{after, bind, after_look, part_v, joined, rounds_v, entered, pair_v, kind_v, node_v, start_v}

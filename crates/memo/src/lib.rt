@@ -8,29 +8,34 @@ ghost use Rattle.records.specs.Slots.{slot_of};
 
 use records::Record;
 
-// "The slot of (rule, position) is position × rules + rule."
-fn slot_of(rules: usize, rule: usize, position: usize) -> usize
-    requires { IsPair rules rule position }
-    ensures { result ≡ slot_of rules rule position }
-{
-    position * rules + rule
+// A rule and a position, in a grammar of so many rules.
+#[derive(Clone, Copy)]
+pub struct Pair {
+    pub rules: usize,
+    pub rule: usize,
+    pub position: usize,
+    ghost is_pair: { IsPair rules rule position },
 }
 
-// The word of a pair.
-pub fn look(table: &[u64], rules: usize, rule: usize, position: usize) -> u64
-    requires { IsPair rules rule position }
-    ensures { result ≡ get_or table.now (slot_of rules rule position) 0 }
-{
-    table
-        .get(slot_of(rules, rule, position))
-        .copied()
-        .unwrap_or(Record::EMPTY)
-}
+impl Pair {
+    // "The slot of (rule, position) is position × rules + rule."
+    fn slot(self) -> usize
+        ensures { result ≡ slot_of self.rules self.rule self.position }
+    {
+        self.position * self.rules + self.rule
+    }
 
-// Stores the word of a pair.
-pub fn put(table: &mut [u64], rules: usize, rule: usize, position: usize, word: u64)
-    requires { IsPair rules rule position }
-    ensures { table.new ≡ set table.old (slot_of rules rule position) word }
-{
-    buffers::store(table, slot_of(rules, rule, position), word);
+    // The word of the pair.
+    pub fn look(self, table: &[u64]) -> u64
+        ensures { result ≡ get_or table.now (slot_of self.rules self.rule self.position) 0 }
+    {
+        table.get(self.slot()).copied().unwrap_or(Record::EMPTY)
+    }
+
+    // Stores the word of the pair.
+    pub fn put(self, table: &mut [u64], word: u64)
+        ensures { table.new ≡ set table.old (slot_of self.rules self.rule self.position) word }
+    {
+        buffers::store(table, self.slot(), word);
+    }
 }

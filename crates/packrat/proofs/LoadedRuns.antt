@@ -14,7 +14,9 @@ use Rattle.grammar.specs.Image.{fields_of, node_of, node, rules, root, start}
 use Rattle.image.specs.Fields.{SameFields}
 use Rattle.image.proofs.SameFields.{same_record}
 use Rattle.packrat.specs.Model.{Out, Evaluator, pair_m, rule_m, kind_m, node_m}
-use Rattle.packrat.specs.Loaded.{word_b, word_node, rules_in, Loaded, node_w, word_m}
+use Rattle.loaded.specs.declared.form.LoadedGrammar.{LoadedGrammar}
+use Rattle.loaded.specs.Loaded.{word_b, word_node, Loaded}
+use Rattle.packrat.specs.Loaded.{node_w, word_m}
 use Rattle.packrat.specs.Gives.{Gives}
 use Rattle.packrat.specs.Session.{BodyOver}
 use Rattle.packrat.proofs.Rules.{node_goes}
@@ -42,8 +44,8 @@ same_root R ρ img text ev left (Call r) e h at t c =
     λ i. kind_m text ev (λ s. pair_m (e i) (h r refl i) text ev left s) (Call r) at t c
 same_root R ρ img text ev left Unlawful e h at t c = refl
 
-module _ (img text : List ℕ) {ws : List ℕ} (l : Loaded img ws) where
-  pub loaded_run : (left i at : ℕ) (t : List ℕ) (c : ℕ) → node_w ws text left i at t c ≡ node_m img text left i at t c
+module _ (img text : List ℕ) {g : LoadedGrammar} (l : Loaded img g) where
+  pub loaded_run : (left i at : ℕ) (t : List ℕ) (c : ℕ) → node_w g text left i at t c ≡ node_m img text left i at t c
   unfolding node_w node_m
   loaded_run zero i at t c = refl
   loaded_run (suc left) i at t c =
@@ -51,18 +53,18 @@ module _ (img text : List ℕ) {ws : List ℕ} (l : Loaded img ws) where
       kind_m
       text
       (λ j p u d. loaded_run left j p u d k)
-      (pair_m (rules_in ws) (word_b (get_or ws i 0)) text (λ j p u d. loaded_run left j p u d k) left)
+      (pair_m g.rules (word_b (get_or g.words i 0)) text (λ j p u d. loaded_run left j p u d k) left)
       ((l.words_are i).node_is k)
       at
       t
       c)
-      ∙ same_root (rules_in ws) (word_b (get_or ws i 0)) img text (node_m img text left) left (node img i) l.rules_are (l.words_are i).root_is at t c
+      ∙ same_root g.rules (word_b (get_or g.words i 0)) img text (node_m img text left) left (node img i) l.rules_are (l.words_are i).root_is at t c
 
 -- So is the start rule's body, which the evaluator is given as its root's word.
 pub body_given :
-    (img text : List ℕ) {ws : List ℕ} (l : Loaded img ws) (t : List ℕ) (c : ℕ) {given : Result ℕ Refusal} {d : ℕ} {u : List ℕ}
-    → Gives (length text) 0 4096 (word_m ws text 4095 (get_or ws (root img (start img)) 0) 0 t c) given u d
+    (img text : List ℕ) {g : LoadedGrammar} (l : Loaded img g) (t : List ℕ) (c : ℕ) {given : Result ℕ Refusal} {d : ℕ} {u : List ℕ}
+    → Gives (length text) 0 4096 (word_m g text 4095 (get_or g.words (root img (start img)) 0) 0 t c) given u d
     → BodyOver img text t c given u d
-body_given img text {ws} l t c {given} {d} {u} g =
+body_given img text {g} l t c {given} {d} {u} h =
     subst (λ (o : Out). Gives (length text) 0 4096 o given u d) (loaded_run img text l 4096 (root img (start img)) 0 t c)
-    (node_goes ws text 4096 (root img (start img)) 0 t c (λ e. omega arith) g)
+    (node_goes g text 4096 (root img (start img)) 0 t c (λ e. omega arith) h)

@@ -21,7 +21,9 @@ use Rattle.records.specs.Slots.{slot_of}
 use Rattle.records.proofs.Codec.{word_again}
 use Rattle.records.proofs.Test.{says_possible}
 use Rattle.packrat.specs.Model.{answered, Out, out, Evaluator, bind, met, looked, pair_m}
-use Rattle.packrat.specs.Loaded.{word_node, word_b, word_m, node_w, kind_w}
+use Rattle.loaded.specs.declared.form.LoadedGrammar.{LoadedGrammar}
+use Rattle.loaded.specs.Loaded.{word_node, word_b}
+use Rattle.packrat.specs.Loaded.{word_m, node_w, kind_w}
 use Rattle.packrat.specs.Gives.{Gives}
 use Rattle.packrat.proofs.Gives.{found, was_refused, gives_value, gives_refusal}
 
@@ -127,32 +129,32 @@ module _ (rules root : ℕ) (text : List ℕ) (nodes : Evaluator) (left rule at 
           v.bounds.shape
           v.bounds.allowed
 
-module _ {n : ℕ} (ws text : List ℕ) (left : ℕ) where
+module _ {n : ℕ} (g : LoadedGrammar) (text : List ℕ) (left : ℕ) where
   -- A node: without an allowance, and with one.
   pub node_too_deep :
-      (i at : ℕ) (t : List ℕ) (c : ℕ) → left ≡ 0 → Gives n at left (node_w ws text left i at t c) (Err Nesting) t c
-  node_too_deep i at t c e = subst (λ (l : ℕ). Gives n at l (node_w ws text l i at t c) (Err Nesting) t c) (sym e) (unfold node_w in gives_refusal refl)
+      (i at : ℕ) (t : List ℕ) (c : ℕ) → left ≡ 0 → Gives n at left (node_w g text left i at t c) (Err Nesting) t c
+  node_too_deep i at t c e = subst (λ (l : ℕ). Gives n at l (node_w g text l i at t c) (Err Nesting) t c) (sym e) (unfold node_w in gives_refusal refl)
 
   pub node_goes :
       (i at : ℕ) (t : List ℕ) (c : ℕ) {r : Result ℕ Refusal} {d : ℕ} {u : List ℕ}
       → (left ≡ 0 → ⊥)
-      → Gives n at left (word_m ws text (left - 1) (get_or ws i 0) at t c) r u d
-      → Gives n at left (node_w ws text left i at t c) r u d
-  node_goes i at t c {r} {d} {u} ne g =
+      → Gives n at left (word_m g text (left - 1) (get_or g.words i 0) at t c) r u d
+      → Gives n at left (node_w g text left i at t c) r u d
+  node_goes i at t c {r} {d} {u} ne h =
       let l : suc (left - 1) ≡ left = omega arith in
-      subst (λ (k : ℕ). Gives n at left (node_w ws text k i at t c) r u d) l (unfold node_w in g)
+      subst (λ (k : ℕ). Gives n at left (node_w g text k i at t c) r u d) l (unfold node_w in h)
 
   -- A node's word, by the node that it stands for.
   pub word_goes :
       (w at : ℕ) (t : List ℕ) (c : ℕ) {m : Node} {r : Result ℕ Refusal} {d : ℕ} {u : List ℕ}
       → (left ≡ 0 → ⊥)
       → word_node w ≡ m
-      → Gives n at (left - 1 + 1) (kind_w ws text (left - 1) (word_b w) m at t c) r u d
-      → Gives n at left (word_m ws text (left - 1) w at t c) r u d
-  word_goes w at t c {m} {r} {d} {u} ne e g =
+      → Gives n at (left - 1 + 1) (kind_w g text (left - 1) (word_b w) m at t c) r u d
+      → Gives n at left (word_m g text (left - 1) w at t c) r u d
+  word_goes w at t c {m} {r} {d} {u} ne e h =
       let l : left - 1 + 1 ≡ left = omega arith in
-      subst (λ (k : ℕ). Gives n at k (word_m ws text (left - 1) w at t c) r u d) l
-      (subst (λ (x : Node). Gives n at (left - 1 + 1) (kind_w ws text (left - 1) (word_b w) x at t c) r u d) (sym e) g)
+      subst (λ (k : ℕ). Gives n at k (word_m g text (left - 1) w at t c) r u d) l
+      (subst (λ (x : Node). Gives n at (left - 1 + 1) (kind_w g text (left - 1) (word_b w) x at t c) r u d) (sym e) h)
 
   -- A call's word: the root that the body has is the word's field B.
   pub call_goes :
@@ -160,7 +162,7 @@ module _ {n : ℕ} (ws text : List ℕ) (left : ℕ) where
       → (left ≡ 0 → ⊥)
       → root ≡ word_b w
       → word_node w ≡ Call rule
-      → Gives n at (left - 1 + 1) (kind_w ws text (left - 1) root (Call rule) at t c) r u d
-      → Gives n at left (word_m ws text (left - 1) w at t c) r u d
-  call_goes w at t c {rule = rule} {d} {r} {u} ne b e g =
-      word_goes w at t c ne e (subst (λ (k : ℕ). Gives n at (left - 1 + 1) (kind_w ws text (left - 1) k (Call rule) at t c) r u d) b g)
+      → Gives n at (left - 1 + 1) (kind_w g text (left - 1) root (Call rule) at t c) r u d
+      → Gives n at left (word_m g text (left - 1) w at t c) r u d
+  call_goes w at t c {rule = rule} {d} {r} {u} ne b e h =
+      word_goes w at t c ne e (subst (λ (k : ℕ). Gives n at (left - 1 + 1) (kind_w g text (left - 1) k (Call rule) at t c) r u d) b h)

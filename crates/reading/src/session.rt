@@ -8,6 +8,7 @@ ghost use Rattle.reading.specs.Start.{Kept};
 
 use crate::pair::StartPair;
 use grammar::Refusal;
+use memo::Pair;
 use records::Record;
 
 // What a held word gives at the start of a text of n bytes: itself where it is possible, else the refusal 12.
@@ -27,15 +28,18 @@ impl<'a, 't> StartPair<'a, 't> {
         ensures word { StartOver self.old.image.now self.old.text.now self.old.table.now self.old.count result self.new.table.now self.new.count }
     {
         let header = image::header_of(self.image);
-        let rules = header.rules;
-        let rule = header.start;
+        let pair = Pair {
+            rules: header.rules,
+            rule: header.start,
+            position: 0,
+        };
         let table = &mut *self.table;
-        let word = memo::look(table, rules, rule, 0);
+        let word = pair.look(table);
         if records::is_held(word) {
             return met(word, self.text.len());
         }
         let value = self.body()?;
-        memo::put(self.table, rules, rule, 0, value);
+        pair.put(self.table, value);
         self.count = self.count.wrapping_add(1);
         Ok(value)
     }

@@ -17,7 +17,8 @@ use Rattle.grammar.proofs.Terminals.{shape}
 use Rattle.records.specs.Words.{is_held, possible, matched_of, length_of}
 use Rattle.records.specs.Slots.{slot_of}
 use Rattle.records.proofs.Test.{says_possible}
-use Rattle.packrat.specs.Loaded.{word_b, word_node, rules_in}
+use Rattle.loaded.specs.declared.form.LoadedGrammar.{LoadedGrammar}
+use Rattle.loaded.specs.Loaded.{word_b, word_node}
 use Rattle.rows.specs.Rows.{row_word}
 use Rattle.rows.specs.Window.{touches}
 use Rattle.rows.specs.Walk.{Walked, walked, stopped, Trail, trail, Walker, bind, after, after_look, part_v, joined, after_first}
@@ -214,12 +215,12 @@ module _ (room : ℕ) (text : List ℕ) (ev called : Walker) (stays : Stays (len
     kind_bounded (Call r) at lo hi k c h few = calls r at lo hi k c h few
     kind_bounded Unlawful at lo hi k c h few = refuses impossible few
 
-pub node_bounded : (room : ℕ) (ws text table : List ℕ) (left : ℕ) → Stays (length text) room (node_v room ws text table left)
+pub node_bounded : (room : ℕ) (g : LoadedGrammar) (text table : List ℕ) (left : ℕ) → Stays (length text) room (node_v room g text table left)
 unfolding node_v
-node_bounded room ws text table zero i at lo hi k c h few = refuses too_deep few
-node_bounded room ws text table (suc left) i at lo hi k c h few =
-    let inner = node_bounded room ws text table left in
-    kind_bounded room text (node_v room ws text table left)
-    (pair_v (rules_in ws) (word_b (get_or ws i 0)) room text table (node_v room ws text table left)) inner
-    (pair_bounded (rules_in ws) (word_b (get_or ws i 0)) room text table (node_v room ws text table left) inner)
-    (word_node (get_or ws i 0)) at lo hi k c h few
+node_bounded room g text table zero i at lo hi k c h few = refuses too_deep few
+node_bounded room g text table (suc left) i at lo hi k c h few =
+    let inner = node_bounded room g text table left in
+    kind_bounded room text (node_v room g text table left)
+    (pair_v g.rules (word_b (get_or g.words i 0)) room text table (node_v room g text table left)) inner
+    (pair_bounded g.rules (word_b (get_or g.words i 0)) room text table (node_v room g text table left) inner)
+    (word_node (get_or g.words i 0)) at lo hi k c h few

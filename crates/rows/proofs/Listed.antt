@@ -23,7 +23,8 @@ use Rattle.records.specs.Words.{is_held}
 use Rattle.packrat.specs.Over.{word_at}
 use Rattle.packrat.specs.True.{TrueTable}
 use Rattle.packrat.specs.Closed.{ClosedTable, Reads}
-use Rattle.packrat.specs.Loaded.{Loaded}
+use Rattle.loaded.specs.declared.form.LoadedGrammar.{LoadedGrammar}
+use Rattle.loaded.specs.Loaded.{Loaded}
 use Rattle.packrat.specs.Model.{Out}
 use Rattle.rows.specs.Rows.{if_matched, rows_of, row_word, row_words}
 use Rattle.rows.specs.Window.{touches}
@@ -43,11 +44,11 @@ no_match {p = p} {z = z} (ev_body {r} q u) k m =
 no_match (ev_record q) k m = absurd (no_record q)
 
 module _ (img text table : List ℕ) (accepted : Accepted img) (short : length text ≤ 65535) (true_words : TrueTable img text table)
-    (closed : ClosedTable img text table) {ws : List ℕ} (loaded : Loaded img ws) (room : ℕ)
+    (closed : ClosedTable img text table) {g : LoadedGrammar} (loaded : Loaded img g) (room : ℕ)
     {z : Evaluation} (u : Fresh img text (a_pair (start img)) 0 z)
     (held : is_held (word_at img table (start img) 0) ≡ true) (deep : z.nesting ≤ 4096)
   where
-    pub start_lists : Fits room 0 z.matched z.length (row_words (rows_of u 0)) (start_v room img ws text table 0 (length text))
+    pub start_lists : Fits room 0 z.matched z.length (row_words (rows_of u 0)) (start_v room img g text table 0 (length text))
     unfolding start_v met row_words
     start_lists = go z.matched refl
       where
@@ -55,9 +56,9 @@ module _ (img text table : List ℕ) (accepted : Accepted img) (short : length t
         inner =
             entered (touches 0 (length text) 0 z.length) (leb room 0) z.length
             (row_word (record { rule = start img; depth = 0; start = 0; length = z.length }))
-            (node_v room ws text table 4096 (root img (start img)) 0 0 (length text) (0 + 1)) 0
+            (node_v room g text table 4096 (root img (start img)) 0 0 (length text) (0 + 1)) 0
 
-        go : (b : Bool) → z.matched ≡ b → Fits room 0 z.matched z.length (row_words (rows_of u 0)) (start_v room img ws text table 0 (length text))
+        go : (b : Bool) → z.matched ≡ b → Fits room 0 z.matched z.length (row_words (rows_of u 0)) (start_v room img g text table 0 (length text))
         go true m =
             same_words (sym (all_shown (length text) (start_rows img text accepted u)))
             (same_match m
@@ -69,15 +70,15 @@ module _ (img text table : List ℕ) (accepted : Accepted img) (short : length t
             (same_match m
             (no_row (omega arith)
             (pair_says img text table accepted.lawful.counts.few_rules short true_words loaded u accepted.lawful.counts.start_rule (omega arith) held
-            (root img (start img)) room (node_v room ws text table 4096) 0 (length text) 0 0
+            (root img (start img)) room (node_v room g text table 4096) 0 (length text) 0 0
             ∙ ap (λ (b : Bool). met true b 0 inner) m))))
 
 -- Over the table that a reading of the text left.
 pub reading_lists :
-    (img text before : List ℕ) (accepted : Accepted img) (short : length text ≤ 65535) {ws : List ℕ} (loaded : Loaded img ws) (room : ℕ)
+    (img text before : List ℕ) (accepted : Accepted img) (short : length text ≤ 65535) {g : LoadedGrammar} (loaded : Loaded img g) (room : ℕ)
     {z : Evaluation} (u : Fresh img text (a_pair (start img)) 0 z) → z.nesting ≤ 4096
     → {count : ℕ} {o : Out} (reads : Reads img text before count z (bodies_of u) o)
-    → Fits room 0 z.matched z.length (row_words (rows_of u 0)) (start_v room img ws text reads.after 0 (length text))
+    → Fits room 0 z.matched z.length (row_words (rows_of u 0)) (start_v room img g text reads.after 0 (length text))
 reading_lists img text before accepted short loaded room u deep reads =
     start_lists img text reads.after accepted short reads.gains.true_words reads.gains.closed loaded room u held deep
   where

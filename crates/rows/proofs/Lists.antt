@@ -24,7 +24,8 @@ use Rattle.evaluation.proofs.Plain.{fresh_within}
 use Rattle.evaluation.proofs.Range.{InImage}
 use Rattle.packrat.specs.True.{TrueTable}
 use Rattle.packrat.specs.Closed.{ClosedTable}
-use Rattle.packrat.specs.Loaded.{Loaded, rules_in, word_b}
+use Rattle.loaded.specs.declared.form.LoadedGrammar.{LoadedGrammar}
+use Rattle.loaded.specs.Loaded.{Loaded, word_b}
 use Rattle.rows.specs.Rows.{Row, row_word, if_matched, rows_of}
 use Rattle.rows.specs.Window.{touches, word_if, shown}
 use Rattle.rows.specs.Fits.{Fits, too_many}
@@ -38,32 +39,32 @@ use Rattle.rows.proofs.Fits.{same_walk, same_words, same_length, no_row, in_turn
 
 module _ (img text table : List ℕ) (words : Question4 img) (narrow : rules img ≤ 64) (short : length text ≤ 65535)
     (true_words : TrueTable img text table)
-    (closed : ClosedTable img text table) {ws : List ℕ} (loaded : Loaded img ws) (room : ℕ)
+    (closed : ClosedTable img text table) {g : LoadedGrammar} (loaded : Loaded img g) (room : ℕ)
   where
     abbrev Lists : Subject → ℕ → Evaluation → (ℕ → List Row) → Type 0
     Lists (a_node m) p z rows =
         (ρ : ℕ) → ((r : ℕ) → m ≡ Call r → ρ ≡ root img r) → (left : ℕ) → z.nesting ≤ suc left → (lo hi k c : ℕ) → c ≤ room
         → Fits room c true z.length (shown lo hi (rows k))
-        (kind_v text (node_v room ws text table left) (pair_v (rules_in ws) ρ room text table (node_v room ws text table left)) m p lo hi k c)
+        (kind_v text (node_v room g text table left) (pair_v g.rules ρ room text table (node_v room g text table left)) m p lo hi k c)
     Lists (a_pair r) p z rows =
         (left : ℕ) → z.nesting ≤ left → (lo hi k c : ℕ) → c ≤ room
         → Fits room c true z.length (shown lo hi (rows k))
-        (pair_v (rules_in ws) (root img r) room text table (node_v room ws text table left) r p lo hi k c)
+        (pair_v g.rules (root img r) room text table (node_v room g text table left) r p lo hi k c)
     Lists (rounds_of a) p z rows =
         (fuel at before : ℕ) → at + before ≡ p → length text < fuel + p → (left : ℕ) → z.nesting ≤ left → (lo hi k c : ℕ) → c ≤ room
         → Fits room c true (before + z.length) (shown lo hi (rows k))
-        (rounds_v fuel (length text) (node_v room ws text table left) a at lo hi k before c)
+        (rounds_v fuel (length text) (node_v room g text table left) a at lo hi k before c)
 
     -- A node by its number.
     node_lists :
         (i p : ℕ) {x : Evaluation} (u : Fresh img text (a_node (node img i)) p x) → p ≤ length text
         → Lists (a_node (node img i)) p x (rows_of u)
         → (left : ℕ) → x.nesting ≤ left → (lo hi k c : ℕ) → c ≤ room
-        → Fits room c true x.length (shown lo hi (rows_of u k)) (node_v room ws text table left i p lo hi k c)
+        → Fits room c true x.length (shown lo hi (rows_of u k)) (node_v room g text table left i p lo hi k c)
     node_lists i p u h f zero most lo hi k c few = absurd (omega (arith, (fresh_within u h).nested))
     node_lists i p u h f (suc left) most lo hi k c few =
         same_walk (numbered img text table loaded room left i p lo hi k c)
-        (f (word_b (get_or ws i 0)) (loaded.words_are i).root_is left most lo hi k c few)
+        (f (word_b (get_or g.words i 0)) (loaded.words_are i).root_is left most lo hi k c few)
 
     -- The same in a position where the node could fail: it is looked at first.
     part-lists :
@@ -71,39 +72,39 @@ module _ (img text table : List ℕ) (words : Question4 img) (narrow : rules img
         → Held img text table (a_node (node img i)) p (calls_of u) → x.matched ≡ true
         → Lists (a_node (node img i)) p x (rows_of u)
         → (left : ℕ) → x.nesting ≤ left → (lo hi k c : ℕ) → c ≤ room
-        → Fits room c true x.length (shown lo hi (rows_of u k)) (part_v (length text) (node_v room ws text table left) i p lo hi k c)
+        → Fits room c true x.length (shown lo hi (rows_of u k)) (part_v (length text) (node_v room g text table left) i p lo hi k c)
     unfolding part_v after_look
     part-lists i p {x} u r h held m f left most lo hi k c few =
         same_walk
-        (step (λ m l c. after_look m (touches lo hi p l) l (node_v room ws text table left i p lo hi k) c)
+        (step (λ m l c. after_look m (touches lo hi p l) l (node_v room g text table left i p lo hi k) c)
         (by_number img text table words narrow short true_words loaded room i p u h
         (looks img text table words narrow short true_words loaded room u r h held) left most k c)
-        ∙ ap (λ (b : Bool). after_look b (touches lo hi p x.length) x.length (node_v room ws text table left i p lo hi k) c) m)
+        ∙ ap (λ (b : Bool). after_look b (touches lo hi p x.length) x.length (node_v room g text table left i p lo hi k) c) m)
         (go (touches lo hi p x.length) refl)
       where
         go :
             (b : Bool) → touches lo hi p x.length ≡ b
             → Fits room c true x.length (shown lo hi (rows_of u k))
-            (after_look true (touches lo hi p x.length) x.length (node_v room ws text table left i p lo hi k) c)
+            (after_look true (touches lo hi p x.length) x.length (node_v room g text table left i p lo hi k) c)
         go true e =
-            same_walk (ap (λ (b : Bool). after_look true b x.length (node_v room ws text table left i p lo hi k) c) e)
+            same_walk (ap (λ (b : Bool). after_look true b x.length (node_v room g text table left i p lo hi k) c) e)
             (node_lists i p u h f left most lo hi k c few)
         go false e =
             same_words (none_shown lo hi p x.length (inside img text words u r h k (k + x.nesting) (omega arith)) e)
-            (no_row few (ap (λ (b : Bool). after_look true b x.length (node_v room ws text table left i p lo hi k) c) e))
+            (no_row few (ap (λ (b : Bool). after_look true b x.length (node_v room g text table left i p lo hi k) c) e))
 
     -- One that fails gives no row.
     part-fails :
         (i p : ℕ) {x : Evaluation} (u : Fresh img text (a_node (node img i)) p x) → InImage img (a_node (node img i)) → p ≤ length text
         → Held img text table (a_node (node img i)) p (calls_of u) → x.matched ≡ false
         → (left : ℕ) → x.nesting ≤ left → (lo hi k c : ℕ)
-        → part_v (length text) (node_v room ws text table left) i p lo hi k c ≡ trail (walked false 0 c) []
+        → part_v (length text) (node_v room g text table left) i p lo hi k c ≡ trail (walked false 0 c) []
     unfolding part_v after_look
     part-fails i p {x} u r h held m left most lo hi k c =
-        step (λ m l c. after_look m (touches lo hi p l) l (node_v room ws text table left i p lo hi k) c)
+        step (λ m l c. after_look m (touches lo hi p l) l (node_v room g text table left i p lo hi k) c)
         (by_number img text table words narrow short true_words loaded room i p u h
         (looks img text table words narrow short true_words loaded room u r h held) left most k c)
-        ∙ ap (λ (b : Bool). after_look b (touches lo hi p x.length) x.length (node_v room ws text table left i p lo hi k) c) m
+        ∙ ap (λ (b : Bool). after_look b (touches lo hi p x.length) x.length (node_v room g text table left i p lo hi k) c) m
 
     -- A pair that matched: its row, then those of its body.
     pair-lists :
@@ -112,12 +113,12 @@ module _ (img text table : List ℕ) (words : Question4 img) (narrow : rules img
         → z.matched ≡ true
         → ((k : ℕ) → rows_of v k ≡ record { rule = r; depth = k; start = p; length = z.length } ∷ rows_of u (k + 1))
         → ((left : ℕ) → z.nesting ≤ left → (lo hi k c : ℕ) → c ≤ room
-        → Fits room c true z.length (shown lo hi (rows_of u k)) (node_v room ws text table left (root img r) p lo hi k c))
+        → Fits room c true z.length (shown lo hi (rows_of u k)) (node_v room g text table left (root img r) p lo hi k c))
         → Lists (a_pair r) p z (rows_of v)
     unfolding met entered shown
     pair-lists r p {z} v u l h held m rows f left most lo hi k c few =
         same_walk
-        (pair_says img text table narrow short true_words loaded v l h held (root img r) room (node_v room ws text table left) lo hi k c
+        (pair_says img text table narrow short true_words loaded v l h held (root img r) room (node_v room g text table left) lo hi k c
         ∙ ap (λ (b : Bool). met true b c (Entered (touches lo hi p z.length) (leb room c))) m)
         (go (touches lo hi p z.length) refl (leb room c) refl)
       where
@@ -126,7 +127,7 @@ module _ (img text table : List ℕ) (words : Question4 img) (narrow : rules img
 
         Entered : (touched full : Bool) → Trail
         Entered touched full =
-            entered touched full z.length (row_word row) (node_v room ws text table left (root img r) p lo hi (k + 1)) c
+            entered touched full z.length (row_word row) (node_v room g text table left (root img r) p lo hi (k + 1)) c
 
         words_are :
             (b : Bool) → touches lo hi p z.length ≡ b
@@ -154,12 +155,12 @@ module _ (img text table : List ℕ) (words : Question4 img) (narrow : rules img
         (a p : ℕ) {x : Evaluation} (u : Fresh img text (a_node (node img a)) p x) → InImage img (a_node (node img a)) → p ≤ length text
         → Held img text table (a_node (node img a)) p (calls_of u) → x.matched ≡ false
         → (fuel at before : ℕ) → at + before ≡ p → length text < fuel + p → (left : ℕ) → x.nesting ≤ left → (lo hi k c : ℕ)
-        → rounds_v fuel (length text) (node_v room ws text table left) a at lo hi k before c ≡ trail (walked true before c) []
+        → rounds_v fuel (length text) (node_v room g text table left) a at lo hi k before c ≡ trail (walked true before c) []
     unfolding rounds_v after_round
     last-lists a p u r h held m zero at before j enough left most lo hi k c = absurd (omega arith)
-    last-lists a p u r h held m (suc g) at before j enough left most lo hi k c =
-        let ev = node_v room ws text table left in
-        let more : ℕ → ℕ → Trail = λ l. rounds_v g (length text) ev a at lo hi k (before + l) in
+    last-lists a p u r h held m (suc fuel) at before j enough left most lo hi k c =
+        let ev = node_v room g text table left in
+        let more : ℕ → ℕ → Trail = λ l. rounds_v fuel (length text) ev a at lo hi k (before + l) in
         step (λ m l c. after_round m (eqb l 0) before (more l) c)
         (ap (λ (q : ℕ). part_v (length text) ev a q lo hi k c) j ∙ part-fails a p u r h held m left most lo hi k c)
 
@@ -172,19 +173,19 @@ module _ (img text table : List ℕ) (words : Question4 img) (narrow : rules img
         → (fuel at before : ℕ) → at + before ≡ p → length text < fuel + p → (left : ℕ) → x.nesting ≤ left → y.nesting ≤ left
         → (lo hi k c : ℕ) → c ≤ room
         → Fits room c true (before + x.length + y.length) (shown lo hi (rows_of u k ++ rows_of v k))
-        (rounds_v fuel (length text) (node_v room ws text table left) a at lo hi k before c)
+        (rounds_v fuel (length text) (node_v room g text table left) a at lo hi k before c)
     unfolding rounds_v after_round
     more-lists a p u v r h held m ne f rest zero at before j enough left most most' lo hi k c few = absurd (omega arith)
-    more-lists a p {x} u v r h held m ne f rest (suc g) at before j enough left most most' lo hi k c few =
-        let ev = node_v room ws text table left in
-        let more : ℕ → ℕ → Trail = λ l. rounds_v g (length text) ev a at lo hi k (before + l) in
+    more-lists a p {x} u v r h held m ne f rest (suc fuel) at before j enough left most most' lo hi k c few =
+        let ev = node_v room g text table left in
+        let more : ℕ → ℕ → Trail = λ l. rounds_v fuel (length text) ev a at lo hi k (before + l) in
         same_words (shown_both lo hi (rows_of u k) (rows_of v k))
         (in_turn
         (same_walk (ap (λ (q : ℕ). part_v (length text) ev a q lo hi k c) j) (part-lists a p u r h held m f left most lo hi k c few))
         (λ m l c. after_round m (eqb l 0) before (more l) c)
         (λ few'.
         same_walk (ap (λ (q : Bool). after_round true q before (more x.length) (c + length (shown lo hi (rows_of u k)))) (ne_eqb x.length 0 ne))
-        (rest g at (before + x.length) (omega arith) (omega (arith, ne)) left most' lo hi k (c + length (shown lo hi (rows_of u k))) few')))
+        (rest fuel at (before + x.length) (omega arith) (omega (arith, ne)) left most' lo hi k (c + length (shown lo hi (rows_of u k))) few')))
 
     pub lists :
         {s : Subject} {p : ℕ} {z : Evaluation} (u : Fresh img text s p z) → InImage img s → p ≤ length text
@@ -201,7 +202,7 @@ module _ (img text table : List ℕ) (words : Question4 img) (narrow : rules img
         let n = ap (λ (w : Evaluation). w.nesting) e in
         let i = fresh_within u h in
         let second : y.matched ≡ true = sym (ap (λ (w : Evaluation). w.matched) e) ∙ t in
-        let ev = node_v room ws text table left in
+        let ev = node_v room g text table left in
         same_length (ap (λ (w : Evaluation). w.length) e ∙ ap (λ (b : Bool). length_if b (x.length + y.length)) second)
         (same_words
         (ap (λ (b : Bool). shown lo hi (if_matched b (rows_of u k ++ rows_of v k))) second ∙ shown_both lo hi (rows_of u k) (rows_of v k))
@@ -220,13 +221,13 @@ module _ (img text table : List ℕ) (words : Question4 img) (narrow : rules img
         same_length (ap (λ (w : Evaluation). w.length) e)
         (at_end
         (part-lists a p u (refers img words a r.0) h held m (lists u (refers img words a r.0) h held m) left (omega arith) lo hi k c few)
-        (λ m l c. after_choice m l (node_v room ws text table left b p lo hi k) c)
+        (λ m l c. after_choice m l (node_v room g text table left b p lo hi k) c)
         (λ d. refl))
     lists {p = p} (ev_else_second {a} {b} u m v e) r h held t = λ ρ root_is left most lo hi k c few.
         let n = ap (λ (w : Evaluation). w.nesting) e in
         same_length (ap (λ (w : Evaluation). w.length) e)
         (same_walk
-        (step (λ m l c. after_choice m l (node_v room ws text table left b p lo hi k) c)
+        (step (λ m l c. after_choice m l (node_v room g text table left b p lo hi k) c)
         (part-fails a p u (refers img words a r.0) h (λ y j. held y (in_left (calls_of v) j)) m left (omega arith) lo hi k c))
         (node_lists b p v h
         (lists v (refers img words b r.1) h (λ y j. held y (in_right (calls_of u) j)) (sym (ap (λ (w : Evaluation). w.matched) e) ∙ t))
@@ -261,7 +262,7 @@ module _ (img text table : List ℕ) (words : Question4 img) (narrow : rules img
     lists {p = p} (ev_call {r} {x = x} u e) l h held t = λ ρ root_is left most lo hi k c few.
         let n = ap (λ (w : Evaluation). w.nesting) e in
         same_length (ap (λ (w : Evaluation). w.length) e)
-        (same_walk (ap (λ (i : ℕ). pair_v (rules_in ws) i room text table (node_v room ws text table left) r p lo hi k c) (root_is r refl))
+        (same_walk (ap (λ (i : ℕ). pair_v g.rules i room text table (node_v room g text table left) r p lo hi k c) (root_is r refl))
         (lists u l h (held (record { rule = r; position = p }) here) (sym (ap (λ (w : Evaluation). w.matched) e) ∙ t) left (omega arith)
         lo hi k c few))
     lists {p = p} {z = z} (ev_body {r} q u) l h held t =

@@ -22,7 +22,8 @@ use Rattle.evaluation.proofs.Pairs.{in_left, in_right}
 use Rattle.evaluation.proofs.Plain.{fresh_within}
 use Rattle.evaluation.proofs.Range.{InImage}
 use Rattle.packrat.specs.True.{TrueTable}
-use Rattle.packrat.specs.Loaded.{Loaded, rules_in, word_b}
+use Rattle.loaded.specs.declared.form.LoadedGrammar.{LoadedGrammar}
+use Rattle.loaded.specs.Loaded.{Loaded, word_b}
 use Rattle.rows.specs.Window.{touches}
 use Rattle.rows.specs.Walk.{walked, Trail, trail, Walker, bind, after, after_look, part_v, joined, after_first, after_choice}
 use Rattle.rows.specs.Walk.{after_round, rounds_v, met, entered, pair_v, kind_v, node_v}
@@ -72,40 +73,40 @@ rounds_match (ev_round u m v e) = ap (λ (w : Evaluation). w.matched) e
 
 module _ (img text table : List ℕ) (words : Question4 img) (narrow : rules img ≤ 64) (short : length text ≤ 65535)
     (true_words : TrueTable img text table)
-    {ws : List ℕ} (loaded : Loaded img ws) (room : ℕ)
+    {g : LoadedGrammar} (loaded : Loaded img g) (room : ℕ)
   where
     abbrev pub Looks : Subject → ℕ → Evaluation → Type 0
     Looks (a_node m) p z =
         (ρ left : ℕ) → z.nesting ≤ suc left → (k c : ℕ)
-        → kind_v text (node_v room ws text table left) (pair_v (rules_in ws) ρ room text table (node_v room ws text table left)) m p
+        → kind_v text (node_v room g text table left) (pair_v g.rules ρ room text table (node_v room g text table left)) m p
         (length text + 1) 0 k c
         ≡ told z c
     Looks (a_pair r) p z =
-        (ρ : ℕ) (ev : Walker) (k c : ℕ) → pair_v (rules_in ws) ρ room text table ev r p (length text + 1) 0 k c ≡ told z c
+        (ρ : ℕ) (ev : Walker) (k c : ℕ) → pair_v g.rules ρ room text table ev r p (length text + 1) 0 k c ≡ told z c
     Looks (rounds_of a) p z =
         (fuel at before : ℕ) → at + before ≡ p → length text < fuel + p → (left : ℕ) → z.nesting ≤ left → (k c : ℕ)
-        → rounds_v fuel (length text) (node_v room ws text table left) a at (length text + 1) 0 k before c
+        → rounds_v fuel (length text) (node_v room g text table left) a at (length text + 1) 0 k before c
         ≡ trail (walked true (before + z.length) c) []
 
     -- A node by its number.
     pub by_number :
         (i p : ℕ) {x : Evaluation} (u : Fresh img text (a_node (node img i)) p x) → p ≤ length text → Looks (a_node (node img i)) p x
         → (left : ℕ) → x.nesting ≤ left → (k c : ℕ)
-        → node_v room ws text table left i p (length text + 1) 0 k c ≡ told x c
+        → node_v room g text table left i p (length text + 1) 0 k c ≡ told x c
     by_number i p u h f zero most k c = absurd (omega (arith, (fresh_within u h).nested))
     by_number i p u h f (suc left) most k c =
-        numbered img text table loaded room left i p (length text + 1) 0 k c ∙ f (word_b (get_or ws i 0)) left most k c
+        numbered img text table loaded room left i p (length text + 1) 0 k c ∙ f (word_b (get_or g.words i 0)) left most k c
 
     -- The same in a position where the node may fail.
     pub part_look :
         (i p : ℕ) {x : Evaluation} (u : Fresh img text (a_node (node img i)) p x) → p ≤ length text → Looks (a_node (node img i)) p x
         → (left : ℕ) → x.nesting ≤ left → (k c : ℕ)
-        → part_v (length text) (node_v room ws text table left) i p (length text + 1) 0 k c ≡ told x c
+        → part_v (length text) (node_v room g text table left) i p (length text + 1) 0 k c ≡ told x c
     unfolding part_v
     part_look i p {x} u h f left most k c =
         let w = fresh_within u h in
         step
-        (λ m l c. after_look m (touches (length text + 1) 0 p l) l (node_v room ws text table left i p (length text + 1) 0 k) c)
+        (λ m l c. after_look m (touches (length text + 1) 0 p l) l (node_v room g text table left i p (length text + 1) 0 k) c)
         (by_number i p u h f left most k c)
         ∙ look_missed x.matched (touches (length text + 1) 0 p x.length) x.length c _
         (touches_nothing (length text) p x.length w.in_text) w.failure
@@ -115,12 +116,12 @@ module _ (img text table : List ℕ) (words : Question4 img) (narrow : rules img
         (a p : ℕ) {x : Evaluation} (u : Fresh img text (a_node (node img a)) p x) → x.matched ≡ false → p ≤ length text
         → Looks (a_node (node img a)) p x
         → (fuel at before : ℕ) → at + before ≡ p → length text < fuel + p → (left : ℕ) → x.nesting ≤ left → (k c : ℕ)
-        → rounds_v fuel (length text) (node_v room ws text table left) a at (length text + 1) 0 k before c ≡ trail (walked true before c) []
+        → rounds_v fuel (length text) (node_v room g text table left) a at (length text + 1) 0 k before c ≡ trail (walked true before c) []
     unfolding rounds_v after_round
     last-look a p u m h f zero at before j enough left most k c = absurd (omega arith)
-    last-look a p {x} u m h f (suc g) at before j enough left most k c =
-        let ev = node_v room ws text table left in
-        let more : ℕ → ℕ → Trail = λ l. rounds_v g (length text) ev a at (length text + 1) 0 k (before + l) in
+    last-look a p {x} u m h f (suc fuel) at before j enough left most k c =
+        let ev = node_v room g text table left in
+        let more : ℕ → ℕ → Trail = λ l. rounds_v fuel (length text) ev a at (length text + 1) 0 k (before + l) in
         step (λ m l c. after_round m (eqb l 0) before (more l) c)
         (ap (λ (q : ℕ). part_v (length text) ev a q (length text + 1) 0 k c) j ∙ part_look a p u h f left most k c)
         ∙ ap (λ (q : Bool). after_round q (eqb x.length 0) before (more x.length) c) m
@@ -133,18 +134,18 @@ module _ (img text table : List ℕ) (words : Question4 img) (narrow : rules img
         → Looks (rounds_of a) (p + x.length) y
         → (fuel at before : ℕ) → at + before ≡ p → length text < fuel + p → (left : ℕ) → x.nesting ≤ left → y.nesting ≤ left
         → (k c : ℕ)
-        → rounds_v fuel (length text) (node_v room ws text table left) a at (length text + 1) 0 k before c
+        → rounds_v fuel (length text) (node_v room g text table left) a at (length text + 1) 0 k before c
         ≡ trail (walked true (before + x.length + y.length) c) []
     unfolding rounds_v after_round
     more-look a p u m h ne f v rest zero at before j enough left most most' k c = absurd (omega arith)
-    more-look a p {x} u m h ne f v rest (suc g) at before j enough left most most' k c =
-        let ev = node_v room ws text table left in
-        let more : ℕ → ℕ → Trail = λ l. rounds_v g (length text) ev a at (length text + 1) 0 k (before + l) in
+    more-look a p {x} u m h ne f v rest (suc fuel) at before j enough left most most' k c =
+        let ev = node_v room g text table left in
+        let more : ℕ → ℕ → Trail = λ l. rounds_v fuel (length text) ev a at (length text + 1) 0 k (before + l) in
         step (λ m l c. after_round m (eqb l 0) before (more l) c)
         (ap (λ (q : ℕ). part_v (length text) ev a q (length text + 1) 0 k c) j ∙ part_look a p u h f left most k c)
         ∙ ap (λ (q : Bool). after_round q (eqb x.length 0) before (more x.length) c) m
         ∙ ap (λ (q : Bool). after_round true q before (more x.length) c) (ne_eqb x.length 0 ne)
-        ∙ rest g at (before + x.length) (omega arith) (omega (arith, ne)) left most' k c
+        ∙ rest fuel at (before + x.length) (omega arith) (omega (arith, ne)) left most' k c
 
     pub looks :
         {s : Subject} {p : ℕ} {z : Evaluation} (u : Fresh img text s p z) → InImage img s → p ≤ length text
@@ -154,16 +155,16 @@ module _ (img text table : List ℕ) (words : Question4 img) (narrow : rules img
     looks (ev_terminal e) r h held = λ ρ left most k c. tells c e
     looks {p = p} (ev_then_first_fails {a} {b} {x = x} u m e) r h held = λ ρ left most k c.
         let n = ap (λ (w : Evaluation). w.nesting) e in
-        step (λ m l c. after_first m l (node_v room ws text table left b (p + l) (length text + 1) 0 k) c)
+        step (λ m l c. after_first m l (node_v room g text table left b (p + l) (length text + 1) 0 k) c)
         (by_number a p u h (looks u (refers img words a r.0) h held) left (omega arith) k c)
-        ∙ ap (λ (q : Bool). after_first q x.length (node_v room ws text table left b (p + x.length) (length text + 1) 0 k) c) m
+        ∙ ap (λ (q : Bool). after_first q x.length (node_v room g text table left b (p + x.length) (length text + 1) 0 k) c) m
         ∙ tells c e
     looks {p = p} (ev_then {a} {b} {x = x} {y = y} u m v e) r h held = λ ρ left most k c.
         let n = ap (λ (w : Evaluation). w.nesting) e in
         let i = fresh_within u h in
-        step (λ m l c. after_first m l (node_v room ws text table left b (p + l) (length text + 1) 0 k) c)
+        step (λ m l c. after_first m l (node_v room g text table left b (p + l) (length text + 1) 0 k) c)
         (by_number a p u h (looks u (refers img words a r.0) h (λ y j. held y (in_left (calls_of v) j))) left (omega arith) k c)
-        ∙ ap (λ (q : Bool). after_first q x.length (node_v room ws text table left b (p + x.length) (length text + 1) 0 k) c) m
+        ∙ ap (λ (q : Bool). after_first q x.length (node_v room g text table left b (p + x.length) (length text + 1) 0 k) c) m
         ∙ step (λ m l c. joined m x.length l c)
         (by_number b (p + x.length) v i.in_text
         (looks v (refers img words b r.1) i.in_text (λ y j. held y (in_right (calls_of u) j))) left (omega arith) k c)
@@ -171,16 +172,16 @@ module _ (img text table : List ℕ) (words : Question4 img) (narrow : rules img
         ∙ tells c e
     looks {p = p} (ev_else_first {a} {b} {x = x} u m e) r h held = λ ρ left most k c.
         let n = ap (λ (w : Evaluation). w.nesting) e in
-        step (λ m l c. after_choice m l (node_v room ws text table left b p (length text + 1) 0 k) c)
+        step (λ m l c. after_choice m l (node_v room g text table left b p (length text + 1) 0 k) c)
         (part_look a p u h (looks u (refers img words a r.0) h held) left (omega arith) k c)
-        ∙ ap (λ (q : Bool). after_choice q x.length (node_v room ws text table left b p (length text + 1) 0 k) c) m
+        ∙ ap (λ (q : Bool). after_choice q x.length (node_v room g text table left b p (length text + 1) 0 k) c) m
         ∙ ap (λ (q : Bool). trail (walked q x.length c) []) (sym m)
         ∙ tells c e
     looks {p = p} (ev_else_second {a} {b} {x = x} {y = y} u m v e) r h held = λ ρ left most k c.
         let n = ap (λ (w : Evaluation). w.nesting) e in
-        step (λ m l c. after_choice m l (node_v room ws text table left b p (length text + 1) 0 k) c)
+        step (λ m l c. after_choice m l (node_v room g text table left b p (length text + 1) 0 k) c)
         (part_look a p u h (looks u (refers img words a r.0) h (λ y j. held y (in_left (calls_of v) j))) left (omega arith) k c)
-        ∙ ap (λ (q : Bool). after_choice q x.length (node_v room ws text table left b p (length text + 1) 0 k) c) m
+        ∙ ap (λ (q : Bool). after_choice q x.length (node_v room g text table left b p (length text + 1) 0 k) c) m
         ∙ by_number b p v h (looks v (refers img words b r.1) h (λ y j. held y (in_right (calls_of u) j)))
         left (omega arith) k c
         ∙ tells c e
@@ -209,7 +210,7 @@ module _ (img text table : List ℕ) (words : Question4 img) (narrow : rules img
         (by_number a p u h (looks u (refers img words a r) h held) left (omega arith) k c)
         ∙ tells c e
     looks {p = p} (ev_call {r} u e) l h held = λ ρ left most k c.
-        looks u l h (held (record { rule = r; position = p }) here) ρ (node_v room ws text table left) k c ∙ tells c e
+        looks u l h (held (record { rule = r; position = p }) here) ρ (node_v room g text table left) k c ∙ tells c e
     looks {p = p} {z = z} (ev_body {r} q u) l h held = λ ρ ev k c.
         let w = fresh_within u h in
         pair_says img text table narrow short true_words loaded (ev_body q u) l h held ρ room ev (length text + 1) 0 k c

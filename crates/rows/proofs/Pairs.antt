@@ -22,7 +22,8 @@ use Rattle.records.proofs.Codec.{matched_back, length_back}
 use Rattle.records.proofs.Test.{passes_test}
 use Rattle.packrat.specs.Over.{word_at}
 use Rattle.packrat.specs.True.{TrueTable}
-use Rattle.packrat.specs.Loaded.{Loaded, rules_in, word_b}
+use Rattle.loaded.specs.declared.form.LoadedGrammar.{LoadedGrammar}
+use Rattle.loaded.specs.Loaded.{Loaded, word_b}
 use Rattle.packrat.proofs.OverTables.{word-possible}
 use Rattle.rows.specs.Rows.{row_word}
 use Rattle.rows.specs.Window.{touches}
@@ -56,17 +57,17 @@ module _ (img text table : List ℕ) (few : rules img ≤ 64) (short : length te
       }
 
   pub pair_says :
-      {ws : List ℕ} → Loaded img ws
+      {g : LoadedGrammar} → Loaded img g
       → {r p : ℕ} {z : Evaluation} → Fresh img text (a_pair r) p z → r < rules img → p ≤ length text
       → is_held (word_at img table r p) ≡ true
       → (ρ room : ℕ) (ev : Walker) (lo hi k c : ℕ)
-      → pair_v (rules_in ws) ρ room text table ev r p lo hi k c
+      → pair_v g.rules ρ room text table ev r p lo hi k c
       ≡ met true z.matched c
       (entered (touches lo hi p z.length) (leb room c) z.length
       (row_word (record { rule = r; depth = k; start = p; length = z.length }))
       (ev ρ p lo hi (k + 1)) c)
   unfolding pair_v
-  pair_says {ws} loaded {r} {p} {z} u l h e ρ room ev lo hi k c =
+  pair_says {g} loaded {r} {p} {z} u l h e ρ room ev lo hi k c =
       let s = word_says u l h e in
       let narrow : r % 256 ≡ r = omega (arith, few) in
       ap (λ (R : ℕ). pair_v R ρ room text table ev r p lo hi k c) loaded.rules_are
@@ -78,13 +79,13 @@ module _ (img text table : List ℕ) (few : rules img ≤ 64) (short : length te
 
 -- The node with a number is the image's.
 pub numbered :
-    (img text table : List ℕ) {ws : List ℕ} → Loaded img ws → (room left i at lo hi k c : ℕ)
-    → node_v room ws text table (suc left) i at lo hi k c
-    ≡ kind_v text (node_v room ws text table left)
-    (pair_v (rules_in ws) (word_b (get_or ws i 0)) room text table (node_v room ws text table left)) (node img i) at lo hi k c
+    (img text table : List ℕ) {g : LoadedGrammar} → Loaded img g → (room left i at lo hi k c : ℕ)
+    → node_v room g text table (suc left) i at lo hi k c
+    ≡ kind_v text (node_v room g text table left)
+    (pair_v g.rules (word_b (get_or g.words i 0)) room text table (node_v room g text table left)) (node img i) at lo hi k c
 unfolding node_v
-numbered img text table {ws} loaded room left i at lo hi k c =
+numbered img text table {g} loaded room left i at lo hi k c =
     ap (λ (m : Node).
-    kind_v text (node_v room ws text table left)
-    (pair_v (rules_in ws) (word_b (get_or ws i 0)) room text table (node_v room ws text table left)) m at lo hi k c)
+    kind_v text (node_v room g text table left)
+    (pair_v g.rules (word_b (get_or g.words i 0)) room text table (node_v room g text table left)) m at lo hi k c)
     (loaded.words_are i).node_is

@@ -11,7 +11,8 @@ use Rattle.grammar.specs.Image.{start, root}
 use Rattle.grammar.specs.Terminal.{terminal_at}
 use Rattle.records.specs.Slots.{slot_of}
 use Rattle.records.specs.Words.{is_held, possible, matched_of, length_of}
-use Rattle.packrat.specs.Loaded.{word_b, word_node, rules_in}
+use Rattle.loaded.specs.declared.form.LoadedGrammar.{LoadedGrammar}
+use Rattle.loaded.specs.Loaded.{word_b, word_node}
 use Rattle.rows.specs.Rows.{row_word}
 use Rattle.rows.specs.Window.{touches}
 
@@ -109,20 +110,20 @@ kind_v text nodes called (Call r) at lo hi k c = called r at lo hi k c
 kind_v text nodes called Unlawful at lo hi k c = trail (stopped Records) []
 
 -- A node, with an allowance of nesting.
-unfoldable pub node_v : (room : ℕ) → (ws text table : List ℕ) → (left : ℕ) → Walker
-node_v room ws text table zero i at lo hi k c = trail (stopped Nesting) []
-node_v room ws text table (suc left) i at lo hi k c =
-    kind_v text (node_v room ws text table left)
-    (pair_v (rules_in ws) (word_b (get_or ws i 0)) room text table (node_v room ws text table left))
-    (word_node (get_or ws i 0)) at lo hi k c
+unfoldable pub node_v : (room : ℕ) → (g : LoadedGrammar) (text table : List ℕ) → (left : ℕ) → Walker
+node_v room g text table zero i at lo hi k c = trail (stopped Nesting) []
+node_v room g text table (suc left) i at lo hi k c =
+    kind_v text (node_v room g text table left)
+    (pair_v g.rules (word_b (get_or g.words i 0)) room text table (node_v room g text table left))
+    (word_node (get_or g.words i 0)) at lo hi k c
 
 -- A pair whose rule has that root, and a node by what it is: what is walked inside has the allowance `left`.
-abbrev pub rule_v : (room : ℕ) → (ws text table : List ℕ) → (left root : ℕ) → Walker
-rule_v room ws text table left root = pair_v (rules_in ws) root room text table (node_v room ws text table left)
+abbrev pub rule_v : (room : ℕ) → (g : LoadedGrammar) (text table : List ℕ) → (left root : ℕ) → Walker
+rule_v room g text table left root = pair_v g.rules root room text table (node_v room g text table left)
 
-abbrev pub inside_v : (room : ℕ) → (ws text table : List ℕ) → (left root : ℕ) → Node → (at lo hi around count : ℕ) → Trail
-inside_v room ws text table left root = kind_v text (node_v room ws text table left) (rule_v room ws text table left root)
+abbrev pub inside_v : (room : ℕ) → (g : LoadedGrammar) (text table : List ℕ) → (left root : ℕ) → Node → (at lo hi around count : ℕ) → Trail
+inside_v room g text table left root = kind_v text (node_v room g text table left) (rule_v room g text table left root)
 
 -- The start pair, with the whole allowance.
-unfoldable pub start_v : (room : ℕ) → (img ws text table : List ℕ) → (lo hi : ℕ) → Trail
-start_v room img ws text table lo hi = rule_v room ws text table 4096 (root img (start img)) (start img) 0 lo hi 0 0
+unfoldable pub start_v : (room : ℕ) → (img : List ℕ) (g : LoadedGrammar) (text table : List ℕ) → (lo hi : ℕ) → Trail
+start_v room img g text table lo hi = rule_v room g text table 4096 (root img (start img)) (start img) 0 lo hi 0 0

@@ -3,6 +3,7 @@ ghost use Rattle.promises.specs.Promises.{LookUpPromise};
 
 use crate::questions;
 use grammar::Refusal;
+use memo::Pair;
 use promises::LookUpAnswer;
 
 // Refused with 1 to 8 or 11.
@@ -20,5 +21,10 @@ pub fn look_up(
     if rules <= rule || n < position {
         return Err(Refusal::Pair);
     }
-    Ok(memo::look(table, rules, rule, position))
+    let pair = Pair {
+        rules,
+        rule,
+        position,
+    };
+    Ok(pair.look(table))
 }

@@ -1,8 +1,6 @@
-use native.Mathlib.Omega.{arith}
 use Rattle.loaded.proofs.LoadedWords.{loaded}
 use Rattle.loaded.proofs.load.Goals as goal
 
 pub returns : goal.returns
 returns c =
-    let lawful = c.requires in
-    loaded c.args.image.now c.link_words.new.words _ lawful.counts lawful.size (omega arith) c.header_of.ensures.its_rules c.link_words.ensures
+    loaded c.args.image.now _ c.requires.size c.header_of-header.ensures.its_rules c.link_words.ensures

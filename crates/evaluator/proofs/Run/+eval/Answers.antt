@@ -3,7 +3,7 @@ use Rattle.packrat.proofs.Rules.{rule_impossible, rule_too_deep, rule_met, rule_
 use Rattle.evaluator.proofs.Terminals.{terminal_goes, first_any, first_range}
 use Rattle.grammar.proofs.Refusals.{left_with}
 use Rattle.packrat.proofs.Rules.{was_possible, was_impossible}
-use Rattle.evaluator.proofs.Steps.{answered, before, kept_on, ready_after, inside, looked_up}
+use Rattle.evaluator.proofs.Steps.{answered, before, kept_on, ready_after, inside}
 use Rattle.packrat.proofs.LoadedRuns.{word_is}
 use Rattle.packrat.proofs.Stars.{rounds_start, round_refused, round_still, round_fails, round_goes, round_bounds}
 use Rattle.packrat.proofs.Runs.{not_refused, not_answered, call_refused, call_answered, length_within}
@@ -69,14 +69,14 @@ eval_node-returns-then-left-eq0-clause-gives t c =
 
 pub eval_node-returns-then-first-eq-PLAIN_RANGE-clause-gives : goal.eval_node-returns-then-first-eq-PLAIN_RANGE-clause-gives
 eval_node-returns-then-first-eq-PLAIN_RANGE-clause-gives t c =
-    let word = get_or c.args.self.now.words.now c.args.node 0 in
+    let word = get_or c.args.self.now.grammar.now.words c.args.node 0 in
     let ne = c.if-left-eq0.false in
     node_goes _ _ _ _ _ _ _ ne
     (terminal_goes _ _ _ _ _ _ _ c.requires.0 (omega (arith, ne)) (first_range word c.node_of-fields.ensures (sym c.first_byte-first.ensures ∙ c.if-first-eq-PLAIN_RANGE.true)) c.byte_between.ensures)
 
 pub eval_node-returns-then-is_ascii-clause-gives : goal.eval_node-returns-then-is_ascii-clause-gives
 eval_node-returns-then-is_ascii-clause-gives t c =
-    let word = get_or c.args.self.now.words.now c.args.node 0 in
+    let word = get_or c.args.self.now.grammar.now.words c.args.node 0 in
     let ne = c.if-left-eq0.false in
     node_goes _ _ _ _ _ _ _ ne
     (terminal_goes _ _ _ _ _ _ _ c.requires.0 (omega (arith, ne)) (first_any word (sym c.first_byte-first.ensures ∙ c.if-first-eq-ANY.true)) (ascii_word _ _ (sym c.is_ascii.ensures ∙ c.if-is_ascii.true)))
@@ -144,32 +144,32 @@ eval_sequence-returns-clause-gives t c =
 
 pub eval_rule-returns-in_default-clause-gives : goal.eval_rule-returns-in_default-clause-gives
 eval_rule-returns-in_default-clause-gives t c =
-    rule_impossible _ _ _ _ _ _ _ _ _ (looked_up c.args.self.now _ _ c.rules_in-rules.ensures.0 c.look-word.ensures) (sym c.is_held.ensures ∙ c.if-is_held.true)
+    rule_impossible _ _ _ _ _ _ _ _ _ c.look-word.ensures (sym c.is_held.ensures ∙ c.if-is_held.true)
     (was_impossible _ _ (sym c.in_default.is ∙ c.from_word.ensures))
 
 pub eval_rule-returns-then-left-held-clause-gives : goal.eval_rule-returns-then-left-held-clause-gives
 eval_rule-returns-then-left-held-clause-gives t c =
     let m = was_possible _ _ _ (sym c.in-Some.is ∙ c.from_word.ensures) in
     let e = ap (λ (r : Record). r.nesting) m.1 in
-    rule_too_deep _ _ _ _ _ _ _ _ _ (looked_up c.args.self.now _ _ c.rules_in-rules.ensures.0 c.look-word.ensures) (sym c.is_held.ensures ∙ c.if-is_held.true) m.0 (omega (arith, e, c.if-left-held.true))
+    rule_too_deep _ _ _ _ _ _ _ _ _ c.look-word.ensures (sym c.is_held.ensures ∙ c.if-is_held.true) m.0 (omega (arith, e, c.if-left-held.true))
 
 pub eval_rule-returns-then-is_held-clause-gives : goal.eval_rule-returns-then-is_held-clause-gives
 eval_rule-returns-then-is_held-clause-gives t c =
     let m = was_possible _ _ _ (sym c.in-Some.is ∙ c.from_word.ensures) in
     let e = ap (λ (r : Record). r.nesting) m.1 in
-    rule_met _ _ _ _ _ _ _ _ _ (looked_up c.args.self.now _ _ c.rules_in-rules.ensures.0 c.look-word.ensures) (sym c.is_held.ensures ∙ c.if-is_held.true) m.0 (omega (arith, e, c.if-left-held.false)) (c.word.ensures ∙ ap record_word m.1)
+    rule_met _ _ _ _ _ _ _ _ _ c.look-word.ensures (sym c.is_held.ensures ∙ c.if-is_held.true) m.0 (omega (arith, e, c.if-left-held.false)) (c.word.ensures ∙ ap record_word m.1)
 
 pub eval_rule-returns-in_err-value-clause-gives : goal.eval_rule-returns-in_err-value-clause-gives
 eval_rule-returns-in_err-value-clause-gives t c =
     let pre = c.requires.0 in
     rw (left_with c.from_residual.ensures)
-    (rule_refused _ _ _ _ _ _ _ _ _ (looked_up c.args.self.now _ _ c.rules_in-rules.ensures.0 c.look-word.ensures) pre.short pre.most (sym c.is_held.ensures ∙ c.if-is_held.false) c.in_err-value.ensures.gives)
+    (rule_refused _ _ _ _ _ _ _ _ _ c.look-word.ensures pre.short pre.most (sym c.is_held.ensures ∙ c.if-is_held.false) c.in_err-value.ensures.gives)
 
 pub eval_rule-returns-clause-gives : goal.eval_rule-returns-clause-gives
 eval_rule-returns-clause-gives t c =
     let pre = c.requires.0 in
-    rw (c.put.ensures, c.rules_in-rules.ensures.0)
-    (rule_stored _ _ _ _ _ _ _ _ _ (looked_up c.args.self.now _ _ c.rules_in-rules.ensures.0 c.look-word.ensures) pre.short pre.most (sym c.is_held.ensures ∙ c.if-is_held.false) c.in_ok-value.ensures.gives)
+    rw c.put.ensures
+    (rule_stored _ _ _ _ _ _ _ _ _ c.look-word.ensures pre.short pre.most (sym c.is_held.ensures ∙ c.if-is_held.false) c.in_ok-value.ensures.gives)
 
 pub eval_star-loop-x-init : goal.eval_star-loop-x-init
 eval_star-loop-x-init t c =

@@ -8,10 +8,10 @@ pub returns-in_err-list : goal.returns-in_err-list
 returns-in_err-list c =
     let a = c.args in
     rw (left_with c.from_residual.ensures)
-    (refused (pass_bounded (length a.rows.now) a.words.now a.text.now a.table.now a.root a.start) c.list.ensures.passed c.in_err-list.was)
+    (refused (pass_bounded (length a.rows.now) a.grammar.now a.text.now a.table.now a.root a.start) c.list.ensures.passed c.in_err-list.was)
 
 pub returns : goal.returns
 returns c =
     let a = c.args in
-    listed (pass_bounded (length a.rows.now) a.words.now a.text.now a.table.now a.root a.start) c.list.ensures.passed c.in_ok-list.was
+    listed (pass_bounded (length a.rows.now) a.grammar.now a.text.now a.table.now a.root a.start) c.list.ensures.passed c.in_ok-list.was
     c.list-2.ensures.passed (search rules)

@@ -181,7 +181,7 @@ walk_sequence-returns-clause-gives t c =
 
 pub walk_star-loop-x-init : goal.walk_star-loop-x-init
 walk_star-loop-x-init t c =
-    (record { slots_are = refl; words_are = refl; rules_are = refl; text_is = refl; table_is = refl; room_is = refl }, star_start c.requires.0)
+    (record { slots_are = refl; grammar_is = refl; text_is = refl; table_is = refl; room_is = refl }, star_start c.requires.0)
 
 pub walk_star-returns-in_err-x-clause-gives : goal.walk_star-returns-in_err-x-clause-gives
 walk_star-returns-in_err-x-clause-gives t c =

@@ -11,4 +11,4 @@ returns-clause-body c =
     let e : c.rule_at-body.result.root ≡ root pair.image.now (start pair.image.now) =
     c.rule_at-body.ensures.its_root ∙ ap (root pair.image.now) c.header_of-header.ensures.its_start in
     subst (λ (table : List ℕ). BodyOver pair.image.now pair.text.now pair.table.now pair.count answer.result table answer.new.self.count) (search rules)
-    (body_given pair.image.now pair.text.now c.load-words.ensures pair.table.now pair.count (rw e at answer.ensures.gives))
+    (body_given pair.image.now pair.text.now c.load-grammar.ensures pair.table.now pair.count (rw e at answer.ensures.gives))

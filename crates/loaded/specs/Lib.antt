@@ -1,0 +1,2 @@
+-- What a loaded grammar is.
+pub mod Loaded
