@@ -1,13 +1,12 @@
 -- What a step of a run gives to the next: an answered word's bounds, the run after a step, the children of a node.
 -- Assumes nothing.
 use Rattle.std.specs.Prelude.{Ok, Result}
-use Rattle.std.proofs.Common.{◌≡◌, ℕ, zero, suc, ◌+◌, ◌-◌, ◌≤◌, ◌<◌, List, length, refl, sym, ◌∙◌, subst, arith}
+use Rattle.std.proofs.Common.{◌≡◌, ℕ, ◌+◌, ◌-◌, ◌≤◌, ◌<◌, List, length, sym, ◌∙◌, arith}
 use Rattle.grammar.specs.declared.refusal.Refusal.{Refusal}
 use Rattle.grammar.specs.declared.node.NodeFields.{NodeFields}
 use Rattle.grammar.specs.declared.node.Node.{Node}
-use Rattle.grammar.specs.declared.node.Node.TheVariants.{Empty, Text, Sequence, Choice, Star, NotPredicate, Call, Unlawful}
 use Rattle.grammar.specs.Image.{fields_of, node_of}
-use Rattle.grammar.proofs.Nodes.{is_empty, is_any, is_range, is_sequence, is_choice, is_star, is_not, is_call, is_unlawful}
+use Rattle.grammar.proofs.Nodes.{Few, few}
 use Rattle.image.specs.Fields.{SameFields}
 use Rattle.records.specs.Words.{word_of, value_of, nesting_of}
 use Rattle.packrat.specs.Model.{Out}
@@ -45,31 +44,6 @@ pub ready_after :
 ready_after p q kept ready here =
     let most = ready.most in
     record { short = rw kept.2 ready.short; here = rw kept.2 here; most = omega arith }
-
--- The numbers in a node are below 4096 where its fields are.
-abbrev pub Few : Node → Type 0
-Few Empty = Unit {0}
-Few (Text t) = Unit {0}
-Few (Sequence a b) = (a < 4096) × (b < 4096)
-Few (Choice a b) = (a < 4096) × (b < 4096)
-Few (Star a) = a < 4096
-Few (NotPredicate a) = a < 4096
-Few (Call r) = r < 4096
-Few Unlawful = Unit {0}
-
-pub few : (f : NodeFields) {m : Node} → f.a < 4096 → f.b < 4096 → node_of f ≡ m → Few m
-few f {m} a b e = subst Few e (go f.kind refl)
-  where
-    go : (k : ℕ) → f.kind ≡ k → Few (node_of f)
-    go zero k = subst Few (sym (is_empty f k)) tt
-    go (suc zero) k = subst Few (sym (is_any f k)) tt
-    go (suc (suc zero)) k = subst Few (sym (is_range f k)) tt
-    go (suc (suc (suc zero))) k = subst Few (sym (is_sequence f k)) (a, b)
-    go (suc (suc (suc (suc zero)))) k = subst Few (sym (is_choice f k)) (a, b)
-    go (suc (suc (suc (suc (suc zero))))) k = subst Few (sym (is_star f k)) a
-    go (suc (suc (suc (suc (suc (suc zero)))))) k = subst Few (sym (is_not f k)) a
-    go (suc (suc (suc (suc (suc (suc (suc zero))))))) k = subst Few (sym (is_call f k)) a
-    go (suc (suc (suc (suc (suc (suc (suc (suc j)))))))) k = subst Few (sym (is_unlawful f (omega arith))) tt
 
 -- What a word's node has inside is evaluated with an allowance that is one less.
 pub inside :

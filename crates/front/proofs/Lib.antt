@@ -2,3 +2,4 @@
 pub mod ScanLaw
 pub mod Pieces
 pub mod Rows
+pub mod FromRow

@@ -1,8 +1,8 @@
 -- Which node a word stands for, by the kind among its fields, and in kind 2 by the fold bit. Assumes nothing.
-use Prim.Native.Nat.{ℕ, zero, suc, ◌≤◌, min}
+use Prim.Native.Nat.{ℕ, zero, suc, ◌≤◌, ◌<◌, min}
 use native.Mathlib.Omega.{arith}
 use borrow.Author.Tests.{eq-eqb, ne_eqb}
-use mathlib.Core.Path.{◌≡◌, refl, ap, ◌∙◌}
+use mathlib.Core.Path.{◌≡◌, refl, sym, ap, ◌∙◌, subst}
 use mathlib.Core.Bool.{Bool, cond}
 use lib.ListN.{get_or, get_or-eq_default}
 use Rattle.grammar.specs.declared.node.NodeFields.{NodeFields}
@@ -96,3 +96,28 @@ module _ (f : NodeFields) where
 -- The rule that a node calls is its field A.
 pub rule_of_call : (f : NodeFields) {r : ℕ} → node_of f ≡ Call r → f.a ≡ r
 rule_of_call f e = cc (is_call f (kind_of_call f e), e)
+
+-- The numbers in a node are below 4096 where its fields are.
+abbrev pub Few : Node → Type 0
+Few Empty = Unit {0}
+Few (Text t) = Unit {0}
+Few (Sequence a b) = (a < 4096) × (b < 4096)
+Few (Choice a b) = (a < 4096) × (b < 4096)
+Few (Star a) = a < 4096
+Few (NotPredicate a) = a < 4096
+Few (Call r) = r < 4096
+Few Unlawful = Unit {0}
+
+pub few : (f : NodeFields) {m : Node} → f.a < 4096 → f.b < 4096 → node_of f ≡ m → Few m
+few f {m} a b e = subst Few e (go f.kind refl)
+  where
+    go : (k : ℕ) → f.kind ≡ k → Few (node_of f)
+    go zero k = subst Few (sym (is_empty f k)) tt
+    go (suc zero) k = subst Few (sym (is_any f k)) tt
+    go (suc (suc zero)) k = subst Few (sym (is_range f k)) tt
+    go (suc (suc (suc zero))) k = subst Few (sym (is_sequence f k)) (a, b)
+    go (suc (suc (suc (suc zero)))) k = subst Few (sym (is_choice f k)) (a, b)
+    go (suc (suc (suc (suc (suc zero))))) k = subst Few (sym (is_star f k)) a
+    go (suc (suc (suc (suc (suc (suc zero)))))) k = subst Few (sym (is_not f k)) a
+    go (suc (suc (suc (suc (suc (suc (suc zero))))))) k = subst Few (sym (is_call f k)) a
+    go (suc (suc (suc (suc (suc (suc (suc (suc j)))))))) k = subst Few (sym (is_unlawful f (omega arith))) tt

@@ -12,10 +12,10 @@ use Rattle.grammar.specs.declared.refusal.Refusal.{Refusal}
 use Rattle.grammar.specs.declared.refusal.Refusal.TheVariants.{Records, Nesting, Rows}
 use Rattle.grammar.specs.declared.node.Node.{Node}
 use Rattle.grammar.specs.declared.node.Terminal.{Terminal}
-use Rattle.grammar.specs.declared.node.Node.TheVariants.{Empty, Text, Sequence, Choice, Star, NotPredicate, Call, Unlawful}
+use Rattle.grammar.specs.declared.node.Node.TheVariants.{Empty, Text, Unlawful}
 use Rattle.grammar.specs.declared.node.NodeFields.{NodeFields}
 use Rattle.grammar.specs.Image.{fields_of, node_of}
-use Rattle.grammar.proofs.Nodes.{is_empty, is_any, is_range, is_sequence, is_choice, is_star, is_not, is_call, is_unlawful}
+use Rattle.grammar.proofs.Nodes.{Few, few}
 use Rattle.image.specs.Fields.{SameFields}
 use Rattle.packrat.proofs.LoadedRuns.{word_is}
 use Rattle.packrat.proofs.Rules.{was_possible, was_impossible}
@@ -178,49 +178,8 @@ module _ (w : Walk) {at k allowance : ℕ} (s : Steady w.text.now at k allowance
                       with_row (and_then f.words its_length f.is f.written f.counted (at_once (walked true h.length d) refl refl))
 
 -- The node that a word stands for, as its fields were read: its parts are numbers of 12 bits.
-abbrev pub first_of : Node → ℕ
-first_of Empty = 0
-first_of (Text t) = 0
-first_of (Sequence a b) = a
-first_of (Choice a b) = a
-first_of (Star a) = a
-first_of (NotPredicate a) = a
-first_of (Call r) = r
-first_of Unlawful = 0
-
-abbrev pub second_of : Node → ℕ
-second_of Empty = 0
-second_of (Text t) = 0
-second_of (Sequence a b) = b
-second_of (Choice a b) = b
-second_of (Star a) = 0
-second_of (NotPredicate a) = 0
-second_of (Call r) = 0
-second_of Unlawful = 0
-
-parts_are : (f : NodeFields) → (first_of (node_of f) ≤ f.a) × (second_of (node_of f) ≤ f.b)
-parts_are f = go f.kind refl
-  where
-    by : {m : Node} → node_of f ≡ m → first_of m ≤ f.a → second_of m ≤ f.b → (first_of (node_of f) ≤ f.a) × (second_of (node_of f) ≤ f.b)
-    by e h j = let p = ap first_of e in let q = ap second_of e in (omega arith, omega arith)
-
-    go : (k : ℕ) → f.kind ≡ k → (first_of (node_of f) ≤ f.a) × (second_of (node_of f) ≤ f.b)
-    go zero e = by (is_empty f e) (omega arith) (omega arith)
-    go (suc zero) e = by (is_any f e) (omega arith) (omega arith)
-    go (suc (suc zero)) e = by (is_range f e) (omega arith) (omega arith)
-    go (suc (suc (suc zero))) e = by (is_sequence f e) (omega arith) (omega arith)
-    go (suc (suc (suc (suc zero)))) e = by (is_choice f e) (omega arith) (omega arith)
-    go (suc (suc (suc (suc (suc zero))))) e = by (is_star f e) (omega arith) (omega arith)
-    go (suc (suc (suc (suc (suc (suc zero)))))) e = by (is_not f e) (omega arith) (omega arith)
-    go (suc (suc (suc (suc (suc (suc (suc zero))))))) e = by (is_call f e) (omega arith) (omega arith)
-    go (suc (suc (suc (suc (suc (suc (suc (suc k)))))))) e = by (is_unlawful f (omega arith)) (omega arith) (omega arith)
-
-module _ (word : ℕ) {f : NodeFields} (s : SameFields f (fields_of word)) {m : Node} (is : m ≡ node_of f) where
-  pub first_small : first_of m < 4096
-  first_small = let p = (parts_are f).0 in let q = ap first_of is in omega (arith, s.its_a)
-
-  pub second_small : second_of m < 4096
-  second_small = let p = (parts_are f).1 in let q = ap second_of is in omega (arith, s.its_b)
+pub parts_small : (word : ℕ) {f : NodeFields} → SameFields f (fields_of word) → {m : Node} → m ≡ node_of f → Few m
+parts_small word {f} s is = few f (omega (arith, s.its_a)) (omega (arith, s.its_b)) (sym is)
 
 -- A node: without an allowance, and by its word.
 module _ (w : Walk) {at k left : ℕ} (s : Steady w.text.now at k left) (i lo hi : ℕ) where

@@ -3,6 +3,7 @@ use Prim.Native.Nat.{ℕ}
 use mathlib.Core.Path.{◌≡◌, refl, ap, sym, subst}
 use mathlib.Core.Bool.{Bool}
 use mathlib.Core.List.{List}
+use lib.ListN.{take}
 use mathlib.Core.Logic.{inr}
 use Rattle.grammar.specs.Image.{nodes}
 use Rattle.grammar.specs.Questions.{First, Lawful, Question6}
@@ -16,6 +17,15 @@ use Rattle.rounds.proofs.FormedRounds.{formed_nodes_least}
 -- A lawful image that passes question 6.
 pub stars_passed : {img : List ℕ} → Lawful img → Question6 img → First (of_stars img) 0
 stars_passed l q = inr (l.header, inr (l.counts, inr (l.size, inr (l.words, inr (l.tree, inr (q, refl))))))
+
+-- The first places of an array that has the nodes from the highest down, where count and image are known by other names.
+pub in_order :
+    {img other : List ℕ} {count : ℕ} (places : List ℕ)
+    → count ≡ nodes other
+    → other ≡ img
+    → take (nodes img) places ≡ descending (nodes img)
+    → take count places ≡ descending (nodes other)
+in_order places c o e = rw (c, o) e
 
 -- The rounds of a lawful image in the order that is from the highest node down.
 module _ (img order : List ℕ) (e : order ≡ descending (nodes img)) where

@@ -3,7 +3,7 @@ use Rattle.std.specs.Prelude.{Ok}
 use Rattle.grammar.proofs.Refusals.{left_with}
 use Rattle.listing.proofs.Gives.{steady, kept_on, smaller}
 use Rattle.listing.proofs.Paths.{node_found, sequence_stops, sequence_fails, sequence_in_text, sequence_second_stops, sequence_second_fails, sequence_both, not_stops, not_fails, not_matches, part_stops, part_fails, part_missed, part_goes, choice_stops, choice_first, choice_second, star_start, star_stops, star_last, star_in_text, star_still, star_more}
-use Rattle.listing.proofs.Rules.{rule_empty, rule_impossible, rule_failed, held_in_text, rule_missed, rule_full, rule_stops, rule_goes, node_too_deep, node_goes, empty_goes, text_goes, unlawful_goes, first_small, second_small}
+use Rattle.listing.proofs.Rules.{rule_empty, rule_impossible, rule_failed, held_in_text, rule_missed, rule_full, rule_stops, rule_goes, node_too_deep, node_goes, empty_goes, text_goes, unlawful_goes, parts_small}
 use Rattle.rows.specs.Walk.{kind_v}
 use lib.ListN.{length}
 use mathlib.Core.Path.{refl, sym, ap, ◌∙◌}
@@ -28,23 +28,27 @@ walk_node-returns-then-left-eq0-clause-gives t c =
 
 pub walk_node-walk_sequence-requires : goal.walk_node-walk_sequence-requires
 walk_node-walk_sequence-requires t c =
-    let ne = c.if-left-eq0.false in (omega (arith, ne), (smaller c.requires.0 (omega (arith, ne)), first_small _ c.node_of-fields.ensures c.in-Sequence.ensures, second_small _ c.node_of-fields.ensures c.in-Sequence.ensures))
+    let ne = c.if-left-eq0.false in
+    let parts = parts_small _ c.node_of-fields.ensures c.in-Sequence.ensures in
+    (omega (arith, ne), (smaller c.requires.0 (omega (arith, ne)), parts.0, parts.1))
 
 pub walk_node-walk_choice-requires : goal.walk_node-walk_choice-requires
 walk_node-walk_choice-requires t c =
-    let ne = c.if-left-eq0.false in (omega (arith, ne), (smaller c.requires.0 (omega (arith, ne)), first_small _ c.node_of-fields.ensures c.in-Choice.ensures, second_small _ c.node_of-fields.ensures c.in-Choice.ensures))
+    let ne = c.if-left-eq0.false in
+    let parts = parts_small _ c.node_of-fields.ensures c.in-Choice.ensures in
+    (omega (arith, ne), (smaller c.requires.0 (omega (arith, ne)), parts.0, parts.1))
 
 pub walk_node-walk_star-requires : goal.walk_node-walk_star-requires
 walk_node-walk_star-requires t c =
-    let ne = c.if-left-eq0.false in (omega (arith, ne), (smaller c.requires.0 (omega (arith, ne)), first_small _ c.node_of-fields.ensures c.in-Star.ensures))
+    let ne = c.if-left-eq0.false in (omega (arith, ne), (smaller c.requires.0 (omega (arith, ne)), parts_small _ c.node_of-fields.ensures c.in-Star.ensures))
 
 pub walk_node-walk_not-requires : goal.walk_node-walk_not-requires
 walk_node-walk_not-requires t c =
-    let ne = c.if-left-eq0.false in (omega (arith, ne), (smaller c.requires.0 (omega (arith, ne)), first_small _ c.node_of-fields.ensures c.in-NotPredicate.ensures))
+    let ne = c.if-left-eq0.false in (omega (arith, ne), (smaller c.requires.0 (omega (arith, ne)), parts_small _ c.node_of-fields.ensures c.in-NotPredicate.ensures))
 
 pub walk_node-walk_rule-requires : goal.walk_node-walk_rule-requires
 walk_node-walk_rule-requires t c =
-    let ne = c.if-left-eq0.false in (omega (arith, ne), (smaller c.requires.0 (omega (arith, ne)), first_small _ c.node_of-fields.ensures c.in-Call.ensures, omega (arith, c.node_of-fields.ensures.its_b)))
+    let ne = c.if-left-eq0.false in (omega (arith, ne), (smaller c.requires.0 (omega (arith, ne)), parts_small _ c.node_of-fields.ensures c.in-Call.ensures, omega (arith, c.node_of-fields.ensures.its_b)))
 
 pub walk_node-returns-in-Empty-clause-gives : goal.walk_node-returns-in-Empty-clause-gives
 walk_node-returns-in-Empty-clause-gives t c =
