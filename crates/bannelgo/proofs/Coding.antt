@@ -11,7 +11,8 @@ use Rattle.reading.specs.declared.plain.Outcome.TheVariants.{Whole, Part, Nothin
 use Rattle.promises.specs.Answers.{OpenAnswer, EditAnswer, ReadAnswer, LookUpAnswer, ListAnswer}
 use Rattle.promises.specs.declared.SheetReading.{SheetReading}
 use Rattle.bannelgo.specs.declared.fields.Fields.{Fields}
-use Rattle.bannelgo.specs.Fields.{refusal, open_fields, edit_fields, reading_fields, read_fields, look_up_fields, list_fields, outcome_number}
+use Rattle.bannelgo.specs.Fields.{refusal, open_fields, edit_fields, reading_fields, read_fields, look_up_fields, list_fields}
+use Rattle.bannelgo.specs.Fields.{outcome_number}
 
 -- A refusal is told from an answer, which has the number 0, and from any other refusal.
 told_apart : {f : Fields} (r : Refusal) {A : Type 0} → f.number ≡ 0 → f ≡ refusal (number r) → A
