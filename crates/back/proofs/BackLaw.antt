@@ -98,7 +98,8 @@ module _ (gone new tail : ℕ) (old : List ℕ) where
           over :
               (j r x : ℕ) → r ≡ kept_word 0 (at old j) → x ≡ came_word gone new tail old j
               → cond (is_held r) r x ≡ cond (is_held (kept_word 0 (at old j))) (kept_word 0 (at old j)) (came_word gone new tail old j)
-          over j r x e g = ap (λ (y : ℕ). cond (is_held y) y x) e ∙ ap (λ (y : ℕ). cond (is_held (kept_word 0 (at old j))) (kept_word 0 (at old j)) y) g
+          over j r x e g =
+              ap (λ (y : ℕ). cond (is_held y) y x) e ∙ ap (λ (y : ℕ). cond (is_held (kept_word 0 (at old j))) (kept_word 0 (at old j)) y) g
 
 -- The same of the parts as they are lent.
 pub back_done :
@@ -116,7 +117,8 @@ back_done {row} {words} {c} {d} rules gone new tail old carried zeros ends B R C
     let long = C.filled.long in
     let Z = fit (part_zeros 0 new carried zeros z (omega arith)) refl (let i : 0 + new ≡ new = omega arith in i) (λ j h k. refl) in
     let more = Z.long in
-    let Y = fit (part_zeros (new + tail) (length front - (new + tail)) front ends e (omega arith)) refl (let i : new + tail + (length front - (new + tail)) ≡ length old = omega arith in i) (λ j h k. refl) in
+    let Y = fit (part_zeros (new + tail) (length front - (new + tail)) front ends e (omega arith)) refl
+    (let i : new + tail + (length front - (new + tail)) ≡ length old = omega arith in i) (λ j h k. refl) in
     back_is gone new tail old B.new_fits C Z Y rules B R P
 
 -- The counts fit, since there are not more words: those carried and put, and all of the back.

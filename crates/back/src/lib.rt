@@ -65,7 +65,8 @@ fn put_row(part: &mut [u64], row: &[u64; 64], rules: usize) -> usize
     c
 }
 
-// All words from position s on: `gone` words give way to `new` ones, and the `tail` words behind them are carried. Answers how many are held.
+// All words from position s on: `gone` words give way to `new` ones, and the `tail` words behind them are carried. Answers how many are
+// held.
 pub fn edit_back(part: &mut [u64], rules: usize, gone: usize, new: usize, tail: usize) -> usize
     requires { BackFits rules gone new tail (length part.old) }
     ensures { Back rules gone new tail part.old part.new result }

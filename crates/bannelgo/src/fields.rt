@@ -6,6 +6,7 @@ ghost use Rattle.bannelgo.specs.Fields.{refusal, open_fields, edit_fields, readi
 use grammar::Refusal;
 use promises::{EditAnswer, ListAnswer, LookUpAnswer, OpenAnswer, ReadAnswer, SheetReading};
 
+// The answer of a call as a host reads it.
 #[repr(C)]
 #[derive(Clone, Copy)]
 pub struct Fields {

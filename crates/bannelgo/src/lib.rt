@@ -1,5 +1,5 @@
-// What a host links: libbannelgo.a. "The image check and plain reading are exported to our Rust host." They answer one number; each answer of
-// the sheet's calls is coded as seven (fields.rt).
+// What a host links: libbannelgo.a. "The image check and plain reading are exported to our Rust host." They answer one number; each
+// answer of the sheet's calls is coded as seven (fields.rt).
 #![tactic(auto)]
 
 pub mod fields;
@@ -29,6 +29,7 @@ pub extern "C" fn bannelgo_plain_reading(image: &[u8], text: &[u8]) -> u64
     reading::code::code_of(reading::plain::plain_reading(image, text))
 }
 
+// Opens a sheet.
 #[unsafe(no_mangle)]
 pub extern "C" fn bannelgo_open(
     image: &[u8],
@@ -41,6 +42,7 @@ pub extern "C" fn bannelgo_open(
     Fields::from(sheet::open::open(image, text, buffer, table))
 }
 
+// Edits a sheet.
 #[unsafe(no_mangle)]
 pub extern "C" fn bannelgo_edit(
     image: &[u8],
@@ -56,6 +58,7 @@ pub extern "C" fn bannelgo_edit(
     Fields::from(sheet::edit::edit(image, buffer, n, table, start, end, replacement))
 }
 
+// Reads a sheet.
 #[unsafe(no_mangle)]
 pub extern "C" fn bannelgo_read(image: &[u8], buffer: &[u8], n: usize, table: &mut [u64]) -> Fields
     ensures { CodedRead image.now buffer.now n table.old result table.new }
@@ -63,6 +66,7 @@ pub extern "C" fn bannelgo_read(image: &[u8], buffer: &[u8], n: usize, table: &m
     Fields::from(sheet::read::read_sheet(image, buffer, n, table))
 }
 
+// Looks up the word of a pair.
 #[unsafe(no_mangle)]
 pub extern "C" fn bannelgo_look_up(
     image: &[u8],
@@ -77,6 +81,7 @@ pub extern "C" fn bannelgo_look_up(
     Fields::from(sheet::look_up::look_up(image, buffer, n, table, rule, position))
 }
 
+// Lists the rows of a sheet.
 #[unsafe(no_mangle)]
 pub extern "C" fn bannelgo_list(
     image: &[u8],

@@ -83,7 +83,8 @@ part_filled a k {f} {xs} {ys} {lo} {hi} F fits o h =
 
 -- A part that came back as zeros.
 pub part_zeros :
-    (a k : ℕ) (xs ys : List ℕ) → ys ≡ replicate (length (mid_of a k xs)) 0 → a + k ≤ length xs → Filled (λ j. 0) xs (put_mid a k xs ys) a (a + k)
+    (a k : ℕ) (xs ys : List ℕ) → ys ≡ replicate (length (mid_of a k xs)) 0 → a + k ≤ length xs
+    → Filled (λ j. 0) xs (put_mid a k xs ys) a (a + k)
 part_zeros a k xs ys e fits =
     let m : length ys ≡ k = ap length e ∙ length-replicate (length (mid_of a k xs)) 0 ∙ mid_long a k xs fits in
     let l = mid_long a k xs fits in

@@ -1,7 +1,7 @@
--- Theorems `ledger_after` and `standing`: where the table has the words of a set of pairs and 0 elsewhere, after an edit it has the words of
--- the pairs that stand and 0 elsewhere, and the count of held words is the number of pairs that stand.
--- Assumes of the words: those of held pairs are held and have the examined length of the pair (`stored`), a pair that stays has the same word
--- after the edit (`stay-true`), and a pair behind the edit has the word that it had at its old position (`carry-true`).
+-- Theorems `ledger_after` and `standing`: where the table has the words of a set of pairs and 0 elsewhere, after an edit it has the words
+-- of the pairs that stand and 0 elsewhere, and the count of held words is the number of pairs that stand.
+-- Assumes of the words: those of held pairs are held and have the examined length of the pair (`stored`), a pair that stays has the same
+-- word after the edit (`stay-true`), and a pair behind the edit has the word that it had at its old position (`carry-true`).
 use Prim.Native.Nat.{ℕ, zero, suc, ◌+◌, ◌-◌, ◌*◌, ◌/◌, ◌%◌, ◌≤◌, ◌<◌}
 use native.Mathlib.Omega.{arith}
 use native.Mathlib.Nat.{mul_comm}
@@ -93,7 +93,8 @@ module _
           ∙ stays_pair s q (examined rule q) (h rule q) (W rule q) (λ y. (stored rule q below y).0) (λ y. (stored rule q below y).1)
 
       second-case :
-          comes n s e k q (table_word R t rule (came_from s e k q)) ≡ (leb (s + k) q && (leb q (new_length n s e k) && h rule (came_from s e k q)))
+          comes n s e k q (table_word R t rule (came_from s e k q))
+          ≡ (leb (s + k) q && (leb q (new_length n s e k) && h rule (came_from s e k q)))
       second-case =
           comes_pair
           (leb (s + k) q)
@@ -156,7 +157,8 @@ module _
     ledger_after rule q below inside =
         let f : ℕ → ℕ = λ j. word_after R n s e k t (j % R) (j / R) in
         let slot = slot_in R cap rule q below inside in
-        joined_first (tabulate f (table_size R cap)) (drop (table_size R cap) t) (table_size R cap) (slot_of R rule q) (tabulate_long f (table_size R cap)) slot
+        joined_first (tabulate f (table_size R cap)) (drop (table_size R cap) t) (table_size R cap) (slot_of R rule q)
+        (tabulate_long f (table_size R cap)) slot
         ∙ tabulate-at f (table_size R cap) (slot_of R rule q) slot
         ∙ ap₂ (word_after R n s e k t) (rule_of R rule q below) (position_of R rule q below)
         ∙ word_after_lem rule q below inside
@@ -166,7 +168,8 @@ module _
         → q ≤ cap
         → (m : ℕ)
         → m ≤ R
-        → held_to (λ rule. word_after R n s e k t (slot_of R rule q % R) (slot_of R rule q / R)) m ≡ sum_to m (λ rule. one_if (stands rule q))
+        → held_to (λ rule. word_after R n s e k t (slot_of R rule q % R) (slot_of R rule q / R)) m
+        ≡ sum_to m (λ rule. one_if (stands rule q))
     unfolding sum_to
     row_count q l zero h = refl
     row_count q l (suc m) h =

@@ -1,5 +1,5 @@
--- What the lent buffers hold from call to call: a text and then zeros stay so over an edit, the words after the table stay, and the table keeps
--- its size. Assumes nothing.
+-- What the lent buffers hold from call to call: a text and then zeros stay so over an edit, the words after the table stay, and the table
+-- keeps its size. Assumes nothing.
 use Prim.Native.Nat.{ℕ, ◌-◌, ◌/◌, ◌%◌, ◌≤◌, ◌<◌}
 use native.Mathlib.Omega.{arith}
 use mathlib.Core.Path.{◌≡◌, sym, ap, ap₂, ◌∙◌}
@@ -60,12 +60,14 @@ module _ {R cap : ℕ} {t : List ℕ} (lent : TableLent R cap t) where
   cleared_long = kept_length (table_size R cap) (replicate (table_size R cap) 0) t (length-replicate (table_size R cap) 0) lent.whole
 
   pub cleared_tail : drop (table_size R cap) (cleared_table R cap t) ≡ drop (table_size R cap) t
-  cleared_tail = drop_at (replicate (table_size R cap) 0) (drop (table_size R cap) t) (table_size R cap) (length-replicate (table_size R cap) 0)
+  cleared_tail =
+      drop_at (replicate (table_size R cap) 0) (drop (table_size R cap) t) (table_size R cap) (length-replicate (table_size R cap) 0)
 
   pub cleared_word : (rule q : ℕ) → rule < R → q ≤ cap → table_word R (cleared_table R cap t) rule q ≡ 0
   cleared_word rule q below inside =
       let slot = slot_in R cap rule q below inside in
-      joined_first (replicate (table_size R cap) 0) (drop (table_size R cap) t) (table_size R cap) (slot_of R rule q) (length-replicate (table_size R cap) 0) slot
+      joined_first (replicate (table_size R cap) 0) (drop (table_size R cap) t) (table_size R cap) (slot_of R rule q)
+      (length-replicate (table_size R cap) 0) slot
       ∙ get_or-replicate (table_size R cap) (slot_of R rule q) 0 0 slot
 
   module _ (n s e k : ℕ) where

@@ -1,5 +1,6 @@
 -- The memo table: what an opening and an edit leave in the lent words, for every table content.
-use Rattle.std.specs.Prelude.{ℕ, zero, suc, ◌+◌, ◌-◌, ◌/◌, ◌%◌, ◌≤◌, Bool, cond, ◌&&◌, List, [], ◌∷◌, ◌++◌, length, get_or, drop, replicate, leb}
+use Rattle.std.specs.Prelude.{ℕ, zero, suc, ◌+◌, ◌-◌, ◌/◌, ◌%◌, ◌≤◌, Bool, cond, ◌&&◌, List, [], ◌∷◌, ◌++◌, length, get_or, drop, replicate}
+use Rattle.std.specs.Prelude.{leb}
 use Rattle.records.specs.Words.{is_held, examined_of}
 use Rattle.records.specs.Slots.{slot_of}
 pub use Rattle.records.specs.Slots.{table_size}

@@ -70,7 +70,9 @@ not_shows img a false l h = not_0 h
 not_shows img a true zero h = not_f0 h
 not_shows img a true (suc l) h = not_f1 h
 
-star_shows : (img : List ℕ) (a l : ℕ) → Has img (node img a) fails → ((k : ℕ) → l ≡ suc k → Has img (node img a) consumes) → Has img (Star a) (shown true l)
+star_shows :
+    (img : List ℕ) (a l : ℕ) → Has img (node img a) fails → ((k : ℕ) → l ≡ suc k → Has img (node img a) consumes)
+    → Has img (Star a) (shown true l)
 star_shows img a zero f c = star_0 f
 star_shows img a (suc l) f c = star_1 (c l refl)
 
@@ -92,7 +94,8 @@ module _ (img text : List ℕ) (answers : ℕ → ℕ → CallAnswer)
   where
     shows : {s : Subject} {p : ℕ} {z : Evaluation} → Evaluates img text answers s p z → Shows img s z
     shows (ev_empty e) = rw e empty_0
-    shows {p = p} (ev_terminal {t} e) = rw e (terminal_shows img t (terminal_at t text p).matched (terminal_at t text p).length (match_consumes t text p))
+    shows {p = p} (ev_terminal {t} e) =
+        rw e (terminal_shows img t (terminal_at t text p).matched (terminal_at t text p).length (match_consumes t text p))
     shows (ev_then_first_fails {x = x} a m e) = rw e (then_f (rw m at (shows a)))
     shows (ev_then {a} {b} {x = x} {y = y} u m v e) = rw e (then_shows img a b y.matched x.length y.length (rw m at (shows u)) (shows v))
     shows (ev_else_first {a} {b} {x = x} u m e) =

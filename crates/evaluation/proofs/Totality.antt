@@ -29,7 +29,9 @@ pub record Exists (img text : List ℕ) (s : Subject) (p : ℕ) : Type 0 where
   pub evaluated : Fresh img text s p value
 
 -- A matched evaluation of length 0 shows outcome 0.
-shows_0 : {img text : List ℕ} {n : Node} {p : ℕ} {x : Evaluation} → Fresh img text (a_node n) p x → x.matched ≡ true → x.length ≡ 0 → Has img n matches_empty
+shows_0 :
+    {img text : List ℕ} {n : Node} {p : ℕ} {x : Evaluation} → Fresh img text (a_node n) p x → x.matched ≡ true → x.length ≡ 0
+    → Has img n matches_empty
 shows_0 {img} {text} {n} {p} {x} u m l =
     subst (λ (k : ℕ). Has img n (shown true k)) l (subst (λ (b : Bool). Has img n (shown b x.length)) m (fresh_described u))
 
@@ -146,7 +148,8 @@ module _ (img text : List ℕ) (accepted : Accepted img) where
 
   pub total : (i : ℕ) → i < nodes img → (p : ℕ) → p ≤ length text → Exists img text (a_node (node img i)) p
   total i l p h =
-      before (length text - p + 1) (node img i) (accepted.well_formed.every_node i l) (refers img accepted.lawful.words i l) p h (omega arith)
+      before (length text - p + 1) (node img i) (accepted.well_formed.every_node i l) (refers img accepted.lawful.words i l) p h
+      (omega arith)
 
   pub total_pair : (r : ℕ) → r < rules img → (p : ℕ) → p ≤ length text → Exists img text (a_pair r) p
   unfolding body

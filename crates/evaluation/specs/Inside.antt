@@ -1,5 +1,5 @@
--- The evaluations made inside an evaluation: "Nesting: 1 + the largest nesting among the evaluations made inside, 1 if there are none. For a
--- call the body is inside."
+-- The evaluations made inside an evaluation: "Nesting: 1 + the largest nesting among the evaluations made inside, 1 if there are none. For
+-- a call the body is inside."
 use Rattle.std.specs.Prelude.{ℕ, ◌+◌, max, List, [], ◌∷◌}
 use Rattle.grammar.specs.declared.Evaluation.{Evaluation}
 use Rattle.grammar.specs.Evaluates.{Evaluates, Subject, CallAnswer, a_node, a_pair, rounds_of}

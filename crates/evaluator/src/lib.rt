@@ -112,7 +112,8 @@ impl<'a, 't> Run<'a, 't> {
         Ok(answers::negated_answer(x))
     }
 
-    // A zero or more times: rounds until one fails. A matched round of length 0 gets refusal 12.
+    // A zero or more times: rounds until one fails, so that how many there are is not known before (`loop`). A matched round of length 0
+    // gets refusal 12.
     #[cycle(eval)]
     fn eval_star(&mut self, a: usize, at: usize, left: usize) -> Result<u64, Refusal>
         requires { Ready self.old at (left + 1) × (a < 4096) }

@@ -1,5 +1,6 @@
 -- The laws of the first place that has a byte: it has it, no place before it does, and where there is none no place does. Assumes nothing.
-use Rattle.std.proofs.Common.{ℕ, suc, ◌+◌, ◌-◌, ◌≤◌, ◌<◌, ◌≡◌, ◌≢◌, inl, ◌==◌, List, ◌∷◌, ◌++◌, length, get_or, take, drop, arith, sym, ap, Bool, cond, ◌∙◌}
+use Rattle.std.proofs.Common.{ℕ, suc, ◌+◌, ◌-◌, ◌≤◌, ◌<◌, ◌≡◌, ◌≢◌, inl, ◌==◌, List, ◌∷◌, ◌++◌, length, get_or, take, drop, arith, sym, ap}
+use Rattle.std.proofs.Common.{Bool, cond, ◌∙◌}
 use Rattle.std.specs.Prelude.{Some, None, Option, IfNone}
 use Rattle.std.specs.List.{position, position_or_len}
 use Rattle.std.proofs.lemmas.Bool.{eqb-true, eqb-false}

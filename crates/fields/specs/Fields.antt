@@ -1,5 +1,6 @@
 -- What a field of a line means: a decimal number below 2^64, or bytes as pairs of hexadecimal digits.
-use Rattle.std.specs.Prelude.{ℕ, zero, suc, ◌+◌, ◌*◌, ◌-◌, ◌≤◌, ◌<◌, ◌^◌, ◌/◌, ◌%◌, ◌≡◌, ◌≢◌, ◌⊎◌, cond, List, [], ◌∷◌, ◌++◌, length, get_or, ltb, Option, Some, None, Result, Ok, Err}
+use Rattle.std.specs.Prelude.{ℕ, zero, suc, ◌+◌, ◌*◌, ◌-◌, ◌≤◌, ◌<◌, ◌^◌, ◌/◌, ◌%◌, ◌≡◌, ◌≢◌, ◌⊎◌, cond, List, [], ◌∷◌, ◌++◌, length}
+use Rattle.std.specs.Prelude.{get_or, ltb, Option, Some, None, Result, Ok, Err}
 use Rattle.buffers.specs.Filled.{Filled}
 use Rattle.fields.specs.declared.HexError.{HexError}
 use Rattle.fields.specs.declared.HexError.TheVariants.{TooLong, NotHex}

@@ -16,7 +16,8 @@ pub record Piece (R rows size piece next : ℕ) : Type 0 where
   pub ends : min ((piece + 1) * size) rows ≡ piece * size + next
 
 pub cut_out :
-    {next pieces : ℕ} (R rows size piece : ℕ) → 1 ≤ size → pieces ≡ div_ceil rows size → piece < pieces → next ≡ min (rows - piece * size) size
+    {next pieces : ℕ} (R rows size piece : ℕ) → 1 ≤ size → pieces ≡ div_ceil rows size → piece < pieces
+    → next ≡ min (rows - piece * size) size
     → Piece R rows size piece next
 cut_out {next} {pieces} R rows size piece h e l m =
     let most = div_ceil_times rows size (omega arith) in

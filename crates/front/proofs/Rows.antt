@@ -72,7 +72,9 @@ one_row {c} {w} {ys} R limit l C =
     ap (λ (y : ℕ). kept_word y (at w j)) place in
     record {
       filled = fit C.filled refl l (λ j a b. same j (omega arith));
-      counted = C.counted ∙ ap (held_to (λ j. kept_word limit (at w j))) l ∙ held_same (λ j. kept_word limit (at w j)) (kept_at R limit 0 w) R same;
+      counted =
+          C.counted ∙ ap (held_to (λ j. kept_word limit (at w j))) l
+          ∙ held_same (λ j. kept_word limit (at w j)) (kept_at R limit 0 w) R same;
     }
 
 -- The rows done, and one row more.

@@ -91,7 +91,8 @@ either_way false x = refl
 
 -- The table's lines do ascend.
 pub its_line :
-    {first : Octets} {later : List Octets} (byte : ℕ) → IsOne (begins first later) table → is_in first byte ≡ true → later_bytes byte ≡ later
+    {first : Octets} {later : List Octets} (byte : ℕ) → IsOne (begins first later) table → is_in first byte ≡ true
+    → later_bytes byte ≡ later
 unfolding later_bytes
 its_line byte line h = found byte 0 table refl line h
 
@@ -119,12 +120,15 @@ module _ (byte : ℕ) where
   from_F1 h k = its_line byte (further (further (further (further (further (further (further here))))))) (inside 0xF1 0xF3 byte h k)
 
   pub from_F4 : 0xF4 ≤ byte → byte ≤ 0xF4 → later_bytes byte ≡ (0x80 to 0x8F) ∷ tail ∷ tail ∷ []
-  from_F4 h k = its_line byte (further (further (further (further (further (further (further (further here)))))))) (inside 0xF4 0xF4 byte h k)
+  from_F4 h k =
+      its_line byte (further (further (further (further (further (further (further (further here)))))))) (inside 0xF4 0xF4 byte h k)
 
   -- A byte below them is ASCII, which has a line and no later bytes, or in no line.
   pub below_C2 : byte < 0xC2 → later_bytes byte ≡ []
   unfolding later_bytes
-  below_C2 h = ap (λ (later : List Octets). cond (is_in (0x00 to 0x7F) byte) [] later) (below byte 0xC2 (drop 1 table) refl h) ∙ either_way (is_in (0x00 to 0x7F) byte) []
+  below_C2 h =
+      ap (λ (later : List Octets). cond (is_in (0x00 to 0x7F) byte) [] later) (below byte 0xC2 (drop 1 table) refl h)
+      ∙ either_way (is_in (0x00 to 0x7F) byte) []
 
   -- A byte above them is in no line.
   pub past_F4 : 0xF4 < byte → later_bytes byte ≡ []

@@ -68,7 +68,8 @@ abbrev Fillable : Line → Type 0
 Fillable (begins first later) = Filled later
 
 fillable : {first : Octets} {later : List Octets} → IsOne (begins first later) table → Filled later
-fillable = the_one Fillable (none and one and two refl and two refl and two refl and two refl and three refl and three refl and three refl and end)
+fillable =
+    the_one Fillable (none and one and two refl and two refl and two refl and two refl and three refl and three refl and three refl and end)
   where
     lowest : {octets : Octets} {ranges : List Octets} → is_in octets octets.lowest ≡ true → Filled ranges → Filled (octets ∷ ranges)
     lowest {octets} e (filled bytes f) = filled (octets.lowest ∷ bytes) (one_more e f)
@@ -138,7 +139,8 @@ NotBefore text k = (j : ℕ) → 1 ≤ j → j < k → Stops text j → ⊥
 -- The bytes looked at are the beginning of a character of a line that has a next byte.
 module _
     (text : List ℕ) (looked : ℕ) {first : Octets} (done : List Octets) (next : Octets) (later : List Octets)
-    (line : IsOne (begins first (done ++ next ∷ later)) table) (begun : Fit (first ∷ done) (take looked text)) (in_text : looked ≤ length text) where
+    (line : IsOne (begins first (done ++ next ∷ later)) table) (begun : Fit (first ∷ done) (take looked text))
+    (in_text : looked ≤ length text) where
   -- It does not stop at them: they are not the whole, they can be completed, and the end was not looked at.
   not_yet : Stops text looked → ⊥
   not_yet (complete w) =
@@ -188,7 +190,8 @@ module _
           one (breaks_off n) (λ w. n (record { rest = []; whole = and_nothing (take (looked + 1) text) w }))
       go false m =
           let i = ltb-false looked (length text) m in
-          one (at_end (omega arith)) (λ w. not_yet (complete (subst LawfulCharacter (take_all (looked + 1) text (omega arith) ∙ sym (take_all looked text i)) w)))
+          one (at_end (omega arith))
+          (λ w. not_yet (complete (subst LawfulCharacter (take_all (looked + 1) text (omega arith) ∙ sym (take_all looked text i)) w)))
 
   -- So it is one character, if it is one with the next byte looked at.
   by_next :
@@ -227,7 +230,8 @@ along text looked done (next ∷ later) line begun in_text earlier =
 any_at : (byte : ℕ) (others : List ℕ) → terminal_at Any (byte ∷ others) 0 ≡ continued (later_bytes byte) (byte ∷ others) 0 1
 unfolding terminal_at accepts later_of
 any_at byte others =
-    ap (λ (b : Bool). cond b (continued (later_bytes byte) (byte ∷ others) 0 1) not_taken) (has_there (accepts Any) (byte ∷ others) 0 (omega arith))
+    ap (λ (b : Bool). cond b (continued (later_bytes byte) (byte ∷ others) 0 1) not_taken)
+    (has_there (accepts Any) (byte ∷ others) 0 (omega arith))
 
 -- A byte that is in no line begins nothing, and is taken alone.
 in_no_line : (byte : ℕ) (others : List ℕ) → InNone table byte → OneCharacter (byte ∷ others) (taken 1 1)
@@ -271,7 +275,8 @@ all_taken seen after (one_more {octets = next} {ranges = later} {byte = byte} {b
     ap (λ (b : Bool). cond b (continued later text 0 (length seen + 1)) (alone (length seen))) there
     ∙ ap₂ (λ (bytes : List ℕ) (k : ℕ). continued later bytes 0 k) (sym (append_snoc seen byte (bytes ++ after))) (sym longer)
     ∙ all_taken (seen ++ (byte ∷ [])) after f
-    ∙ ap (λ (k : ℕ). taken k k) (let e : length (seen ++ (byte ∷ [])) + length bytes ≡ length seen + suc (length bytes) = omega (arith, longer) in e)
+    ∙ ap (λ (k : ℕ). taken k k)
+    (let e : length (seen ++ (byte ∷ [])) + length bytes ≡ length seen + suc (length bytes) = omega (arith, longer) in e)
   where
     text : List ℕ
     text = seen ++ (byte ∷ (bytes ++ after))
@@ -343,7 +348,8 @@ module _ (bytes : List ℕ) {x y : Evaluation} (one : OneCharacter bytes x) (oth
       go true e = eqb-true x.length y.length e
       go false e =
           let differ = eqb-false x.length y.length e in
-          let unlawful : LawfulCharacter (take x.examined bytes) → ⊥ = λ w. differ (one.whole w ∙ same_examined ∙ sym (other.whole (back w))) in
+          let unlawful : LawfulCharacter (take x.examined bytes) → ⊥ =
+          λ w. differ (one.whole w ∙ same_examined ∙ sym (other.whole (back w))) in
           absurd (differ (one.alone unlawful ∙ sym (other.alone (λ w. unlawful (there w)))))
 
   pub only_one : (x.matched ≡ y.matched) × (x.length ≡ y.length) × (x.examined ≡ y.examined)

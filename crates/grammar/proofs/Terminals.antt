@@ -53,14 +53,31 @@ taken_shape :
     (text : List ℕ) (p bytes looked : ℕ) → 1 ≤ bytes → bytes ≤ looked → p + bytes ≤ length text → p + looked ≤ length text + 1
     → Shape text p (taken bytes looked)
 taken_shape text p bytes looked a b c d =
-    record { examines = omega arith; in_examined = b; up_to_end = d; consumes = λ e. a; in_text = c; failure = λ e. absurd (true≢false e); flat = refl }
+    record {
+      examines = omega arith;
+      in_examined = b;
+      up_to_end = d;
+      consumes = λ e. a;
+      in_text = c;
+      failure = λ e. absurd (true≢false e);
+      flat = refl;
+    }
 
 not_taken_shape : (text : List ℕ) (p : ℕ) → p ≤ length text → Shape text p not_taken
 not_taken_shape text p h =
-    record { examines = omega arith; in_examined = omega arith; up_to_end = omega arith; consumes = λ e. absurd (true≢false (sym e)); in_text = omega arith; failure = λ e. refl; flat = refl }
+    record {
+      examines = omega arith;
+      in_examined = omega arith;
+      up_to_end = omega arith;
+      consumes = λ e. absurd (true≢false (sym e));
+      in_text = omega arith;
+      failure = λ e. refl;
+      flat = refl;
+    }
 
 continued_shape :
-    (text : List ℕ) (p : ℕ) (later : List Octets) (looked : ℕ) → 1 ≤ looked → p + looked ≤ length text → Shape text p (continued later text p looked)
+    (text : List ℕ) (p : ℕ) (later : List Octets) (looked : ℕ) → 1 ≤ looked → p + looked ≤ length text
+    → Shape text p (continued later text p looked)
 continued_shape text p [] looked h k = taken_shape text p _ _ h (omega arith) k (omega arith)
 continued_shape text p (next ∷ later) looked h k =
     by_test (Shape text p) (has_at (is_in next) text (p + looked))
@@ -105,15 +122,18 @@ module _ (text other : List ℕ) (m : ℕ) (reaches : m ≤ length text) (other-
   same_test test k l =
       let in_text : ltb k (length text) ≡ true = lt-ltb k (length text) (omega arith) in
       let in-other : ltb k (length other) ≡ true = lt-ltb k (length other) (omega arith) in
-      ap (λ (b : Bool). b && test (byte_at other k)) (in-other ∙ sym in_text) ∙ ap (λ (x : ℕ). ltb k (length text) && test x) (same_byte k l)
+      ap (λ (b : Bool). b && test (byte_at other k)) (in-other ∙ sym in_text)
+      ∙ ap (λ (x : ℕ). ltb k (length text) && test x) (same_byte k l)
 
   continued_prefix :
-      (p : ℕ) (later : List Octets) (looked : ℕ) → p + (continued later text p looked).examined ≤ m → continued later other p looked ≡ continued later text p looked
+      (p : ℕ) (later : List Octets) (looked : ℕ) → p + (continued later text p looked).examined ≤ m
+      → continued later other p looked ≡ continued later text p looked
   continued_prefix p [] looked l = refl
   continued_prefix p (next ∷ later) looked l =
       ap (λ (b : Bool). cond b (continued later other p (looked + 1)) (alone looked))
       (same_test (is_in next) (p + looked) (let x = next_examined text p next later looked in omega arith))
-      ∙ by_answer p m (has_at (is_in next) text (p + looked)) (continued later text p (looked + 1)) (continued later other p (looked + 1)) (alone looked) (continued_prefix p later (looked + 1)) l
+      ∙ by_answer p m (has_at (is_in next) text (p + looked)) (continued later text p (looked + 1)) (continued later other p (looked + 1))
+      (alone looked) (continued_prefix p later (looked + 1)) l
 
 -- "what it examined" lies below m.
 pub prefix :
@@ -133,7 +153,9 @@ prefix t text other p m h k e l =
     ap₂ (λ (b : Bool) (later : List Octets). cond b (continued later other p 1) not_taken)
     (same_test text other m h k e (accepts t) p below)
     (ap (later_of t) same)
-    ∙ by_answer p m (has_at (accepts t) text p) (continued (later_of t (byte_at text p)) text p 1) (continued (later_of t (byte_at text p)) other p 1) not_taken (continued_prefix text other m h k e p (later_of t (byte_at text p)) 1) l
+    ∙ by_answer p m (has_at (accepts t) text p) (continued (later_of t (byte_at text p)) text p 1)
+    (continued (later_of t (byte_at text p)) other p 1) not_taken
+    (continued_prefix text other m h k e p (later_of t (byte_at text p)) 1) l
 
 -- A test, where something stands before the text.
 moved_test :
@@ -146,8 +168,10 @@ moved_test test before text k =
     moved before text p = rw (length-append before text) (by_bool (ltb p (length text)) refl)
       where
         by_bool : (b : Bool) → ltb p (length text) ≡ b → ltb (length before + p) (length before + length text) ≡ ltb p (length text)
-        by_bool true e = lt-ltb (length before + p) (length before + length text) (let h = ltb-true p (length text) e in omega arith) ∙ sym e
-        by_bool false e = le-ltb (length before + p) (length before + length text) (let h = ltb-false p (length text) e in omega arith) ∙ sym e
+        by_bool true e =
+            lt-ltb (length before + p) (length before + length text) (let h = ltb-true p (length text) e in omega arith) ∙ sym e
+        by_bool false e =
+            le-ltb (length before + p) (length before + length text) (let h = ltb-false p (length text) e in omega arith) ∙ sym e
 
 continued_suffix :
     (before text : List ℕ) (p : ℕ) (later : List Octets) (looked : ℕ)
@@ -182,7 +206,12 @@ continued_few text p [] looked h =
 continued_few text p (next ∷ later) looked h =
     by_test (Few (looked + length (next ∷ later))) (has_at (is_in next) text (p + looked))
     (λ e. let f = continued_few text p later (looked + 1) (omega arith) in
-    record { some_taken = f.some_taken; few_taken = omega (arith, f.few_taken); few_examined = omega (arith, f.few_examined); no_depth = f.no_depth })
+    record {
+      some_taken = f.some_taken;
+      few_taken = omega (arith, f.few_taken);
+      few_examined = omega (arith, f.few_examined);
+      no_depth = f.no_depth;
+    })
     (λ e. record { some_taken = λ e. omega arith; few_taken = omega arith; few_examined = omega arith; no_depth = refl })
 
 -- Kind 2 has no later bytes, kind 1 at most three.
@@ -207,7 +236,12 @@ at_most_four t text p =
     by_test (Few 4) (has_at (accepts t) text p)
     (λ e. let l = few_later_of t (byte_at text p) in
     let f = continued_few text p (later_of t (byte_at text p)) 1 (omega arith) in
-    record { some_taken = f.some_taken; few_taken = omega (arith, f.few_taken); few_examined = omega (arith, f.few_examined); no_depth = f.no_depth })
+    record {
+      some_taken = f.some_taken;
+      few_taken = omega (arith, f.few_taken);
+      few_examined = omega (arith, f.few_examined);
+      no_depth = f.no_depth;
+    })
     (λ e. record { some_taken = λ e. absurd (true≢false (sym e)); few_taken = omega arith; few_examined = omega arith; no_depth = refl })
 
 -- A match consumes, at any position.

@@ -12,7 +12,8 @@ use Rattle.grammar.proofs.Bools.{both, joined}
 use Rattle.grammar.specs.Image.{edition, rules, nodes, start, rule_zero, root, kind, node_zero, field_a, field_b}
 use Rattle.grammar.specs.Questions.{Question1, Question2, Question3, Question4, Question5, Lawful, LawfulRule, LawfulNode}
 use Rattle.grammar.specs.Questions.{roots, children_below, occurrences}
-use Rattle.grammar.specs.Tests.{where_so, every, edition_test, counts_test, size_test, header_test, rule_test, node_test, words_test, once_test}
+use Rattle.grammar.specs.Tests.{where_so, every, edition_test, counts_test, size_test, header_test, rule_test, node_test, words_test}
+use Rattle.grammar.specs.Tests.{once_test}
 
 asked : (a b : Bool) → where_so a b ≡ true → a ≡ true → b ≡ true
 asked true b e h = e

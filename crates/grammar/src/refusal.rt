@@ -5,6 +5,7 @@ ghost use Rattle.grammar.specs.Refusals.{number};
 
 use std::fmt;
 
+// The number of the question that was answered no.
 #[derive(Clone, Copy, Debug, PartialEq, Eq)]
 pub enum Refusal {
     // "Are there 4 bytes, and edition 1?"

@@ -1,5 +1,6 @@
 // Reads the fields of a grammar image. Every function answers for every byte string and every number: a byte past the end reads
-// as 0. Which bits are which field is said in the crate `grammar`, specs/Image.antt.
+// as 0. Which bits are which field is said in the crate `grammar`, specs/Image.antt. `as` goes from `u32` to `usize`, for which std
+// has no `From`, and in `linked_word` back: what it narrows is below 2^32.
 #![tactic(auto)]
 
 ghost use Rattle.std.specs.Prelude.{◌≡◌, ◌/◌, ◌^◌, ◌<◌, ◌≤◌, length, replicate};
@@ -9,6 +10,7 @@ ghost use Rattle.image.specs.Linked.{linked_from, LinkedWords};
 
 use grammar::{Node, NodeFields};
 
+// "Header, 32 bits: edition 4 (always 1), rules 8, nodes 12, start rule 8."
 #[derive(Clone, Copy)]
 pub struct Header {
     pub edition: usize,
@@ -17,6 +19,7 @@ pub struct Header {
     pub start: usize,
 }
 
+// "One 16-bit word per rule: zero 4, root node 12."
 #[derive(Clone, Copy)]
 pub struct Rule {
     pub zero: usize,
@@ -126,9 +129,10 @@ pub fn first_byte(word: u32) -> usize
     word as usize / 16777216
 }
 
-// It is the kind alone where the zero bits are 0: any, and a byte range without the fold bit.
+// It is the kind alone where the zero bits are 0. That of any,
 pub const ANY: usize = 0x10;
 
+// and that of a byte range without the fold bit.
 pub const PLAIN_RANGE: usize = 0x20;
 
 // The fields of a node's word.

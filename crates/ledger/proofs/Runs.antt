@@ -22,7 +22,8 @@ use Rattle.promises.specs.Answers.{EditAnswer, LookUpAnswer}
 use Rattle.promises.specs.Questions.{Question8, Question9, of_sheet}
 use Rattle.promises.specs.Promises.{OpenPromise, EditPromise, LookUpPromise}
 use Rattle.promises.specs.Run.{answer_of, words_of}
-use Rattle.ledger.specs.Ledger.{Evaluations, Call, edit, reading, look_up, listing, Reply, edits, reads, finds, Ledger, opened_ledger, turn, replies}
+use Rattle.ledger.specs.Ledger.{Evaluations, Call, edit, reading, look_up, listing, Reply, edits, reads, finds, Ledger, opened_ledger, turn}
+use Rattle.ledger.specs.Ledger.{replies}
 use Rattle.ledger.specs.Demand.{Loan, loan, Link, edit_link, read_link, look_up_link, next_length, Trace, done, next, RunsExist}
 use Rattle.grammar.proofs.Bools.{both, joined}
 use Rattle.promises.proofs.Asked.{sheet_first, sheet_passed, edit_9, edit_10, look_up_11}

@@ -97,5 +97,7 @@ module _ (img text : List ℕ) (cap : ℕ) (accepted : Accepted img) (small : ca
           ≡ reads (Err Nesting) ∷ lists (Err Nesting) [] ∷ []
       given ev =
           let l = opened_ledger img accepted text in
-          ap (λ (b : Bool). (read_turn ev b l).reply ∷ (list_turn ev (passes14 ev (read_turn ev b l).left) (passes15 ev (read_turn ev b l).left slots) (read_turn ev b l).left).reply ∷ []) (fails ev)
+          ap (λ (b : Bool). (read_turn ev b l).reply
+          ∷ (list_turn ev (passes14 ev (read_turn ev b l).left) (passes15 ev (read_turn ev b l).left slots)
+          (read_turn ev b l).left).reply ∷ []) (fails ev)
           ∙ ap (λ (b : Bool). reads (Err Nesting) ∷ (list_turn ev b (passes15 ev l slots) l).reply ∷ []) (fails ev)

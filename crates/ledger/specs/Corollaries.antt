@@ -70,8 +70,9 @@ in_listing (Ok x) count slots rows =
     rows
 in_listing (Err r) count slots rows = Err r
 
--- "To it a listing is a reading": a listing after any list of calls is refused with 14 where the plain reading is; otherwise it answers what
--- the plain reading answers, with the number of the text's rows, which are in the row slots then, or 15 exactly where they do not fit.
+-- "To it a listing is a reading": a listing after any list of calls is refused with 14 where the plain reading is; otherwise it answers
+-- what the plain reading answers, with the number of the text's rows, which are in the row slots then, or 15 exactly where they do not
+-- fit.
 abbrev pub ListsAsPlain : Type 0
 ListsAsPlain =
     (img text B₀ W₀ B W : List ℕ) (n : ℕ)

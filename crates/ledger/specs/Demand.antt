@@ -74,8 +74,8 @@ pub record Agrees (ev : Evaluations) (cap : ℕ) (rest : List ℕ) (l : Ledger) 
   pub after_table : drop (table_size (rules l.image) cap) W ≡ rest
 
 -- From an accepted opening on, for every list of calls that kept their promises, refused ones too: every reply along the list is the
--- ledger's, and what is left agrees with the ledger. The ledger's replies have no number but 9, 10, 11, 14 and 15. That the image is accepted
--- is no condition: an accepted opening says so (proofs/Demand.antt, `opened_image`); the ledger has it for its evaluations.
+-- ledger's, and what is left agrees with the ledger. The ledger's replies have no number but 9, 10, 11, 14 and 15. That the image is
+-- accepted is no condition: an accepted opening says so (proofs/Demand.antt, `opened_image`); the ledger has it for its evaluations.
 abbrev pub Demand3 : Type 0
 Demand3 =
     (img text B₀ W₀ B W : List ℕ) (n : ℕ)

@@ -17,8 +17,8 @@ fn told(word: u64) -> Option<usize>
     }
 }
 
-// A terminal. An ASCII character is told without a call. The arms stand here and in terminals `terminal`: by a call of it a listing took 8 %
-// more instructions.
+// A terminal. An ASCII character is told without a call. The arms stand here and in terminals `terminal`: by a call of it a listing took
+// 8 % more instructions.
 pub fn leaf(text: &[u8], terminal: Terminal, at: usize) -> Option<usize>
     ensures { result ≡ told_length (terminal_at terminal text.now at) }
 {

@@ -12,13 +12,29 @@ pub struct Row {
     pub length: usize,
 }
 
+// The fields of the word: how many values each has, and how much of the word 1 in it is.
+const RULE_VALUES: usize = 1 << 8;
+
+const RULE_UNIT: usize = 1 << 56;
+
+const DEPTH_VALUES: usize = 1 << 16;
+
+const DEPTH_UNIT: usize = 1 << 32;
+
+const START_VALUES: usize = 1 << 16;
+
+const START_UNIT: usize = 1 << 16;
+
+const LENGTH_VALUES: usize = 1 << 16;
+
 // The row's word. A field that is too wide loses its upper bits. `as` stands here since std has no `From<usize>` for `u64`.
 impl From<Row> for u64 {
     ghost from_gives = { λ r w. w ≡ row_word (record { rule = r.rule % 2 ^ 8; depth = r.depth % 2 ^ 16; start = r.start % 2 ^ 16; length = r.length % 2 ^ 16 }) };
 
     fn from(row: Row) -> u64 {
-        let calls = row.rule % 256 * 72057594037927936 + row.depth % 65536 * 4294967296;
-        (calls + row.start % 65536 * 65536 + row.length % 65536) as u64
+        let calls = row.rule % RULE_VALUES * RULE_UNIT + row.depth % DEPTH_VALUES * DEPTH_UNIT;
+        let place = row.start % START_VALUES * START_UNIT + row.length % LENGTH_VALUES;
+        (calls + place) as u64
     }
 }
 

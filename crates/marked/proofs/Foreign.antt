@@ -44,7 +44,9 @@ asked {k} f =
     (sheet_first D2 3 3 8 (accepted d2_accepted)
     (record { short = omega arith; text_fits = omega arith; whole_table = omega (arith, two_rules) }))
 
-read : {word : ℕ} {a : ReadAnswer} {W' : List ℕ} → ReadPromise D2 text12a 3 (lent_words word) a W' → SheetRead D2 text12a 3 (lent_words word) a W'
+read :
+    {word : ℕ} {a : ReadAnswer} {W' : List ℕ} → ReadPromise D2 text12a 3 (lent_words word) a W'
+    → SheetRead D2 text12a 3 (lent_words word) a W'
 read p = p.read (asked p.first)
 
 pub untrue_word_taken :

@@ -9,9 +9,13 @@ use Rattle.reading.specs.Plain.{PlainAnswer}
 use Rattle.reading.specs.Plain.{PlainRead}
 use Rattle.ledger.specs.Ledger.{Call, Reply}
 use Rattle.ledger.specs.Sessions.{SessionSays}
-use Rattle.marked.specs.Sessions.{text12a, calls1, replies1, calls2, replies2, calls3, replies3, calls4, replies4, calls5, replies5, text12, calls6, replies6}
-use Rattle.marked.specs.Sessions.{calls_over, replies_over, calls_refused, replies_refused, calls_listed, replies_listed, calls_deep, replies_deep, text_parts, calls_parts, replies_parts, text_fold, calls_fold, replies_fold, text_letter, calls_letter, replies_letter}
-use Rattle.marked.specs.Images.{D2, M7, M8, M9, M10, brackets, parts, second_edition, start_too_high, byte_too_many, own_child, orphan, kilo, folded_any, second_bit, dot, letters}
+use Rattle.marked.specs.Sessions.{text12a, calls1, replies1, calls2, replies2, calls3, replies3, calls4, replies4, calls5, replies5, text12}
+use Rattle.marked.specs.Sessions.{calls6, replies6}
+use Rattle.marked.specs.Sessions.{calls_over, replies_over, calls_refused, replies_refused, calls_listed, replies_listed, calls_deep}
+use Rattle.marked.specs.Sessions.{replies_deep, text_parts, calls_parts, replies_parts, text_fold, calls_fold, replies_fold, text_letter}
+use Rattle.marked.specs.Sessions.{calls_letter, replies_letter}
+use Rattle.marked.specs.Images.{D2, M7, M8, M9, M10, brackets, parts, second_edition, start_too_high, byte_too_many, own_child, orphan}
+use Rattle.marked.specs.Images.{kilo, folded_any, second_bit, dot, letters}
 
 pub data Line : Type 0 where
   -- the image check gives this image this number

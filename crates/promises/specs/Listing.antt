@@ -44,7 +44,8 @@ pub record RefusedAlso (r : Refusal) (words R : List ℕ) (a : ListAnswer) (W' R
 
 -- After a reading that answered x and left these words. Over a table W without foreign records the rows are those of the text by Ford's
 -- rules, and the reading's words stay.
-pub record ListedAfter (img text : List ℕ) (cap : ℕ) (W : List ℕ) (x : SheetReading) (words R : List ℕ) (a : ListAnswer) (W' R' : List ℕ) : Type 0 where
+pub record ListedAfter (img text : List ℕ) (cap : ℕ) (W : List ℕ) (x : SheetReading) (words R : List ℕ) (a : ListAnswer)
+    (W' R' : List ℕ) : Type 0 where
   pub ends : EndsAs img cap x words R a W' R'
   pub rows_are :
       NotForeign img text W → (z : Evaluation) (d : Fresh img text (a_pair (start img)) 0 z)

@@ -15,6 +15,7 @@ pub struct EditedSheet {
     pub standing: usize,
 }
 
+// The answer of an edit.
 pub type EditAnswer = Result<EditedSheet, Refusal>;
 
 // "it also gives length, examined length and nesting, and in a session evaluations"
@@ -27,6 +28,7 @@ pub struct SheetReading {
     pub evaluations: u64,
 }
 
+// The answer of a reading.
 pub type ReadAnswer = Result<SheetReading, Refusal>;
 
 // "The answer is the reading's and the number of rows."
@@ -36,6 +38,7 @@ pub struct SheetListing {
     pub rows: usize,
 }
 
+// The answer of a listing.
 pub type ListAnswer = Result<SheetListing, Refusal>;
 
 // "The program gives the slot's word whole."

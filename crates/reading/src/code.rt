@@ -30,6 +30,7 @@ impl From<Reading> for u64 {
     }
 }
 
+// The code of an answer.
 pub fn code_of(answer: Result<Reading, Refusal>) -> u64
     ensures { result ≡ code_of answer }
 {

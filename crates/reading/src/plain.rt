@@ -27,6 +27,7 @@ impl fmt::Display for Outcome {
     }
 }
 
+// "it also gives length, examined length and nesting"
 #[derive(Clone, Copy, Debug, PartialEq, Eq)]
 pub struct Reading {
     pub outcome: Outcome,
@@ -35,6 +36,7 @@ pub struct Reading {
     pub nesting: usize,
 }
 
+// The outcome for a text of n bytes.
 pub fn outcome_of(matched: bool, length: usize, n: usize) -> Outcome
     ensures { result ≡ outcome_of matched (length == n) }
 {

@@ -1,4 +1,5 @@
--- The laws of a slot: one pair has it, it lies in the table, which pair has it, and where it lies in the rows of the table. Assumes nothing.
+-- The laws of a slot: one pair has it, it lies in the table, which pair has it, and where it lies in the rows of the table. Assumes
+-- nothing.
 use Prim.Native.Nat.{ℕ, ◌+◌, ◌*◌, ◌/◌, ◌%◌, ◌^◌, ◌≤◌, ◌<◌}
 use native.Mathlib.Omega.{arith}
 use native.Mathlib.Nat.{mul-le-mul, mul-le-mul_left, mul-le-mul_right, mul_comm, div-lt_iff_lt-mul, div-add-mod'}

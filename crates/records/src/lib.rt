@@ -5,6 +5,7 @@
 ghost use Rattle.std.specs.Prelude.{◌<◌, ◌≡◌};
 ghost use Rattle.records.specs.Words.{is_held, matched_of, spare_of, nesting_of, examined_of, length_of, record_word, SaidBy, decoded};
 
+// What the word of a pair has.
 #[derive(Clone, Copy)]
 pub struct Record {
     pub matched: bool,
@@ -22,29 +23,34 @@ pub const HELD: u64 = 1 << 63;
 // "matched 1"
 pub const MATCHED: u64 = 1 << 62;
 
+// Both.
 pub const HELD_MATCHED: u64 = HELD + MATCHED;
 
 // "zero 16"
 pub const SPARE_VALUES: usize = 1 << 16;
 
+// 1 in it.
 pub const SPARE_UNIT: usize = 1 << 46;
 
 // "nesting 13"
 pub const NESTING_VALUES: usize = 1 << 13;
 
+// 1 in it.
 pub const NESTING_UNIT: usize = 1 << 33;
 
 // "examined 17"
 pub const EXAMINED_VALUES: usize = 1 << 17;
 
+// 1 in it.
 pub const EXAMINED_UNIT: usize = 1 << 16;
 
 // "length 16"
 pub const LENGTH_VALUES: usize = 1 << 16;
 
-// The units, to add to a word.
+// The units, to add to a word: 1 in the nesting,
 pub const ONE_NESTING: u64 = NESTING_UNIT as u64;
 
+// and 1 in the examined length. `as` stands in both since std has no `From<usize>` for `u64`.
 pub const ONE_EXAMINED: u64 = EXAMINED_UNIT as u64;
 
 // The most bytes that a text may have: each length fits in its field.
@@ -57,31 +63,36 @@ pub fn is_held(word: u64) -> bool
     HELD <= word
 }
 
-// The fields of a word, held or not.
+// The fields of a word, held or not. `as` stands in their readers since std has no `From<u64>` for `usize`.
+// "matched 1"
 pub fn matched_of(word: u64) -> bool
     ensures { result ≡ matched_of word }
 {
     word / MATCHED % 2 == 1
 }
 
+// "zero 16"
 pub fn spare_of(word: u64) -> usize
     ensures { (result ≡ spare_of word) × (result < 65536) }
 {
     word as usize / SPARE_UNIT % SPARE_VALUES
 }
 
+// "nesting 13"
 pub fn nesting_of(word: u64) -> usize
     ensures { (result ≡ nesting_of word) × (result < 8192) }
 {
     word as usize / NESTING_UNIT % NESTING_VALUES
 }
 
+// "examined 17"
 pub fn examined_of(word: u64) -> usize
     ensures { (result ≡ examined_of word) × (result < 131072) }
 {
     word as usize / EXAMINED_UNIT % EXAMINED_VALUES
 }
 
+// "length 16"
 pub fn length_of(word: u64) -> usize
     ensures { (result ≡ length_of word) × (result < 65536) }
 {
@@ -143,7 +154,7 @@ impl Record {
         Some(said)
     }
 
-    // The record's word. A field that is too wide loses its upper bits.
+    // The record's word. A field that is too wide loses its upper bits. `as` stands here since std has no `From<usize>` for `u64`.
     pub fn word(self) -> u64
         ensures { result ≡ record_word self }
     {

@@ -1,5 +1,6 @@
 -- A call that the program makes keeps the library's promise for an answer, and the text's length that the next call is lent is the one
--- answered, the former one where the call is refused. That this answer is the one printed is not said here: nothing is proved of what prints.
+-- answered, the former one where the call is refused. That this answer is the one printed is not said here: nothing is proved of what
+-- prints.
 use Rattle.std.specs.Prelude.{ℕ, ◌≡◌, List, length}
 use Rattle.promises.specs.Answers.{OpenAnswer, EditAnswer, ReadAnswer, ListAnswer}
 use Rattle.answered.specs.After.{after_open, after_edit, rows_in}

@@ -1,7 +1,7 @@
 // What the calls are lent, and the calls. What is lent is then as the call left it, also where the answer cannot be printed.
-// Each call cuts its slices itself: a function that lent them all would have to say how what is written comes back. A call that writes takes
-// all by `&mut`, also what it only reads: the check covers no `&` to what one field refers to beside a `&mut` to what another does. Its
-// clause `kept` names what may change, and the rest of what is lent stays.
+// Each call cuts its slices itself: a function that lent them all would have to say how what is written comes back. A call that writes
+// takes all by `&mut`, also what it only reads: the check covers no `&` to what one field refers to beside a `&mut` to what another does.
+// Its clause `kept` names what may change, and the rest of what is lent stays.
 ghost use Rattle.std.specs.Prelude.{◌≡◌, ◌≤◌, ◌<◌, length, take, IfOk, MatchResult};
 ghost use Rattle.answered.specs.After.{rows_in};
 ghost use Rattle.promises.specs.Promises.{LookUpPromise};
@@ -87,6 +87,7 @@ impl<'a> Desk<'a> {
         Ok(())
     }
 
+    // An opening over what is lent. The text then has the length that is answered.
     pub fn open(&mut self, text: &[u8]) -> OpenAnswer
         ensures opens { Opens self.old.image text.now self.old.buffer self.old.table self.old.n self.new.n self.new.buffer self.new.table }
         ensures kept { self.new ≡ record self.old { buffer = self.new.buffer; table = self.new.table; n = self.new.n } }
@@ -99,6 +100,7 @@ impl<'a> Desk<'a> {
         answer
     }
 
+    // An edit. The text then has the length that is answered.
     pub fn edit(&mut self, s: usize, e: usize, replacement: &[u8]) -> EditAnswer
         ensures edits { Edits self.old.image self.old.buffer self.old.n self.old.table s e replacement.now
             self.new.n self.new.buffer self.new.table }
@@ -112,6 +114,7 @@ impl<'a> Desk<'a> {
         answer
     }
 
+    // A reading.
     pub fn read(&mut self) -> ReadAnswer
         ensures reads_sheet { ReadsSheet self.old.image self.old.buffer self.old.n self.old.table self.new.table }
         ensures kept { self.new ≡ record self.old { table = self.new.table } }
@@ -122,6 +125,7 @@ impl<'a> Desk<'a> {
         sheet::read::read_sheet(image, buffer, self.n, table)
     }
 
+    // A look-up.
     pub fn look_up(&self, rule: usize, position: usize) -> LookUpAnswer
         ensures { LookUpPromise self.now.image self.now.buffer self.now.n self.now.table rule position result }
     {

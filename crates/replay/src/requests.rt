@@ -1,6 +1,7 @@
 // What a line asks for.
 use crate::errors::LineError;
 
+// What the words of a line give.
 #[derive(Clone, Copy, Debug, PartialEq, Eq)]
 pub enum Request<'a> {
     Image(&'a [u8]),

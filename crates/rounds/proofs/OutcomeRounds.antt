@@ -156,17 +156,20 @@ module _ (img order : List ℕ) (counts : Question2 img) (words : Question4 img)
   stopped : Adds-nothing (3 * nodes img)
   stopped = still_at_most law order no_outcomes all.only_nodes start
 
-  same : (j k : ℕ) → Adds-nothing j → Adds-nothing k → rounds (gather_at img) j order no_outcomes ≡ rounds (gather_at img) k order no_outcomes
+  same :
+      (j k : ℕ) → Adds-nothing j → Adds-nothing k → rounds (gather_at img) j order no_outcomes ≡ rounds (gather_at img) k order no_outcomes
   same = same_left law order no_outcomes all.only_nodes start
 
-  pub outcome_rounds_stop : (k : ℕ) × StopAfter (gather_at img) k order no_outcomes × (outcome_sets img order ≡ rounds (gather_at img) k order no_outcomes)
+  pub outcome_rounds_stop :
+      (k : ℕ) × StopAfter (gather_at img) k order no_outcomes × (outcome_sets img order ≡ rounds (gather_at img) k order no_outcomes)
   unfolding outcome_sets
   outcome_rounds_stop =
       let s = stop law order no_outcomes all.only_nodes start in
       (s.0, s.1, same (3 * nodes img) s.0 stopped s.1.adds_nothing)
 
   pub outcome_sets_left :
-      (known : List ℕ) → Reached (gather_at img) order no_outcomes known → round (gather_at img) order known ≡ known → known ≡ outcome_sets img order
+      (known : List ℕ) → Reached (gather_at img) order no_outcomes known → round (gather_at img) order known ≡ known
+      → known ≡ outcome_sets img order
   unfolding outcome_sets
   outcome_sets_left known r e =
       r.after ∙ same r.count (3 * nodes img) (ap (round (gather_at img) order) (sym r.after) ∙ e ∙ r.after) stopped
@@ -203,7 +206,8 @@ module _ (img order : List ℕ) (counts : Question2 img) (words : Question4 img)
   closed_by known n l s e o h =
       let in-known : n < length known = rw s.as_long (below l) in
       let got : get_or known n 0 ≡ union (get_or known n 0) (gathered img known (node img n)) =
-      ap (λ (xs : List ℕ). get_or xs n 0) (sym e) ∙ get_or-set_same known n (union (get_or known n 0) (gathered img known (node img n))) 0 in-known in
+      ap (λ (xs : List ℕ). get_or xs n 0) (sym e)
+      ∙ get_or-set_same known n (union (get_or known n 0) (gathered img known (node img n))) 0 in-known in
       ap (bit o) got
       ∙ bit-union o (get_or known n 0) (gathered img known (node img n))
       ∙ ap (λ (b : Bool). bit o (get_or known n 0) || b) h

@@ -75,7 +75,9 @@ module _
         later : Adds (visit xs n) (round visit order (visit xs n))
         later = round_grows order (visit xs n) rest (law.keeps xs n (b 0 (omega arith)) g)
 
-        at : (k : ℕ) → k < suc (length order) → visit xs n ≡ xs → ((j : ℕ) → j < length order → visit xs (get_or order j 0) ≡ xs) → visit xs (get_or (n ∷ order) k 0) ≡ xs
+        at :
+            (k : ℕ) → k < suc (length order) → visit xs n ≡ xs → ((j : ℕ) → j < length order → visit xs (get_or order j 0) ≡ xs)
+            → visit xs (get_or (n ∷ order) k 0) ≡ xs
         at zero m first others = first
         at (suc k) m first others = others k (omega arith)
 
@@ -166,7 +168,8 @@ module _
               → left + j ≡ most
               → ((i : ℕ) → i < j → Still i → ⊥)
               → (k : ℕ) × StopAfter visit k order start
-          search-up zero j e none = (j, record { adds_nothing = subst Still (let same : most ≡ j = omega arith in same) still_at_most; first = none })
+          search-up zero j e none =
+              (j, record { adds_nothing = subst Still (let same : most ≡ j = omega arith in same) still_at_most; first = none })
           search-up (suc left) j e none = go (next_grows j) (λ h. search-up left (suc j) (omega arith) (further h))
             where
               further :
@@ -180,7 +183,8 @@ module _
 
               go :
                   Adds (rounds visit j order start) (round visit order (rounds visit j order start))
-                  → (weight (rounds visit j order start) < weight (round visit order (rounds visit j order start)) → (k : ℕ) × StopAfter visit k order start)
+                  → (weight (rounds visit j order start) < weight (round visit order (rounds visit j order start))
+                  → (k : ℕ) × StopAfter visit k order start)
                   → (k : ℕ) × StopAfter visit k order start
               go (inl s) rest = (j, record { adds_nothing = s; first = none })
               go (inr h) rest = rest h

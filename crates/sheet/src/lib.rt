@@ -1,5 +1,5 @@
-// The calls on a sheet, over lent buffers: open, edit, reading, look-up and listing. No call asks anything of its caller: every lent length,
-// number and table content is answered or refused, in the order of the questions.
+// The calls on a sheet, over lent buffers: open, edit, reading, look-up and listing. No call asks anything of its caller: every lent
+// length, number and table content is answered or refused, in the order of the questions.
 #![tactic(auto)]
 
 pub mod edit;

@@ -54,7 +54,8 @@ comes_only s q w y h = simp (lt-leb q s h)
 
 -- The word that came, slot by slot and pair by pair.
 pub came_is :
-    (a b c d : Bool) (u v : ℕ) → a ≡ c → b ≡ d → (c ≡ true → d ≡ true → v ≡ u) → cond (a && b) (only_held v) 0 ≡ cond (c && (d && is_held u)) u 0
+    (a b c d : Bool) (u v : ℕ) → a ≡ c → b ≡ d → (c ≡ true → d ≡ true → v ≡ u)
+    → cond (a && b) (only_held v) 0 ≡ cond (c && (d && is_held u)) u 0
 came_is a b c d u v p q w = ap₂ (λ (x y : Bool). cond (x && y) (only_held v) 0) p q ∙ go c d w
   where
     go : (x y : Bool) → (x ≡ true → y ≡ true → v ≡ u) → cond (x && y) (only_held v) 0 ≡ cond (x && (y && is_held u)) u 0

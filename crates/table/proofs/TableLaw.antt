@@ -126,7 +126,9 @@ module _
           let place : s - (0 + slot_of R rule q / R) ≡ s - q =
           ap (λ (x : ℕ). s - x) (let z = slots.position_of R rule q below in let o : 0 + slot_of R rule q / R ≡ q = omega arith in o) in
           front_at (slot_of R rule q) (omega arith)
-          ∙ ap₂ kept_word place (mid_at 0 (s * R) t (slot_of R rule q) (omega arith) ∙ ap (at t) (let z : 0 + slot_of R rule q ≡ slot_of R rule q = omega arith in z))
+          ∙ ap₂ kept_word place
+          (mid_at 0 (s * R) t (slot_of R rule q) (omega arith)
+          ∙ ap (at t) (let z : 0 + slot_of R rule q ≡ slot_of R rule q = omega arith in z))
           ∙ kept_is n s e k q (table_word R t rule q) (table_word R t rule (came_from s e k q)) h
 
       came-pair :
@@ -157,7 +159,8 @@ module _
               let in_table = slots.slot_in R cap rule (came_from s e k (s + i)) below (omega arith) in
               old-at
               ((e - s) * R + (slot_of R rule i - k * R))
-              (below_rest (s * R) ((e - s) * R + (slot_of R rule i - k * R)) (slot_of R rule (came_from s e k (s + i))) (table_size R cap) slot in_table)
+              (below_rest (s * R) ((e - s) * R + (slot_of R rule i - k * R)) (slot_of R rule (came_from s e k (s + i))) (table_size R cap)
+              slot in_table)
               ∙ ap (at t) slot
 
       -- The words that are carried past the first row, and those of the first.

@@ -39,7 +39,9 @@ tested test text at {has} {Gave} is m = go (slice_get text at) refl m
 
 module _ (t : Terminal) (text : List ℕ) (p : ℕ) where
   -- By the test of the first byte.
-  pub by_first_test : {b : Bool} → has_at (accepts t) text p ≡ b → terminal_at t text p ≡ cond b (continued (later_of t (byte_at text p)) text p 1) not_taken
+  pub by_first_test :
+      {b : Bool} → has_at (accepts t) text p ≡ b
+      → terminal_at t text p ≡ cond b (continued (later_of t (byte_at text p)) text p 1) not_taken
   unfolding terminal_at
   by_first_test e = ap (λ (b : Bool). cond b (continued (later_of t (byte_at text p)) text p 1) not_taken) e
 

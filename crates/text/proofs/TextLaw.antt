@@ -55,7 +55,8 @@ module _ (t r : List ℕ) (n s e : ℕ) (fits : EditFits (length t) n s e (lengt
       let l2 = length-append r (tail ++ zeros) in
       let l3 = length-append tail zeros in
       let full : length t - new_length n s e (length r) + (s + length r + (n - e)) ≡ length t =
-      full_is (length t) (new_length n s e (length r)) (s + length r + (n - e)) (new_is n s e (length r) fits.ordered fits.within) fits.room in
+      full_is (length t) (new_length n s e (length r)) (s + length r + (n - e)) (new_is n s e (length r) fits.ordered fits.within)
+      fits.room in
       let inside : (j : ℕ) → j < length new → j < length t = λ j h. omega arith in
       let after1 : (j : ℕ) → s ≤ j → at (take s t ++ (r ++ (tail ++ zeros))) j ≡ at (r ++ (tail ++ zeros)) (j - s) =
       λ j h. joined_second (take s t) (r ++ (tail ++ zeros)) s j front_long h in
@@ -97,11 +98,13 @@ module _ (t r : List ℕ) (n s e : ℕ) (fits : EditFits (length t) n s e (lengt
   abbrev pub Edited : (gone behind : ℕ) → Type 0
   Edited gone behind =
       (moved copied zeros : List ℕ)
-      → Filled (λ j. at (mid_of s (length t - s) t) (gone + (j - length r))) (mid_of s (length t - s) t) moved (length r) (length r + behind)
+      → Filled (λ j. at (mid_of s (length t - s) t) (gone + (j - length r))) (mid_of s (length t - s) t) moved (length r)
+      (length r + behind)
       → Filled (at r) moved copied 0 (length r)
       → let whole : List ℕ = put_mid s (length t - s) t copied in
       let end : ℕ = s + length r + behind in
-      zeros ≡ replicate (length (mid_of end (length whole - end) whole)) 0 → put_mid end (length whole - end) whole zeros ≡ text_after t n s e r
+      zeros ≡ replicate (length (mid_of end (length whole - end) whole)) 0
+      → put_mid end (length whole - end) whole zeros ≡ text_after t n s e r
 
   edit_is : Edited (e - s) (n - e)
   edit_is moved copied zeros M C z =

@@ -25,7 +25,8 @@ gathers_by_kind img known {n} {f} most w = go (kind img n) refl
     sets : ℕ → ℕ
     sets i = set_of_kind i (get_or known f.a 0) (get_or known f.b 0)
 
-    of : {m : Node} (i : ℕ) → kind img n ≡ i → node img n ≡ m → sets i ≡ gathered img known m → sets f.kind ≡ gathered img known (node img n)
+    of :
+        {m : Node} (i : ℕ) → kind img n ≡ i → node img n ≡ m → sets i ≡ gathered img known m → sets f.kind ≡ gathered img known (node img n)
     of i e m g = ap sets (w.same_kind ∙ e) ∙ g ∙ sym (ap (gathered img known) m)
 
     go : (i : ℕ) → kind img n ≡ i → sets f.kind ≡ gathered img known (node img n)

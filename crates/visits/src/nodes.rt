@@ -24,6 +24,7 @@ pub struct Nodes<'a> {
 }
 
 impl<'a> Nodes<'a> {
+    // The nodes of an image.
     pub fn of(image: &'a [u8], table: &'a [[[u8; 8]; 8]; 8]) -> Nodes<'a>
         requires { Lawful image.now × SetTable table.now }
         ensures { result.image.now ≡ image.now }

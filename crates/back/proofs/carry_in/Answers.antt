@@ -16,9 +16,11 @@ pub loop-i-preserved : goal.loop-i-preserved
 loop-i-preserved g c =
     elim c.if-this-ne0.branch [
       | then-this-ne0 w ↦
-          carried_more (UP-type (number g.row.UP)) c.loop-i.invariant c.requires.order c.loop-i-test.true c.requires.in_bounds.0 c.requires.in_bounds.1
+          carried_more (UP-type (number g.row.UP)) c.loop-i.invariant c.requires.order c.loop-i-test.true c.requires.in_bounds.0
+          c.requires.in_bounds.1
           (λ up. w.slot-is, λ down. absurd (search rules)) c.held_bit-c.ensures.0 c.only_held.ensures
       | else-this-ne0 w ↦
-          carried_more (UP-type (number g.row.UP)) c.loop-i.invariant c.requires.order c.loop-i-test.true c.requires.in_bounds.0 c.requires.in_bounds.1
+          carried_more (UP-type (number g.row.UP)) c.loop-i.invariant c.requires.order c.loop-i-test.true c.requires.in_bounds.0
+          c.requires.in_bounds.1
           (λ up. absurd (search rules), λ down. w.slot-is) c.held_bit-c.ensures.0 c.only_held.ensures
     ]

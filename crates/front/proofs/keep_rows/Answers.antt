@@ -19,4 +19,5 @@ pub loop-row-preserved : goal.loop-row-preserved
 loop-row-preserved c =
     let a = c.loop-row.row * c.args.rules in
     let room = row_room c.args.rules c.loop-row.row c.args.rows (omega arith) in
-    row_done c.args.rules c.args.s c.loop-row.row (a + c.args.rules - a) (omega arith) (omega arith) (omega arith) c.loop-row.invariant c.keep_row-c.ensures
+    row_done c.args.rules c.args.s c.loop-row.row (a + c.args.rules - a) (omega arith) (omega arith) (omega arith) c.loop-row.invariant
+    c.keep_row-c.ensures

@@ -9,7 +9,9 @@ loop-n-init c = λ k l. absurd (omega arith)
 
 pub loop-n-preserved : goal.loop-n-preserved
 loop-n-preserved c =
-    next_written (linked_word c.args.image.now) c.loop-n.word-items c.loop-n.n _ (omega (arith, c.loop-n-test.true, c.loop-n.auto.word-items)) (c.linked_word.ensures ∙ ap (linked_from c.args.image.now) c.node_word.ensures) c.loop-n.invariant
+    next_written (linked_word c.args.image.now) c.loop-n.word-items c.loop-n.n _
+    (omega (arith, c.loop-n-test.true, c.loop-n.auto.word-items))
+    (c.linked_word.ensures ∙ ap (linked_from c.args.image.now) c.node_word.ensures) c.loop-n.invariant
 
 pub returns : goal.returns
 returns c =
@@ -19,7 +21,9 @@ returns c =
     let is = c.header_of-header.ensures.its_nodes in
     let long : length items ≡ count = c.loop-n.auto.word-items ∙ length-take-le count old (omega (arith, is, c.requires.0)) in
     record {
-      word_of = λ n l. get_or_append_left items _ 0 n (omega (arith, l, long, is)) ∙ c.loop-n.invariant n (omega (arith, l, long, is, c.loop-n-test.false, c.loop-n.auto.word-items));
+      word_of =
+          λ n l. get_or_append_left items _ 0 n (omega (arith, l, long, is))
+          ∙ c.loop-n.invariant n (omega (arith, l, long, is, c.loop-n-test.false, c.loop-n.auto.word-items));
       past = λ n h.
           get_or-append_right items _ count n 0 long (omega (arith, h, is)) ∙ get_or-drop count old (n - count) 0
           ∙ ap (λ (zeros : List ℕ). get_or zeros (count + (n - count)) 0) c.requires.1 ∙ all_the_same (length old) (count + (n - count)) 0;

@@ -11,7 +11,8 @@ use Rattle.image.proofs.linked_word.Goals as goal
 pub returns-in_default : goal.returns-in_default
 returns-in_default c =
     let same = same_record c.node_of-fields.ensures in
-    own_word c.args.image.now c.args.word (λ e. c.in_default.not-Call _ (c.from.ensures ∙ ap node_of same ∙ is_call (fields_of c.args.word) e))
+    own_word c.args.image.now c.args.word
+    (λ e. c.in_default.not-Call _ (c.from.ensures ∙ ap node_of same ∙ is_call (fields_of c.args.word) e))
 
 pub overflow_add-result : goal.overflow_add-result
 overflow_add-result c =

@@ -5,7 +5,9 @@ use Rattle.image.proofs.rule_at.Goals as goal
 
 pub returns-then-image-rule : goal.returns-then-image-rule
 unfolding rule_zero root
-returns-then-image-rule c = let e = past_rules c.args.image.now c.args.rule c.if-image-rule.true in record { its_zero = omega (arith, e); its_root = omega (arith, e) }
+returns-then-image-rule c =
+    let e = past_rules c.args.image.now c.args.rule c.if-image-rule.true in
+    record { its_zero = omega (arith, e); its_root = omega (arith, e) }
 
 pub returns : goal.returns
 unfolding rule_zero root rule_word

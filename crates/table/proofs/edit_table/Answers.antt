@@ -15,7 +15,8 @@ edit_back-requires c =
     let long = front_long from c.args.table.now c.keep_front-kept.new.part (omega arith) c.keep_front-kept.ensures.filled.long in
     rw c.gone.ensures
     (rw c.behind.ensures
-    (back_room from (table_size R c.args.cap - from) (put_mid 0 from c.args.table.now c.keep_front-kept.new.part) (omega arith) c.requires.table_lent.most_rules (omega arith) (omega arith) (omega arith)))
+    (back_room from (table_size R c.args.cap - from) (put_mid 0 from c.args.table.now c.keep_front-kept.new.part) (omega arith)
+    c.requires.table_lent.most_rules (omega arith) (omega arith) (omega arith)))
 
 pub overflow_add-result : goal.overflow_add-result
 overflow_add-result c =
@@ -24,13 +25,16 @@ overflow_add-result c =
     let F = slots_fit R c.requires.edit_fits in
     let whole = c.requires.table_lent.whole in
     let long = front_long from c.args.table.now c.keep_front-kept.new.part (omega arith) c.keep_front-kept.ensures.filled.long in
-    let few = counts_fit from (table_size R c.args.cap - from) (put_mid 0 from c.args.table.now c.keep_front-kept.new.part) c.keep_front-kept.ensures c.edit_back.ensures (omega arith) in
+    let few = counts_fit from (table_size R c.args.cap - from) (put_mid 0 from c.args.table.now c.keep_front-kept.new.part)
+    c.keep_front-kept.ensures c.edit_back.ensures (omega arith) in
     omega arith
 
 pub returns-clause-standing : goal.returns-clause-standing
 returns-clause-standing c =
-    standing_is c.requires.table_lent c.requires.edit_fits c.keep_front-kept.ensures (rw c.gone.ensures at rw c.behind.ensures at c.edit_back.ensures)
+    standing_is c.requires.table_lent c.requires.edit_fits c.keep_front-kept.ensures
+    (rw c.gone.ensures at rw c.behind.ensures at c.edit_back.ensures)
 
 pub returns-clause-after : goal.returns-clause-after
 returns-clause-after c =
-    table_is c.requires.table_lent c.requires.edit_fits c.keep_front-kept.ensures (rw c.gone.ensures at rw c.behind.ensures at c.edit_back.ensures)
+    table_is c.requires.table_lent c.requires.edit_fits c.keep_front-kept.ensures
+    (rw c.gone.ensures at rw c.behind.ensures at c.edit_back.ensures)

@@ -17,7 +17,8 @@ returns-then-later-eq1 c =
 pub returns-then-not-has_at-2 : goal.returns-then-not-has_at-2
 returns-then-not-has_at-2 c =
     let a = c.args in
-    one_of_three a.text.now a.at a.later (a.lowest to a.highest) (omega (arith, c.requires, c.if-later-eq1.false)) (sym c.has_at.ensures ∙ c.if-not-has_at.false)
+    one_of_three a.text.now a.at a.later (a.lowest to a.highest) (omega (arith, c.requires, c.if-later-eq1.false))
+    (sym c.has_at.ensures ∙ c.if-not-has_at.false)
     (sym c.has_at-2.ensures ∙ c.if-not-has_at-2.true)
 
 pub returns-then-later-eq2 : goal.returns-then-later-eq2
@@ -29,13 +30,15 @@ returns-then-later-eq2 c =
 pub returns-then-not-has_at-3 : goal.returns-then-not-has_at-3
 returns-then-not-has_at-3 c =
     let a = c.args in
-    one_of_four a.text.now a.at a.later (a.lowest to a.highest) (omega (arith, c.requires, c.if-later-eq1.false, c.if-later-eq2.false)) (sym c.has_at.ensures ∙ c.if-not-has_at.false)
+    one_of_four a.text.now a.at a.later (a.lowest to a.highest) (omega (arith, c.requires, c.if-later-eq1.false, c.if-later-eq2.false))
+    (sym c.has_at.ensures ∙ c.if-not-has_at.false)
     (sym c.has_at-2.ensures ∙ c.if-not-has_at-2.false)
     (sym c.has_at-3.ensures ∙ c.if-not-has_at-3.true)
 
 pub returns : goal.returns
 returns c =
     let a = c.args in
-    four_bytes a.text.now a.at a.later (a.lowest to a.highest) (omega (arith, c.requires, c.if-later-eq1.false, c.if-later-eq2.false)) (sym c.has_at.ensures ∙ c.if-not-has_at.false)
+    four_bytes a.text.now a.at a.later (a.lowest to a.highest) (omega (arith, c.requires, c.if-later-eq1.false, c.if-later-eq2.false))
+    (sym c.has_at.ensures ∙ c.if-not-has_at.false)
     (sym c.has_at-2.ensures ∙ c.if-not-has_at-2.false)
     (sym c.has_at-3.ensures ∙ c.if-not-has_at-3.false)

@@ -17,28 +17,44 @@ found : (img : List ℕ) (n : ℕ) {f : NodeFields} {m k : Node} → Linked img 
 found img n {f} w e is = sym (same_node img n f w) ∙ sym e ∙ is
 
 pub bounds-formed-a : goal.bounds-formed-a
-bounds-formed-a c = (two_below c.args.self.now.image.now c.args.self.now.lawful.counts c.args.self.now.lawful.words c.args.n c.requires (inl (found c.args.self.now.image.now c.args.n c.fields-fields.ensures c.from.ensures c.in-Sequence.is))).0
+bounds-formed-a c =
+    (two_below c.args.self.now.image.now c.args.self.now.lawful.counts c.args.self.now.lawful.words c.args.n c.requires
+    (inl (found c.args.self.now.image.now c.args.n c.fields-fields.ensures c.from.ensures c.in-Sequence.is))).0
 
 pub bounds-known-a : goal.bounds-known-a
-bounds-known-a c = (two_below c.args.self.now.image.now c.args.self.now.lawful.counts c.args.self.now.lawful.words c.args.n c.requires (inl (found c.args.self.now.image.now c.args.n c.fields-fields.ensures c.from.ensures c.in-Sequence.is))).0
+bounds-known-a c =
+    (two_below c.args.self.now.image.now c.args.self.now.lawful.counts c.args.self.now.lawful.words c.args.n c.requires
+    (inl (found c.args.self.now.image.now c.args.n c.fields-fields.ensures c.from.ensures c.in-Sequence.is))).0
 
 pub bounds-formed-b : goal.bounds-formed-b
-bounds-formed-b c = (two_below c.args.self.now.image.now c.args.self.now.lawful.counts c.args.self.now.lawful.words c.args.n c.requires (inl (found c.args.self.now.image.now c.args.n c.fields-fields.ensures c.from.ensures c.in-Sequence.is))).1
+bounds-formed-b c =
+    (two_below c.args.self.now.image.now c.args.self.now.lawful.counts c.args.self.now.lawful.words c.args.n c.requires
+    (inl (found c.args.self.now.image.now c.args.n c.fields-fields.ensures c.from.ensures c.in-Sequence.is))).1
 
 pub bounds-formed-a-in-Choice : goal.bounds-formed-a-in-Choice
-bounds-formed-a-in-Choice c = (two_below c.args.self.now.image.now c.args.self.now.lawful.counts c.args.self.now.lawful.words c.args.n c.requires (inr (found c.args.self.now.image.now c.args.n c.fields-fields.ensures c.from.ensures c.in-Choice.is))).0
+bounds-formed-a-in-Choice c =
+    (two_below c.args.self.now.image.now c.args.self.now.lawful.counts c.args.self.now.lawful.words c.args.n c.requires
+    (inr (found c.args.self.now.image.now c.args.n c.fields-fields.ensures c.from.ensures c.in-Choice.is))).0
 
 pub bounds-formed-b-in-Choice : goal.bounds-formed-b-in-Choice
-bounds-formed-b-in-Choice c = (two_below c.args.self.now.image.now c.args.self.now.lawful.counts c.args.self.now.lawful.words c.args.n c.requires (inr (found c.args.self.now.image.now c.args.n c.fields-fields.ensures c.from.ensures c.in-Choice.is))).1
+bounds-formed-b-in-Choice c =
+    (two_below c.args.self.now.image.now c.args.self.now.lawful.counts c.args.self.now.lawful.words c.args.n c.requires
+    (inr (found c.args.self.now.image.now c.args.n c.fields-fields.ensures c.from.ensures c.in-Choice.is))).1
 
 pub bounds-formed-a-in-Star : goal.bounds-formed-a-in-Star
-bounds-formed-a-in-Star c = one_below c.args.self.now.image.now c.args.self.now.lawful.counts c.args.self.now.lawful.words c.args.n c.requires (inl (found c.args.self.now.image.now c.args.n c.fields-fields.ensures c.from.ensures c.in-Star.is))
+bounds-formed-a-in-Star c =
+    one_below c.args.self.now.image.now c.args.self.now.lawful.counts c.args.self.now.lawful.words c.args.n c.requires
+    (inl (found c.args.self.now.image.now c.args.n c.fields-fields.ensures c.from.ensures c.in-Star.is))
 
 pub bounds-known-a-in-Star : goal.bounds-known-a-in-Star
-bounds-known-a-in-Star c = one_below c.args.self.now.image.now c.args.self.now.lawful.counts c.args.self.now.lawful.words c.args.n c.requires (inl (found c.args.self.now.image.now c.args.n c.fields-fields.ensures c.from.ensures c.in-Star.is))
+bounds-known-a-in-Star c =
+    one_below c.args.self.now.image.now c.args.self.now.lawful.counts c.args.self.now.lawful.words c.args.n c.requires
+    (inl (found c.args.self.now.image.now c.args.n c.fields-fields.ensures c.from.ensures c.in-Star.is))
 
 pub bounds-formed-a-in-NotPredicate : goal.bounds-formed-a-in-NotPredicate
-bounds-formed-a-in-NotPredicate c = one_below c.args.self.now.image.now c.args.self.now.lawful.counts c.args.self.now.lawful.words c.args.n c.requires (inr (found c.args.self.now.image.now c.args.n c.fields-fields.ensures c.from.ensures c.in-NotPredicate.is))
+bounds-formed-a-in-NotPredicate c =
+    one_below c.args.self.now.image.now c.args.self.now.lawful.counts c.args.self.now.lawful.words c.args.n c.requires
+    (inr (found c.args.self.now.image.now c.args.n c.fields-fields.ensures c.from.ensures c.in-NotPredicate.is))
 
 pub returns-in-Empty : goal.returns-in-Empty
 unfolding formed_from
@@ -46,7 +62,8 @@ returns-in-Empty c = elim c.in-Empty.is [ inl e ↦ rw (found c.args.self.now.im
 
 pub returns-in-Sequence : goal.returns-in-Sequence
 unfolding formed_from
-returns-in-Sequence c = rw (found c.args.self.now.image.now c.args.n c.fields-fields.ensures c.from.ensures c.in-Sequence.is, c.has_empty.ensures) refl
+returns-in-Sequence c =
+    rw (found c.args.self.now.image.now c.args.n c.fields-fields.ensures c.from.ensures c.in-Sequence.is, c.has_empty.ensures) refl
 
 pub returns-in-Choice : goal.returns-in-Choice
 unfolding formed_from
@@ -54,7 +71,8 @@ returns-in-Choice c = rw (found c.args.self.now.image.now c.args.n c.fields-fiel
 
 pub returns-in-Star : goal.returns-in-Star
 unfolding formed_from
-returns-in-Star c = rw (found c.args.self.now.image.now c.args.n c.fields-fields.ensures c.from.ensures c.in-Star.is, c.has_empty-in-Star.ensures) refl
+returns-in-Star c =
+    rw (found c.args.self.now.image.now c.args.n c.fields-fields.ensures c.from.ensures c.in-Star.is, c.has_empty-in-Star.ensures) refl
 
 pub returns-in-NotPredicate : goal.returns-in-NotPredicate
 unfolding formed_from
