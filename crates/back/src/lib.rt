@@ -51,12 +51,12 @@ fn staying_row(part: &[u64], rules: usize) -> [u64; 64]
 
 // "the first case winning": the words that stay are put over those that came. Answers how many pairs more are held. They are stored by
 // index: of words written through `iter_mut` in a `zip` a proof knows nothing.
-fn put_row(part: &mut [u64], row: &[u64; 64], rules: usize) -> usize
-    requires { (rules ≤ 64) × (rules ≤ length part.old) }
-    ensures { Put row.now part.old part.new rules result }
+fn put_row(part: &mut [u64], row: &[u64]) -> usize
+    requires { (length row.now ≤ 64) × (length row.now ≤ length part.old) }
+    ensures { Put row.now part.old part.new (length row.now) result }
 {
     let mut c = 0;
-    for (rule, &stays) in row[..rules].iter().enumerate() {
+    for (rule, &stays) in row.iter().enumerate() {
         let old = part[rule];
         let word = words::first_held(stays, old);
         c = c + words::held_bit(word) - words::held_bit(old);
@@ -76,5 +76,5 @@ pub fn edit_back(part: &mut [u64], rules: usize, gone: usize, new: usize, tail: 
     buffers::clear(&mut part[..new]);
     let end = new + tail;
     buffers::clear(&mut part[end..]);
-    carried + put_row(part, &row, rules)
+    carried + put_row(part, &row[..rules])
 }

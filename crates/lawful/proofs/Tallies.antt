@@ -1,5 +1,5 @@
 -- Counting occurrences up to 2: one number more, one list after another, and what a count of 1 says. Assumes nothing.
-use Prim.Native.Nat.{ℕ, ◌+◌, ◌<◌, ◌≤◌, min}
+use Prim.Native.Nat.{ℕ, ◌+◌, ◌<◌, min}
 use native.Mathlib.Omega.{arith}
 use native.Mathlib.Numerals.{add-one}
 use mathlib.Core.Path.{◌≡◌, refl, sym, ap, ◌∙◌}
@@ -43,24 +43,15 @@ one_is : (n : ℕ) → occurrences n (n ∷ []) ≡ 1
 unfolding occurrences
 one_is n = let e : one_if (eqb n n) ≡ 1 = ap one_if (eq-eqb n n refl) in omega arith
 
--- A count below 2 goes up by one.
-pub tallied_one : (L : List ℕ) (n : ℕ) → n < length L → Tallied L (set L n (get_or L n 0 + 1)) (n ∷ [])
-tallied_one L n l =
-    record { as_long = length-set L n (get_or L n 0 + 1); counts = λ m. go m (eqb m n) refl }
+-- A count goes up by one, as far as 2 goes.
+pub tallied_one : (L : List ℕ) (n v : ℕ) → n < length L → min 2 v ≡ min 2 (get_or L n 0 + 1) → Tallied L (set L n v) (n ∷ [])
+tallied_one L n v l up =
+    record { as_long = length-set L n v; counts = λ m. go m (eqb m n) refl }
   where
-    go : (m : ℕ) (b : Bool) → eqb m n ≡ b → min 2 (get_or (set L n (get_or L n 0 + 1)) m 0) ≡ min 2 (get_or L m 0 + occurrences m (n ∷ []))
-    go m true e = rw (eqb-true m n e, get_or-set_same L n (get_or L n 0 + 1) 0 l, one_is n) refl
+    go : (m : ℕ) (b : Bool) → eqb m n ≡ b → min 2 (get_or (set L n v) m 0) ≡ min 2 (get_or L m 0 + occurrences m (n ∷ []))
+    go m true e = rw (eqb-true m n e, get_or-set_same L n v 0 l, one_is n) up
     go m false e =
-        rw (get_or-set_other L n m (get_or L n 0 + 1) 0 (eqb-false m n e), one_of n m (eqb-false m n e)) (ap (min 2) (omega arith))
-
--- A count of 2 or more stays.
-pub tallied_full : (L : List ℕ) (n : ℕ) → 2 ≤ get_or L n 0 → Tallied L L (n ∷ [])
-tallied_full L n h =
-    record { as_long = refl; counts = λ m. go m (eqb m n) refl }
-  where
-    go : (m : ℕ) (b : Bool) → eqb m n ≡ b → min 2 (get_or L m 0) ≡ min 2 (get_or L m 0 + occurrences m (n ∷ []))
-    go m true e = rw (eqb-true m n e, one_is n) (omega arith)
-    go m false e = rw (one_of n m (eqb-false m n e)) (ap (min 2) (omega arith))
+        rw (get_or-set_other L n m v 0 (eqb-false m n e), one_of n m (eqb-false m n e)) (ap (min 2) (omega arith))
 
 -- The lists of question 5, one step further.
 pub roots_step : (img : List ℕ) (r : ℕ) → roots img (r + 1) ≡ root img r ∷ roots img r

@@ -6,8 +6,8 @@ ghost use Rattle.lawful.specs.Tally.{Tallied, RootsTallied, ChildrenTallied};
 
 use grammar::Node;
 
-// An image that passed questions 2 and 4, and how often each of its nodes was met: 2 stands for 2 or more. There is no heap: 1,024 is the
-// most nodes.
+// An image that passed questions 2 and 4, and how often each of its nodes was met: 255 stands for 255 or more. There is no heap: 1,024 is
+// the most nodes.
 #[derive(Drop)]
 struct Tally<'a> {
     image: &'a [u8],
@@ -23,13 +23,10 @@ impl<'a> Tally<'a> {
         ensures kept { self.new.image ≡ self.old.image }
         ensures met { Tallied self.old.counts self.new.counts (n ∷ []) }
     {
-        let count = self.counts[n];
-        if count < 2 {
-            self.counts[n] = count + 1;
-        }
+        self.counts[n] = self.counts[n].saturating_add(1);
     }
 
-    // Counts the root of each rule.
+    // Counts the root of each rule. The loop is over numbers, as the next one: an image has words and no slice of rules or nodes.
     fn meet_roots(&mut self)
         ensures kept { self.new.image ≡ self.old.image }
         ensures met { RootsTallied self.old.image.now self.old.counts self.new.counts }

@@ -60,14 +60,13 @@ fn read_full(rt: &HostRuntime, input: &mut [u8]) -> io::Result<usize>
 {
     let mut reader = rt.reader();
     let mut length: usize = 0;
-    for _ in 0..u64::MAX {
+    loop {
         let count = reader.read(&mut input[length..])?;
         if count == 0 {
-            break;
+            return Ok(length);
         }
         length += count;
     }
-    Ok(length)
 }
 
 fn main(rt: HostRuntime) -> io::Result<()> {
