@@ -1,5 +1,5 @@
-// The ways of combining evaluations, on their words: one function for each case of the paper. Each asks for the bound of the nestings that it
-// adds to. A type of words with that bound would hold of what goes in and not of what comes out, whose nesting may be 4,097.
+// The ways of combining evaluations, on their words: one function for each case of the paper. Each asks for the bound of the nestings
+// that it adds to. A type of words with that bound would hold of what goes in and not of what comes out, whose nesting may be 4,097.
 #![tactic(auto, unfolding(records::specs::Words::value_of, records::specs::Words::word_of))]
 
 ghost use Rattle.std.specs.Prelude.{◌≤◌, ◌<◌, max, ◌≡◌};

@@ -58,8 +58,8 @@ fn of_reading(found: SheetReading, value: u64) -> Fields
     }
 }
 
-// Each answer has a conversion of its own: one for every `Result` would go by `From<usize>` for an opened text's length and by `From<u64>` for
-// a word, which say nothing of the call.
+// Each answer has a conversion of its own: one for every `Result` would go by `From<usize>` for an opened text's length and by
+// `From<u64>` for a word, which say nothing of the call.
 impl From<OpenAnswer> for Fields {
     ghost from_gives = { λ a f. f ≡ open_fields a };
 

@@ -7,8 +7,8 @@ ghost use Rattle.rounds.specs.Rounds.{formed_nodes, Outcomes, Formed};
 
 use visits::Nodes;
 
-// The nodes that the rounds over an order leave. "The rounds stop at the first that adds nothing." The two loops stand in each other and share
-// no function with `outcome_sets`, since document 01 asks here for a labelled loop over rounds with nodes inside.
+// The nodes that the rounds over an order leave. "The rounds stop at the first that adds nothing." The two loops stand in each other and
+// share no function with `outcome_sets`, since document 01 asks here for a labelled loop over rounds with nodes inside.
 pub fn formed_nodes(all: &Nodes<'_>, order: &[u16], known: &[u8; 1024]) -> [bool; 1024]
     requires { VisitsAll (nodes all.now.image.now) order.now × Outcomes all.now.image.now known.now }
     ensures { result ≡ formed_nodes all.now.image.now known.now order.now }

@@ -1,7 +1,7 @@
 // The evaluator, for sessions and for the plain reading, which lends it an empty table: "Nodes call rules and rules evaluate nodes, in
-// turn." A method for each kind that has something inside stands between the two. `left` is the remaining allowance of nesting: it
-// falls by one from a node to what is evaluated inside it, and not from a rule to its body. An answer is a record word, or a refusal.
-// Each method asks that a node's and a rule's number are below 4,096 and no type has that bound: the numbers come from a `Node`, where they
+// turn." A method for each kind that has something inside stands between the two. `left` is the remaining allowance of nesting: it falls
+// by one from a node to what is evaluated inside it, and not from a rule to its body. An answer is a record word, or a refusal. Each
+// method asks that a node's and a rule's number are below 4,096 and no type has that bound: the numbers come from a `Node`, where they
 // are plain numbers, as in every definition over nodes.
 #![tactic(auto)]
 

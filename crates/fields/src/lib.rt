@@ -71,8 +71,8 @@ fn byte_of(high: u8, low: u8) -> Option<u8>
     Some(hex_digit(high)? * 16 + hex_digit(low)?)
 }
 
-// Puts the bytes that a field of hexadecimal digits means at the start of `given`, and answers how many there are. They are stored by index:
-// of bytes written through `iter_mut` in a `zip` a proof knows nothing.
+// Puts the bytes that a field of hexadecimal digits means at the start of `given`, and answers how many there are. They are stored by
+// index: of bytes written through `iter_mut` in a `zip` a proof knows nothing.
 pub fn hex(field: &[u8], given: &mut [u8]) -> Result<usize, HexError>
     ensures hex { HexOf field.now given.old given.new result }
     ensures room { IfOk result (λ n. n ≤ length given.new) }

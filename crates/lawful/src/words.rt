@@ -1,7 +1,8 @@
 // Question 4: "Is every word lawful: zero bits and unused fields 0, kind 0 to 7, A ≤ B ≤ 255 in kind 2, references in range,
 // children above parents?" "Question 4 allows the bit [the fold bit] in kind 2 only." (02, R-1)
 //
-// Each function takes what its definition in specs/Words.antt takes: a struct of a node's number and fields would lend more to most of them.
+// Each function takes what its definition in specs/Words.antt takes: a struct of a node's number and fields would lend more to most of
+// them.
 ghost use Rattle.std.specs.Prelude.{ℕ, ◌<◌, ◌↔◌, IsTrue};
 ghost use Rattle.grammar.specs.Image.{rules, nodes};
 ghost use Rattle.grammar.specs.Questions.{Question4, LawfulRule, LawfulNode};

@@ -1,5 +1,5 @@
-// Numbers for the hosts. An answer of a plain reading as one number, for the Rust host: a refusal is its number; an answered reading has bit
-// 63 set, bit 62 for matched, and nesting, examined and length in the record's fields. And the number of an outcome.
+// Numbers for the hosts. An answer of a plain reading as one number, for the Rust host: a refusal is its number; an answered reading has
+// bit 63 set, bit 62 for matched, and nesting, examined and length in the record's fields. And the number of an outcome.
 ghost use Rattle.std.specs.Prelude.{◌≡◌, Ok};
 ghost use Rattle.reading.specs.Code.{code_of, outcome_number};
 
