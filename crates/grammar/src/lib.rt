@@ -3,9 +3,11 @@
 // what is read and refused.
 #![tactic(auto)]
 
+mod bits;
 mod node;
 mod refusal;
 
+pub use bits::field;
 pub use node::{Node, NodeFields, Terminal};
 pub use refusal::Refusal;
 

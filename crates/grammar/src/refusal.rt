@@ -41,18 +41,11 @@ pub enum Refusal {
     Rows = 15,
 }
 
-impl From<Refusal> for u8 {
-    ghost from_gives = { λ r k. k ≡ number r };
-
-    fn from(refusal: Refusal) -> u8 {
-        refusal as u8
-    }
-}
-
 impl From<Refusal> for u64 {
     ghost from_gives = { λ r k. k ≡ number r };
 
     fn from(refusal: Refusal) -> u64 {
+        // An enum's number is given by `as` alone.
         refusal as u64
     }
 }
@@ -60,6 +53,6 @@ impl From<Refusal> for u64 {
 // A refusal prints as its number.
 impl fmt::Display for Refusal {
     fn fmt<W: fmt::Write>(&self, f: &mut fmt::Formatter<W>) -> fmt::Result {
-        write!(f, "{}", u8::from(*self))
+        write!(f, "{}", u64::from(*self))
     }
 }

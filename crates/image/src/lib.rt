@@ -1,6 +1,5 @@
 // Reads the fields of a grammar image. Every function answers for every byte string and every number: a byte past the end reads
-// as 0. Which bits are which field is said in the crate `grammar`, specs/Image.antt. `as` goes from `u32` to `usize`, for which std
-// has no `From`, and in `linked_word` back: what it narrows is below 2^32.
+// as 0. Which bits are which field is said in the crate `grammar`, specs/Image.antt.
 #![tactic(auto)]
 
 ghost use Rattle.std.specs.Prelude.{◌≡◌, ◌/◌, ◌^◌, ◌<◌, ◌≤◌, length, replicate};
@@ -8,7 +7,7 @@ ghost use Rattle.grammar.specs.Image.{nodes, byte_at, word16, word32, node_word,
 ghost use Rattle.image.specs.Fields.{HeaderFields, RuleFields, SameFields};
 ghost use Rattle.image.specs.Linked.{linked_from, LinkedWords};
 
-use grammar::{Node, NodeFields};
+use grammar::{Node, NodeFields, field};
 
 // "Header, 32 bits: edition 4 (always 1), rules 8, nodes 12, start rule 8."
 #[derive(Clone, Copy)]
@@ -75,12 +74,12 @@ fn word32_at(bytes: &[u8], at: usize) -> u32
 pub fn header_of(image: &[u8]) -> Header
     ensures { HeaderFields image.now result }
 {
-    let word = word32_at(image, 0) as usize;
+    let word = u64::from(word32_at(image, 0));
     Header {
-        edition: word / 268435456 % 16,
-        rules: word / 1048576 % 256,
-        nodes: word / 256 % 4096,
-        start: word % 256,
+        edition: field(word, 28, 4),
+        rules: field(word, 20, 8),
+        nodes: field(word, 8, 12),
+        start: field(word, 0, 8),
     }
 }
 
@@ -91,10 +90,10 @@ pub fn rule_at(image: &[u8], rule: usize) -> Rule
     if image.len() / 2 <= rule {
         return Rule { zero: 0, root: 0 };
     }
-    let word = usize::from(word16_at(image, 4 + 2 * rule));
+    let word = u64::from(word16_at(image, 4 + 2 * rule));
     Rule {
-        zero: word / 4096 % 16,
-        root: word % 4096,
+        zero: field(word, 12, 4),
+        root: field(word, 0, 12),
     }
 }
 
@@ -105,20 +104,19 @@ pub fn node_word(image: &[u8], node: usize) -> u32
     if image.len() / 4 <= node {
         return 0;
     }
-    let header = word32_at(image, 0) as usize;
-    word32_at(image, 4 + 2 * (header / 1048576 % 256) + 4 * node)
+    word32_at(image, 4 + 2 * header_of(image).rules + 4 * node)
 }
 
 // The fields of a word that is a node's.
 pub fn node_of(word: u32) -> NodeFields
     ensures { SameFields result (fields_of word) }
 {
-    let bits = word as usize;
+    let word = u64::from(word);
     NodeFields {
-        kind: bits / 268435456 % 16,
-        zero: bits / 16777216 % 16,
-        a: bits / 4096 % 4096,
-        b: bits % 4096,
+        kind: field(word, 28, 4),
+        zero: field(word, 24, 4),
+        a: field(word, 12, 12),
+        b: field(word, 0, 12),
     }
 }
 
@@ -126,7 +124,7 @@ pub fn node_of(word: u32) -> NodeFields
 pub fn first_byte(word: u32) -> usize
     ensures { result ≡ word / 2 ^ 24 }
 {
-    word as usize / 16777216
+    field(u64::from(word), 24, 8)
 }
 
 // It is the kind alone where the zero bits are 0. That of any,
@@ -150,6 +148,7 @@ pub fn node(image: &[u8], n: usize) -> Node
 }
 
 // A node's word, a call's with the root of the called rule for field B, which is 0 in a lawful image.
+// `as` goes from `u32` to `usize`, for which std has no `From`, and back: what it narrows is below 2^32.
 pub fn linked_word(image: &[u8], word: u32) -> u32
     ensures { result ≡ linked_from image.now word }
 {
@@ -158,7 +157,7 @@ pub fn linked_word(image: &[u8], word: u32) -> u32
         return word;
     };
     let body = rule_at(image, rule);
-    (word as usize / 4096 * 4096 + body.root) as u32
+    (word as usize - fields.b + body.root) as u32
 }
 
 // The nodes' linked words, in a slice of zeros; 0 stays in the places past the last node.

@@ -11,6 +11,7 @@ impl From<Outcome> for u64 {
     ghost from_gives = { λ o k. k ≡ outcome_number o };
 
     fn from(outcome: Outcome) -> u64 {
+        // An enum's number is given by `as` alone.
         outcome as u64
     }
 }

@@ -5,6 +5,8 @@
 ghost use Rattle.std.specs.Prelude.{◌<◌, ◌≡◌};
 ghost use Rattle.records.specs.Words.{is_held, matched_of, spare_of, nesting_of, examined_of, length_of, record_word, SaidBy, decoded};
 
+use grammar::field;
+
 // What the word of a pair has.
 #[derive(Clone, Copy)]
 pub struct Record {
@@ -63,40 +65,40 @@ pub fn is_held(word: u64) -> bool
     HELD <= word
 }
 
-// The fields of a word, held or not. `as` stands in their readers since std has no `From<u64>` for `usize`.
+// The fields of a word, held or not.
 // "matched 1"
 pub fn matched_of(word: u64) -> bool
     ensures { result ≡ matched_of word }
 {
-    word / MATCHED % 2 == 1
+    field(word, 62, 1) == 1
 }
 
 // "zero 16"
 pub fn spare_of(word: u64) -> usize
     ensures { (result ≡ spare_of word) × (result < 65536) }
 {
-    word as usize / SPARE_UNIT % SPARE_VALUES
+    field(word, 46, 16)
 }
 
 // "nesting 13"
 pub fn nesting_of(word: u64) -> usize
     ensures { (result ≡ nesting_of word) × (result < 8192) }
 {
-    word as usize / NESTING_UNIT % NESTING_VALUES
+    field(word, 33, 13)
 }
 
 // "examined 17"
 pub fn examined_of(word: u64) -> usize
     ensures { (result ≡ examined_of word) × (result < 131072) }
 {
-    word as usize / EXAMINED_UNIT % EXAMINED_VALUES
+    field(word, 16, 17)
 }
 
 // "length 16"
 pub fn length_of(word: u64) -> usize
     ensures { (result ≡ length_of word) × (result < 65536) }
 {
-    word as usize % LENGTH_VALUES
+    field(word, 0, 16)
 }
 
 impl Record {

@@ -50,6 +50,7 @@ fn from_first(text: &[u8], lowest: u8, highest: u8, later: usize, at: usize) -> 
 }
 
 // The same, by the first byte: the lines of RFC 3629's table. A byte below 0xC2 or above 0xF4 has no later bytes.
+#[inline(never)]
 fn by_first(text: &[u8], first: u8, at: usize) -> u64
     requires { at < length text.now }
     ensures { result ≡ word_of (continued (later_bytes first) text.now at 1) }
@@ -75,12 +76,17 @@ pub fn is_ascii(text: &[u8], at: usize) -> bool
     crate::has_at(text, at, |byte| byte.is_ascii())
 }
 
-// "Kind 1 now matches one character as RFC 3629 defines it" (02, R-5).
+// "Kind 1 now matches one character as RFC 3629 defines it" (02, R-5). An ASCII character is told without a call: by a call for it a listing
+// took 8 % more instructions.
+#[inline(always)]
 pub fn any_character(text: &[u8], at: usize) -> u64
     ensures { result ≡ word_of (terminal_at Any text.now at) }
 {
     let Some(first) = crate::byte_at(text, at) else {
         return crate::NO_BYTE;
     };
+    if first.is_ascii() {
+        return crate::ONE_BYTE;
+    }
     by_first(text, first, at)
 }

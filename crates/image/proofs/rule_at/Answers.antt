@@ -11,4 +11,4 @@ returns-then-image-rule c =
 
 pub returns : goal.returns
 unfolding rule_zero root rule_word
-returns c = let e = c.word16_at.ensures in record { its_zero = omega (arith, e); its_root = omega (arith, e) }
+returns c = record { its_zero = cc; its_root = cc }

@@ -1,16 +1,15 @@
-use mathlib.Core.Path.{sym, ap, ◌∙◌}
-use mathlib.Core.Bool.{Bool}
-use Rattle.std.specs.Prelude.{Some}
+use Prim.Native.Nat.{ℕ}
+use mathlib.Core.Path.{◌≡◌, refl, ap, ◌∙◌}
+use mathlib.Core.Bool.{Bool, true, false}
+use Rattle.std.specs.Bool.{then_some}
 use Rattle.records.specs.Words.{value_of, length_of}
 use Rattle.listing.specs.Gives.{length_or}
 use Rattle.listing.proofs.bytes.told.Goals as goal
 
-pub returns-then-matched_of : goal.returns-then-matched_of
-unfolding value_of
-returns-then-matched_of c =
-    ap Some c.length_of.ensures.0
-    ∙ ap (λ (b : Bool). length_or b (length_of c.args.word)) (sym (sym c.matched_of.ensures ∙ c.if-matched_of.true))
+same : (matched : Bool) (length : ℕ) → then_some matched length ≡ length_or matched length
+same true length = refl
+same false length = refl
 
-pub returns-else-matched_of : goal.returns-else-matched_of
+pub returns : goal.returns
 unfolding value_of
-returns-else-matched_of c = ap (λ (b : Bool). length_or b (length_of c.args.word)) (sym (sym c.matched_of.ensures ∙ c.if-matched_of.false))
+returns c = c.then_some.ensures ∙ same _ _ ∙ (λ i. length_or (c.matched_of.ensures i) (c.length_of.ensures.0 i))
