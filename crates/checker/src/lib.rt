@@ -6,7 +6,7 @@ ghost use Rattle.grammar.specs.Questions.{Checked};
 ghost use Rattle.grammar.specs.Refusals.{number_in};
 
 use grammar::Refusal;
-use visits::{Nodes, table};
+use visits::Nodes;
 
 mod formed;
 mod order;
@@ -18,8 +18,7 @@ pub fn check(image: &[u8]) -> Result<(), Refusal>
     ensures { Checked image.now (number_in result) }
 {
     lawful::check(image)?;
-    let table = table::set_table();
-    let nodes = Nodes::of(image, &table);
+    let nodes = Nodes::of(image);
     let places = order::round_order(image);
     let order = &places[..nodes.count];
     let known = outcomes::outcome_sets(&nodes, order);

@@ -4,15 +4,14 @@ ghost use Rattle.checker.specs.Stars.{StarsAsked};
 
 use crate::{order, outcomes};
 use grammar::Refusal;
-use visits::{Nodes, table};
+use visits::Nodes;
 
 // The outcome sets; refuses an image by the first of questions 1 to 6 that it fails.
 pub fn star_sets(image: &[u8]) -> Result<[u8; 1024], Refusal>
     ensures { StarsAsked image.now result }
 {
     lawful::check(image)?;
-    let table = table::set_table();
-    let nodes = Nodes::of(image, &table);
+    let nodes = Nodes::of(image);
     let places = order::round_order(image);
     let known = outcomes::outcome_sets(&nodes, &places[..nodes.count]);
     if !outcomes::stars_consume(&nodes, &known) {
