@@ -5,6 +5,7 @@
 ghost use Rattle.grammar.specs.Questions.{Checked};
 ghost use Rattle.grammar.specs.Refusals.{number_in};
 
+use crate::order::Rounds;
 use grammar::Refusal;
 use visits::Nodes;
 
@@ -19,14 +20,11 @@ pub fn check(image: &[u8]) -> Result<(), Refusal>
 {
     lawful::check(image)?;
     let nodes = Nodes::of(image);
-    let places = order::round_order(image);
-    let order = &places[..nodes.count];
-    let known = outcomes::outcome_sets(&nodes, order);
-    if !outcomes::stars_consume(&nodes, &known) {
-        return Err(Refusal::StarBodies);
-    }
-    let formed = formed::formed_nodes(&nodes, order, &known);
-    if !formed::all_formed(&nodes, &formed) {
+    let places = order::round_order(&nodes);
+    let rounds = Rounds::over(&nodes, &places);
+    let known = rounds.star_sets()?;
+    let formed = rounds.formed_nodes(&known);
+    if !rounds.all_formed(&formed) {
         return Err(Refusal::WellFormed);
     }
     Ok(())
