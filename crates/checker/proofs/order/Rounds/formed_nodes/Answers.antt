@@ -72,7 +72,8 @@ rounds-smaller c =
     let lawful = c.args.self.now.all.now.lawful in
     let visits = order_visits _ _ c.args.self.now.downward in
     let made = turn_made t (omega arith) in
-    let more = round_marks img c.args.known.now _ lawful.counts lawful.words c.requires visits c.rounds.invariant.0 made c.if-not-added.false in
+    let sound = c.rounds.invariant.0 in
+    let more = round_marks img c.args.known.now _ lawful.counts lawful.words c.requires visits sound made c.if-not-added.false in
     omega (arith, marks_bound img c.loop-node.formed t.good)
 
 pub rounds-preserved : goal.rounds-preserved

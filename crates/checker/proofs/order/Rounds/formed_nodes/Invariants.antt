@@ -7,10 +7,13 @@ use Prim.Native.Nat.{◌-◌}
 use Rattle.checker.proofs.order.Rounds.formed_nodes.Given as goal
 
 abbrev pub invariant-loop-node : goal.invariant-loop-node
-invariant-loop-node l = Turned (join_at l.self.all.now.image.now l.known) marks (SoundMarks l.self.all.now.image.now) l.self.order.now l.initial.formed l.formed l.node-index l.added
+invariant-loop-node l =
+    Turned (join_at l.self.all.now.image.now l.known) marks (SoundMarks l.self.all.now.image.now) l.self.order.now
+    l.initial.formed l.formed l.node-index l.added
 
 abbrev pub invariant-rounds : goal.invariant-rounds
-invariant-rounds l = SoundMarks l.self.all.now.image.now l.formed × Reached (join_at l.self.all.now.image.now l.known) l.self.order.now no_marks l.formed
+invariant-rounds l =
+    SoundMarks l.self.all.now.image.now l.formed × Reached (join_at l.self.all.now.image.now l.known) l.self.order.now no_marks l.formed
 
 abbrev pub decreases-rounds : goal.decreases-rounds
 decreases-rounds l = nodes l.self.all.now.image.now - marks l.formed

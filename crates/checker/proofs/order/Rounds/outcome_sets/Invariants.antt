@@ -7,7 +7,8 @@ use Prim.Native.Nat.{◌*◌, ◌-◌}
 use Rattle.checker.proofs.order.Rounds.outcome_sets.Given as goal
 
 abbrev pub invariant-rounds : goal.invariant-rounds
-invariant-rounds l = Sound l.self.all.now.image.now l.known × Reached (gather_at l.self.all.now.image.now) l.self.order.now no_outcomes l.known
+invariant-rounds l =
+    Sound l.self.all.now.image.now l.known × Reached (gather_at l.self.all.now.image.now) l.self.order.now no_outcomes l.known
 
 abbrev pub decreases-rounds : goal.decreases-rounds
 decreases-rounds l = 3 * nodes l.self.all.now.image.now - weight l.known
