@@ -1,13 +1,9 @@
-// The outcome sets of all nodes, and question 6: "Does every star's body lack outcome 0?" There is no heap: 1,024 is the most nodes.
-ghost use Rattle.std.specs.Prelude.{◌<◌, ◌≡◌, ◌↔◌, IsTrue};
-ghost use Rattle.grammar.specs.Image.{node, nodes};
-ghost use Rattle.grammar.specs.Questions.{Question6};
+// The outcome sets of all nodes. There is no heap: 1,024 is the most nodes.
+ghost use Rattle.std.specs.Prelude.{◌≡◌};
 ghost use Rattle.rounds.specs.Visits.{gather_at};
-ghost use Rattle.rounds.specs.Number.{star_test};
-ghost use Rattle.rounds.specs.Rounds.{round, RoundMade, Sound, outcome_sets, Outcomes};
+ghost use Rattle.rounds.specs.Rounds.{round, RoundMade, Sound, outcome_sets};
 
 use crate::order::Rounds;
-use grammar::Node;
 use visits::sets;
 
 impl Rounds<'_> {
@@ -44,24 +40,5 @@ impl Rounds<'_> {
             }
         }
         known
-    }
-
-    // Whether node n, if it is a star, has a body that lacks outcome 0 in these sets.
-    fn star_consumes(&self, known: &[u8; 1024], n: usize) -> bool
-        requires { n < nodes self.now.all.now.image.now }
-        ensures { result ≡ star_test known.now (node self.now.all.now.image.now n) }
-    {
-        match image::node(self.all.image, n) {
-            Node::Star(a) => !sets::has_empty(known[a]),
-            _ => true,
-        }
-    }
-
-    // Question 6, asked of every node.
-    pub fn stars_consume(&self, known: &[u8; 1024]) -> bool
-        requires { Outcomes self.now.all.now.image.now known.now }
-        ensures { IsTrue result ↔ Question6 self.now.all.now.image.now }
-    {
-        (0..self.all.count).all(|n| self.star_consumes(known, n))
     }
 }

@@ -1,31 +1,37 @@
-use Rattle.std.proofs.Common.{ℕ, ◌≡◌, List, true, refl}
+use mathlib.Core.Bool.{Bool, true, false, not, true≢false}
+use mathlib.Core.Path.{◌≡◌, refl, sym, ap, ◌∙◌}
 use mathlib.Core.Logic.{inl}
-use Rattle.grammar.specs.declared.node.Node.{Node}
-use Rattle.grammar.specs.declared.node.Node.TheVariants.{Empty, Text, Sequence, Choice, Star, NotPredicate, Call, Unlawful}
+use Rattle.grammar.proofs.References.{refers}
+use Rattle.grammar.specs.Outcomes.{matches_empty}
 use Rattle.lawful.proofs.InRange.{one_below}
-use Rattle.rounds.specs.Number.{star_test}
+use Rattle.rounds.specs.Rounds.{StarConsumes}
+use Rattle.std.proofs.Common.{IsTrue}
+use Rattle.grammar.specs.Image.{node}
+use Rattle.grammar.specs.declared.node.Node.TheVariants.{Star}
 use Rattle.checker.proofs.order.Rounds.star_consumes.Goals as goal
-
--- What is no star passes.
-no_star : (known : List ℕ) (m : Node) → ((a : ℕ) → m ≡ Star a → ⊥) → true ≡ star_test known m
-unfolding star_test
-no_star known Empty other = refl
-no_star known (Text t) other = refl
-no_star known (Sequence a b) other = refl
-no_star known (Choice a b) other = refl
-no_star known (Star a) other = absurd (other a refl)
-no_star known (NotPredicate a) other = refl
-no_star known (Call r) other = refl
-no_star known Unlawful other = refl
 
 pub bounds-known-a : goal.bounds-known-a
 bounds-known-a c =
     let all = c.args.self.now.all.now in
-    one_below all.image.now all.lawful.counts all.lawful.words c.args.n c.requires (inl (rw c.node.ensures at c.in-Star.is))
+    one_below all.image.now all.lawful.counts all.lawful.words c.args.n c.requires.1 (inl (rw c.node.ensures at c.in-Star.is))
 
+-- A star's body lacks outcome 0 exactly where its set does.
 pub returns-in-Star : goal.returns-in-Star
-unfolding star_test
-returns-in-Star c = let is = rw c.node.ensures at c.in-Star.is in rw (is, c.has_empty.ensures) refl
+returns-in-Star c = (yes, no c.has_empty.result refl)
+  where
+    is : node c.args.self.now.all.now.image.now c.args.n ≡ Star c.in-Star.a
+    is = rw c.node.ensures at c.in-Star.is
 
-pub returns-in_default : goal.returns-in_default
-returns-in_default c = rw c.node.ensures at (no_star c.args.known.now c.node.result c.in_default.not-Star)
+    yes : IsTrue (not c.has_empty.result) → StarConsumes c.args.self.now.all.now.image.now c.args.n
+    yes t =
+        record {
+          lacks_0 = λ b e h.
+              let child = rw is at (refers c.args.self.now.all.now.image.now c.args.self.now.all.now.lawful.words c.args.n c.requires.1) in
+              let same : b ≡ c.in-Star.a = cc (e, is) in
+              let has = c.has_empty.ensures ∙ c.requires.0.all c.in-Star.a matches_empty child (rw same at h) in
+              true≢false (sym (rw has at t));
+        }
+
+    no : (b : Bool) → c.has_empty.result ≡ b → StarConsumes c.args.self.now.all.now.image.now c.args.n → IsTrue (not c.has_empty.result)
+    no false e s = ap not e
+    no true e s = absurd (s.lacks_0 c.in-Star.a is (c.requires.0.only c.in-Star.a matches_empty (sym c.has_empty.ensures ∙ e)))
