@@ -5,8 +5,9 @@
 ghost use Rattle.grammar.specs.Questions.{Checked};
 ghost use Rattle.grammar.specs.Refusals.{number_in};
 
+use crate::order::Rounds;
 use grammar::Refusal;
-use visits::{Nodes, table};
+use visits::Nodes;
 
 mod formed;
 mod order;
@@ -18,16 +19,12 @@ pub fn check(image: &[u8]) -> Result<(), Refusal>
     ensures { Checked image.now (number_in result) }
 {
     lawful::check(image)?;
-    let table = table::set_table();
-    let nodes = Nodes::of(image, &table);
-    let places = order::round_order(image);
-    let order = &places[..nodes.count];
-    let known = outcomes::outcome_sets(&nodes, order);
-    if !outcomes::stars_consume(&nodes, &known) {
-        return Err(Refusal::StarBodies);
-    }
-    let formed = formed::formed_nodes(&nodes, order, &known);
-    if !formed::all_formed(&nodes, &formed) {
+    let nodes = Nodes::of(image);
+    let places = order::round_order(&nodes);
+    let rounds = Rounds::over(&nodes, &places);
+    let known = rounds.star_sets()?;
+    let formed = rounds.formed_nodes(&known);
+    if !rounds.all_formed(&formed) {
         return Err(Refusal::WellFormed);
     }
     Ok(())

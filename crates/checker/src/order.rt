@@ -1,9 +1,10 @@
-// The order in which a round visits the nodes. Children stand above their parents, so from the highest node down a round learns a
-// whole tree at once. There is no heap: 1,024 is the most nodes.
+// What the rounds go over: the nodes, and the order in which a round visits them. Children stand above their parents, so from the highest
+// node down a round learns a whole tree at once. There is no heap: 1,024 is the most nodes.
 ghost use Rattle.std.specs.Prelude.{◌≤◌, ◌≡◌, length, take};
 ghost use Rattle.grammar.specs.Image.{nodes};
-ghost use Rattle.grammar.specs.Questions.{Question2};
 ghost use Rattle.rounds.specs.Order.{descending};
+
+use visits::Nodes;
 
 // As many nodes as there are places, from the highest down to 0.
 fn count_down(places: &mut [u16])
@@ -17,12 +18,31 @@ fn count_down(places: &mut [u16])
 }
 
 // The nodes from the highest down to 0.
-pub fn round_order(image: &[u8]) -> [u16; 1024]
-    requires { Question2 image.now }
-    ensures { take (nodes image.now) result ≡ descending (nodes image.now) }
+pub fn round_order(all: &Nodes<'_>) -> [u16; 1024]
+    ensures { take (nodes all.now.image.now) result ≡ descending (nodes all.now.image.now) }
 {
-    let header = image::header_of(image);
     let mut order = [0u16; 1024];
-    count_down(&mut order[..header.nodes]);
+    count_down(&mut order[..all.count]);
     order
+}
+
+// The nodes, and all their numbers from the highest down. The modules `outcomes` and `formed` make the rounds.
+#[derive(Drop)]
+pub struct Rounds<'a> {
+    pub all: &'a Nodes<'a>,
+    pub order: &'a [u16],
+    ghost downward: { order.now ≡ descending (nodes all.now.image.now) },
+}
+
+impl<'a> Rounds<'a> {
+    // The rounds over the nodes, whose numbers stand first in the places.
+    pub fn over(all: &'a Nodes<'a>, places: &'a [u16; 1024]) -> Rounds<'a>
+        requires { take (nodes all.now.image.now) places.now ≡ descending (nodes all.now.image.now) }
+        ensures { result.all.now.image.now ≡ all.now.image.now }
+    {
+        Rounds {
+            all,
+            order: &places[..all.count],
+        }
+    }
 }

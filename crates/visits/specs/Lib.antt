@@ -1,2 +1,2 @@
--- What the functions of a visit promise: the nodes' words as a visit reads them, and the table of outcome sets by kind.
+-- What the functions of a visit promise: the outcome sets of a node by its kind.
 pub mod Sets

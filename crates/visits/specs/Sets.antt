@@ -1,14 +1,10 @@
--- The table of outcome sets by kind.
-use Rattle.std.specs.Prelude.{ℕ, ◌<◌, ◌≡◌, List, [], ◌∷◌, get_or}
+-- The outcome sets of a node by its kind.
+use Rattle.std.specs.Prelude.{ℕ, ◌<◌, List, [], ◌∷◌, get_or}
 use Rattle.rounds.specs.Sets.{then_set, else_set, star_set, not_set}
 
 -- The outcomes of a node of kind 0 to 7 from the sets a of its A and b of its B. Those of a call are its root's, here b.
 unfoldable pub set_of_kind : (kind a b : ℕ) → ℕ
 set_of_kind kind a b = get_or (1 ∷ 6 ∷ 6 ∷ then_set a b ∷ else_set a b ∷ star_set a ∷ not_set a ∷ b ∷ []) kind 0
-
--- A table of them: for each kind a row for each set of B, with a column for each set of A.
-pub record SetTable (table : List (List (List ℕ))) : Type 0 where
-  pub entry : (kind a b : ℕ) → kind < 8 → a < 8 → b < 8 → get_or (get_or (get_or table kind []) b []) a 0 ≡ set_of_kind kind a b
 
 -- Every entry is a set.
 abbrev pub OnlySets : List ℕ → Type 0

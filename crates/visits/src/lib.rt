@@ -4,6 +4,6 @@
 
 mod nodes;
 pub mod sets;
-pub mod table;
+mod table;
 
 pub use nodes::Nodes;

@@ -4,29 +4,26 @@ ghost use Rattle.grammar.specs.Image.{node, nodes};
 ghost use Rattle.grammar.specs.Questions.{Lawful};
 ghost use Rattle.image.specs.Linked.{LinkedWords, Linked};
 ghost use Rattle.rounds.specs.Visits.{gathered, formed_from};
-ghost use Rattle.visits.specs.Sets.{SetTable, OnlySets};
+ghost use Rattle.visits.specs.Sets.{OnlySets};
 
 use crate::{sets, table};
 use grammar::{Node, NodeFields};
 
-// The image with its nodes' words, in which a call's B is the root of its rule, and the outcome sets by kind. There is no
-// heap: 1,024 is the most nodes.
+// The image with its nodes' words, in which a call's B is the root of its rule. There is no heap: 1,024 is the most nodes.
 #[derive(Drop)]
 pub struct Nodes<'a> {
     pub image: &'a [u8],
     pub count: usize,
     words: [u32; 1024],
-    table: &'a [[[u8; 8]; 8]; 8],
     ghost lawful: { Lawful image.now },
     ghost counted: { count ≡ nodes image.now },
-    ghost tabled: { SetTable table.now },
     ghost linked: { LinkedWords image.now words },
 }
 
 impl<'a> Nodes<'a> {
     // The nodes of an image.
-    pub fn of(image: &'a [u8], table: &'a [[[u8; 8]; 8]; 8]) -> Nodes<'a>
-        requires { Lawful image.now × SetTable table.now }
+    pub fn of(image: &'a [u8]) -> Nodes<'a>
+        requires { Lawful image.now }
         ensures { result.image.now ≡ image.now }
     {
         let header = image::header_of(image);
@@ -36,7 +33,6 @@ impl<'a> Nodes<'a> {
             image,
             count: header.nodes,
             words,
-            table,
         }
     }
 
@@ -54,7 +50,7 @@ impl<'a> Nodes<'a> {
         ensures { result ≡ gathered self.now.image.now known.now (node self.now.image.now n) }
     {
         let fields = self.fields(n);
-        table::set_of_kind(self.table, fields.kind, known[fields.a], known[fields.b])
+        table::set_of_kind(fields.kind, known[fields.a], known[fields.b])
     }
 
     // Whether node n joins the well-formed set, given its outcome sets and the nodes found well formed so far.

@@ -1,5 +1,5 @@
-// Outcome sets as numbers: 1 for "matches nothing long", 2 for "consumes", 4 for "fails", added up. A set is the place of its row and
-// column in the tables.
+// Outcome sets as numbers: 1 for "matches nothing long", 2 for "consumes", 4 for "fails", added up. They stay numbers, since rounds' own
+// definitions have them so (rounds/specs/Sets.antt) and a set is the place of its row and column in the tables.
 ghost use Rattle.std.specs.Prelude.{◌<◌, ◌≡◌};
 ghost use Rattle.grammar.specs.Outcomes.{matches_empty};
 ghost use Rattle.rounds.specs.Sets.{bit, union};

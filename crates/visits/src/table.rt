@@ -1,7 +1,7 @@
 // The outcome sets of a node by its kind, from the sets of its A and B: a visit looks one entry up. With a branch by
 // kind the check of the worst-order image missed its bar (docs/BENCHMARKS.md).
 ghost use Rattle.std.specs.Prelude.{◌<◌, ◌≡◌};
-ghost use Rattle.visits.specs.Sets.{set_of_kind, SetTable};
+ghost use Rattle.visits.specs.Sets.{set_of_kind};
 
 // In each table the row is the set of B and the column the set of A.
 const EMPTY: [[u8; 8]; 8] = [[1; 8]; 8];
@@ -44,16 +44,12 @@ const CALL: [[u8; 8]; 8] = [
 ];
 
 // All of them, by kind.
-pub fn set_table() -> [[[u8; 8]; 8]; 8]
-    ensures { SetTable result }
-{
-    [EMPTY, BYTE, BYTE, THEN, ELSE, STAR, NOT, CALL]
-}
+static SETS: [[[u8; 8]; 8]; 8] = [EMPTY, BYTE, BYTE, THEN, ELSE, STAR, NOT, CALL];
 
 // The set of a node of a kind whose A and B have these sets.
-pub fn set_of_kind(table: &[[[u8; 8]; 8]; 8], kind: usize, a: u8, b: u8) -> u8
-    requires { SetTable table.now × (kind < 8) × (a < 8) × (b < 8) }
+pub fn set_of_kind(kind: usize, a: u8, b: u8) -> u8
+    requires { (kind < 8) × (a < 8) × (b < 8) }
     ensures { result ≡ set_of_kind kind a b }
 {
-    table[kind][usize::from(b)][usize::from(a)]
+    SETS[kind][usize::from(b)][usize::from(a)]
 }

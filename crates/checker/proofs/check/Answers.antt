@@ -1,27 +1,24 @@
-use Rattle.rounds.proofs.Stars.{in_order, order_visits, sets_are_least, nodes_are_formed}
+use mathlib.Core.Path.{◌≡◌, sym, subst}
+use mathlib.Core.List.{List}
+use Prim.Native.Nat.{ℕ}
+use Rattle.grammar.specs.Questions.{Lawful}
+use Rattle.rounds.specs.Number.{sets_of}
+use Rattle.rounds.specs.Rounds.{Outcomes}
+use Rattle.rounds.proofs.Number.{least_sets}
+use Rattle.rounds.proofs.Stars.{nodes_are_formed}
 use Rattle.checker.proofs.check.Goals as goal
 
--- The order that the rounds go in, of the image as the nodes have it.
-pub outcome_sets-known-requires : goal.outcome_sets-known-requires
-outcome_sets-known-requires c =
-    let all = c.of-nodes.result in
-    let ordered = in_order c.round_order-places.result all.counted c.of-nodes.ensures c.round_order-places.ensures in
-    order_visits _ _ ordered
-
-pub stars_consume-requires : goal.stars_consume-requires
-stars_consume-requires c =
-    let all = c.of-nodes.result in
-    let ordered = in_order c.round_order-places.result all.counted c.of-nodes.ensures c.round_order-places.ensures in
-    sets_are_least _ _ ordered all.lawful c.outcome_sets-known.ensures
+-- The sets that `star_sets` answers are the least.
+least : {img known : List ℕ} → Lawful img → known ≡ sets_of img → Outcomes img known
+least {img} l k = subst (Outcomes img) (sym k) (least_sets img l.counts l.words)
 
 pub formed_nodes-formed-requires : goal.formed_nodes-formed-requires
 formed_nodes-formed-requires c =
-    let all = c.of-nodes.result in
-    let ordered = in_order c.round_order-places.result all.counted c.of-nodes.ensures c.round_order-places.ensures in
-    (order_visits _ _ ordered, sets_are_least _ _ ordered all.lawful c.outcome_sets-known.ensures)
+    let rounds = c.over-rounds.result in
+    least rounds.all.now.lawful (rw c.in_ok-known.was at c.star_sets.ensures.sets)
 
 pub all_formed-requires : goal.all_formed-requires
 all_formed-requires c =
-    let all = c.of-nodes.result in
-    let ordered = in_order c.round_order-places.result all.counted c.of-nodes.ensures c.round_order-places.ensures in
-    nodes_are_formed _ _ ordered all.lawful (sets_are_least _ _ ordered all.lawful c.outcome_sets-known.ensures) c.formed_nodes-formed.ensures
+    let rounds = c.over-rounds.result in
+    let sets = least rounds.all.now.lawful (rw c.in_ok-known.was at c.star_sets.ensures.sets) in
+    nodes_are_formed _ _ rounds.downward rounds.all.now.lawful sets c.formed_nodes-formed.ensures

@@ -4,10 +4,11 @@ use Rattle.grammar.specs.Image.{nodes}
 use Rattle.rounds.proofs.OutcomeRounds.{weight}
 use Rattle.rounds.proofs.Turns.{Reached}
 use Prim.Native.Nat.{◌*◌, ◌-◌}
-use Rattle.checker.proofs.outcomes.outcome_sets.Given as goal
+use Rattle.checker.proofs.order.Rounds.outcome_sets.Given as goal
 
 abbrev pub invariant-rounds : goal.invariant-rounds
-invariant-rounds l = Sound l.all.image.now l.known × Reached (gather_at l.all.image.now) l.order no_outcomes l.known
+invariant-rounds l =
+    Sound l.self.all.now.image.now l.known × Reached (gather_at l.self.all.now.image.now) l.self.order.now no_outcomes l.known
 
 abbrev pub decreases-rounds : goal.decreases-rounds
-decreases-rounds l = 3 * nodes l.all.image.now - weight l.known
+decreases-rounds l = 3 * nodes l.self.all.now.image.now - weight l.known

@@ -1,8 +1,0 @@
-use Rattle.rounds.specs.Visits.{gather_at}
-use Rattle.rounds.specs.Rounds.{Sound}
-use Rattle.rounds.proofs.OutcomeRounds.{weight}
-use Rattle.rounds.proofs.Turns.{Turned}
-use Rattle.checker.proofs.outcomes.outcome_round.Given as goal
-
-abbrev pub invariant-loop-node : goal.invariant-loop-node
-invariant-loop-node l = Turned (gather_at l.all.image.now) weight (Sound l.all.image.now) l.order l.initial.known l.known l.node-index l.added
