@@ -10,7 +10,7 @@ ghost use Rattle.grammar.specs.declared.node.Node.TheVariants.{Sequence, Choice,
 ghost use Rattle.evaluator.specs.Runs.{node_run, word_run, kind_run, rule_run, Ready, Kept, Gives};
 
 use grammar::{Node, Refusal};
-use loaded::LoadedGrammar;
+use loaded::{Body, LoadedGrammar};
 use memo::Pair;
 use records::Record;
 
@@ -66,7 +66,7 @@ impl<'a, 't> Run<'a, 't> {
             Node::Choice(a, b) => self.eval_choice(a, b, at, left - 1),
             Node::Star(a) => self.eval_star(a, at, left - 1),
             Node::NotPredicate(a) => self.eval_not(a, at, left - 1),
-            Node::Call(rule) => self.eval_call(rule, fields.b, at, left - 1),
+            Node::Call(rule) => self.eval_call(Body { rule, root: fields.b }, at, left - 1),
             Node::Unlawful => Err(Refusal::Words),
         }
     }
@@ -140,37 +140,25 @@ impl<'a, 't> Run<'a, 't> {
 
     // A call of a rule.
     #[cycle(eval)]
-    fn eval_call(
-        &mut self,
-        rule: usize,
-        root: usize,
-        at: usize,
-        left: usize,
-    ) -> Result<u64, Refusal>
-        requires { Ready self.old at (left + 1) × (rule < 4096) × (root < 4096) }
+    fn eval_call(&mut self, body: Body, at: usize, left: usize) -> Result<u64, Refusal>
+        requires { Ready self.old at (left + 1) }
         ensures kept { Kept self.old self.new }
-        ensures gives { Gives self.old at (left + 1) (kind_run self.old left root (Call rule)) result self.new }
+        ensures gives { Gives self.old at (left + 1) (kind_run self.old left body.root (Call body.rule)) result self.new }
     {
-        let x = self.eval_rule(rule, root, at, left)?;
+        let x = self.eval_rule(body, at, left)?;
         Ok(answers::taken_over(x))
     }
 
-    // A rule, whose body has that root, at a position: its pair is looked up before its body is evaluated.
+    // A rule at a position: its pair is looked up before its body is evaluated.
     #[cycle(eval)]
-    fn eval_rule(
-        &mut self,
-        rule: usize,
-        root: usize,
-        at: usize,
-        left: usize,
-    ) -> Result<u64, Refusal>
-        requires { Ready self.old at left × (rule < 4096) × (root < 4096) }
+    fn eval_rule(&mut self, body: Body, at: usize, left: usize) -> Result<u64, Refusal>
+        requires { Ready self.old at left }
         ensures kept { Kept self.old self.new }
-        ensures gives { Gives self.old at left (rule_run self.old left root rule) result self.new }
+        ensures gives { Gives self.old at left (rule_run self.old left body.root body.rule) result self.new }
     {
         let pair = Pair {
             rules: self.grammar.rules,
-            rule,
+            rule: body.rule,
             position: at,
         };
         let table = &mut *self.table;
@@ -184,7 +172,7 @@ impl<'a, 't> Run<'a, 't> {
             }
             return Ok(held.word());
         }
-        let value = self.eval_node(root, at, left)?;
+        let value = self.eval_node(body.root, at, left)?;
         pair.put(self.table, value);
         self.count = self.count.wrapping_add(1);
         Ok(value)

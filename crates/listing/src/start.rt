@@ -17,9 +17,5 @@ pub fn list_over(
     ensures { ListedOver image.now text.now table.now rows.old result rows.new }
 {
     let grammar = loaded::load(image);
-    let header = image::header_of(image);
-    let start = header.start;
-    let body = image::rule_at(image, start);
-    let root = body.root;
-    list::list_in(&grammar, text, table, rows, start, root)
+    list::list_in(&grammar, text, table, rows)
 }
