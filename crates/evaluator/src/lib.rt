@@ -1,8 +1,8 @@
 // The evaluator, for sessions and for the plain reading, which lends it an empty table: "Nodes call rules and rules evaluate nodes, in
 // turn." A method for each kind that has something inside stands between the two. `left` is the remaining allowance of nesting: it
 // falls by one from a node to what is evaluated inside it, and not from a rule to its body. An answer is a record word, or a refusal.
-// Each method asks that a node's and a rule's number are below 4,096 and no type has that bound: the numbers come from a `Node`, where they
-// are plain numbers, as in every definition over nodes.
+// Each method asks that a node's number is below 4,096 and no type has that bound: the numbers come from a `Node`, where they are plain
+// numbers, as in every definition over nodes. A rule comes with its body's root, in a `Body`, whose numbers have the bound.
 #![tactic(auto)]
 
 ghost use Rattle.std.specs.Prelude.{◌+◌, ◌-◌, ◌<◌};
@@ -66,7 +66,13 @@ impl<'a, 't> Run<'a, 't> {
             Node::Choice(a, b) => self.eval_choice(a, b, at, left - 1),
             Node::Star(a) => self.eval_star(a, at, left - 1),
             Node::NotPredicate(a) => self.eval_not(a, at, left - 1),
-            Node::Call(rule) => self.eval_call(Body { rule, root: fields.b }, at, left - 1),
+            Node::Call(rule) => {
+                let body = Body {
+                    rule,
+                    root: fields.b,
+                };
+                self.eval_call(body, at, left - 1)
+            }
             Node::Unlawful => Err(Refusal::Words),
         }
     }

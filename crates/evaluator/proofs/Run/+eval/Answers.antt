@@ -22,16 +22,16 @@ use Rattle.evaluator.proofs.Run.+eval.Goals as goal
 
 pub eval_call-returns-in_err-x-clause-gives : goal.eval_call-returns-in_err-x-clause-gives
 eval_call-returns-in_err-x-clause-gives t c =
-    let pre = c.requires.0 in
+    let pre = c.requires in
     rw (left_with c.from_residual.ensures) (call_refused _ _ _ _ _ pre.short pre.most _ c.in_err-x.ensures.gives)
 
 pub eval_call-taken_over-requires : goal.eval_call-taken_over-requires
 eval_call-taken_over-requires t c =
-    answered c.requires.0 c.in_ok-x.ensures.gives
+    answered c.requires c.in_ok-x.ensures.gives
 
 pub eval_call-returns-clause-gives : goal.eval_call-returns-clause-gives
 eval_call-returns-clause-gives t c =
-    let pre = c.requires.0 in
+    let pre = c.requires in
     call_answered _ _ _ _ _ pre.short pre.most _ c.in_ok-x.ensures.gives c.taken_over.ensures
 
 pub eval_choice-returns-in_err-x-clause-gives : goal.eval_choice-returns-in_err-x-clause-gives
@@ -161,13 +161,13 @@ eval_rule-returns-then-is_held-clause-gives t c =
 
 pub eval_rule-returns-in_err-value-clause-gives : goal.eval_rule-returns-in_err-value-clause-gives
 eval_rule-returns-in_err-value-clause-gives t c =
-    let pre = c.requires.0 in
+    let pre = c.requires in
     rw (left_with c.from_residual.ensures)
     (rule_refused _ _ _ _ _ _ _ _ _ c.look-word.ensures pre.short pre.most (sym c.is_held.ensures ∙ c.if-is_held.false) c.in_err-value.ensures.gives)
 
 pub eval_rule-returns-clause-gives : goal.eval_rule-returns-clause-gives
 eval_rule-returns-clause-gives t c =
-    let pre = c.requires.0 in
+    let pre = c.requires in
     rw c.put.ensures
     (rule_stored _ _ _ _ _ _ _ _ _ c.look-word.ensures pre.short pre.most (sym c.is_held.ensures ∙ c.if-is_held.false) c.in_ok-value.ensures.gives)
 
@@ -240,8 +240,14 @@ eval_word-eval_not-requires t c =
 
 pub eval_word-eval_call-requires : goal.eval_word-eval_call-requires
 eval_word-eval_call-requires t c =
-    let r = inside c.args.self.now c.args.word c.requires c.node_of-fields.ensures c.from.ensures c.in-Call.is in
-    (omega (arith, c.requires.1), (r.0, r.1, omega (arith, c.node_of-fields.ensures.its_b)))
+    (omega (arith, c.requires.1), (inside c.args.self.now c.args.word c.requires c.node_of-fields.ensures c.from.ensures c.in-Call.is).0)
+
+pub eval_word-invariant_of-body : goal.eval_word-invariant_of-body
+eval_word-invariant_of-body t c =
+    record {
+      rule_fits = (inside c.args.self.now c.args.word c.requires c.node_of-fields.ensures c.from.ensures c.in-Call.is).1;
+      root_fits = omega (arith, c.node_of-fields.ensures.its_b);
+    }
 
 pub eval_word-returns-in-Empty-clause-gives : goal.eval_word-returns-in-Empty-clause-gives
 unfolding kind_m word_of
