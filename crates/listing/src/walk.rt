@@ -42,7 +42,13 @@ impl<'a> Walk<'a> {
             Node::Choice(a, b) => self.walk_choice(a, b, at, window, depth, left - 1),
             Node::Star(a) => self.walk_star(a, at, window, depth, left - 1),
             Node::NotPredicate(a) => self.walk_not(a, at, depth, left - 1),
-            Node::Call(rule) => self.walk_rule(Body { rule, root: fields.b }, at, window, depth, left - 1),
+            Node::Call(rule) => {
+                let body = Body {
+                    rule,
+                    root: fields.b,
+                };
+                self.walk_rule(body, at, window, depth, left - 1)
+            }
             // No accepted image has such a node. A walk is refused with 12, 14 or 15 alone.
             Node::Unlawful => Err(Refusal::Records),
         }
@@ -211,6 +217,7 @@ impl<'a> Walk<'a> {
     }
 
     // The walk of the start rule over the whole text: how many rows it gives.
+    #[tactic(auto, unfolding(rows::specs::Walk::start_v))]
     pub fn list(&mut self) -> Result<usize, Refusal>
         requires { self.old.count ≡ 0 }
         ensures kept { Kept self.old self.new }

@@ -66,7 +66,7 @@ module _ (img B : List ℕ) (n : ℕ) (W R : List ℕ) (known : Accepted img × 
               let same : sheet_reading (length text) z count ≡ x = cc (e, is, ap (answer_of (length text)) f) in
               let left : words ≡ t = words_are ∙ ap (words_of img (length B)) f in
               let there : ListedOver img text t R (Ok k) R' = subst (λ (u : List ℕ). ListedOver img text u R (Ok k) R') left w in
-              let y : Written (start_v (length R) img there.grammar text t 0 (length text)) R k R' = there.listed in
+              let y : Written (start_v (length R) there.grammar text t 0 (length text)) R k R' = there.listed in
               rw (← same, left, y.number_is, y.slots_are)
               (done (written_listed img text (length B) W R accepted lent.short fits lent.whole_table there.loaded f y.is y.fit))
           go (out (refused j) t count) f = absurd (let x : ◌≡◌ {A = ℕ} 0 1 = cc (e, is, ap (answer_of (length text)) f) in omega arith)
@@ -81,7 +81,7 @@ module _ (img B : List ℕ) (n : ℕ) (W R : List ℕ) (known : Accepted img × 
           go (out (answered z) t count) f =
               let left : words ≡ t = words_are ∙ ap (words_of img (length B)) f in
               let there : ListedOver img text t R (Err r) R' = subst (λ (u : List ℕ). ListedOver img text u R (Err r) R') left w in
-              let y : NotWritten (start_v (length R) img there.grammar text t 0 (length text)) R r R' = there.listed in
+              let y : NotWritten (start_v (length R) there.grammar text t 0 (length text)) R r R' = there.listed in
               rw (left, y.same)
               (done (stopped_listed img text (length B) W R accepted lent.short fits lent.whole_table there.loaded f y.is y.stops))
           go (out (refused j) t count) f = absurd (let x : ◌≡◌ {A = ℕ} 0 1 = cc (e, is, ap (answer_of (length text)) f) in omega arith)
