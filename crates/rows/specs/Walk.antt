@@ -7,7 +7,6 @@ use Rattle.grammar.specs.declared.refusal.Refusal.TheVariants.{Records, Nesting,
 use Rattle.std.specs.Prelude.{ℕ, zero, suc, ◌+◌, ◌%◌, Bool, true, false, not, ◌&&◌, List, [], ◌∷◌, ◌++◌, length, get_or, leb, eqb}
 use Rattle.grammar.specs.declared.node.Node.{Node}
 use Rattle.grammar.specs.declared.node.Node.TheVariants.{Empty, Text, Sequence, Choice, Star, NotPredicate, Call, Unlawful}
-use Rattle.grammar.specs.Image.{root}
 use Rattle.grammar.specs.Terminal.{terminal_at}
 use Rattle.records.specs.Slots.{slot_of}
 use Rattle.records.specs.Words.{is_held, possible, matched_of, length_of}
