@@ -5,23 +5,17 @@
 // numbers, as in every definition over nodes. A rule comes with its body's root, in a `Body`, whose numbers have the bound.
 #![tactic(auto)]
 
+mod run;
+
 ghost use Rattle.std.specs.Prelude.{◌+◌, ◌-◌, ◌<◌};
 ghost use Rattle.grammar.specs.declared.node.Node.TheVariants.{Sequence, Choice, Star, NotPredicate, Call};
 ghost use Rattle.evaluator.specs.Runs.{node_run, word_run, kind_run, rule_run, Ready, Kept, Gives};
 
 use grammar::{Node, Refusal};
-use loaded::{Body, LoadedGrammar};
+use loaded::Body;
 use memo::Pair;
 use records::Record;
-
-// A loaded grammar over a text, the table that is lent, and the number of pairs whose body was evaluated.
-#[derive(Drop)]
-pub struct Run<'a, 't> {
-    pub grammar: &'a LoadedGrammar,
-    pub text: &'a [u8],
-    pub table: &'t mut [u64],
-    pub count: u64,
-}
+pub use run::Run;
 
 impl<'a, 't> Run<'a, 't> {
     // A node at a position. A byte range without the fold bit and an ASCII character are answered here, by the first byte of the word:
