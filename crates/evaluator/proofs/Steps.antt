@@ -10,21 +10,20 @@ use Rattle.grammar.proofs.Nodes.{Few, few}
 use Rattle.image.specs.Fields.{SameFields}
 use Rattle.records.specs.Words.{word_of, value_of, nesting_of}
 use Rattle.packrat.specs.Model.{Out}
-use Rattle.packrat.specs.Gives as packrat
 use Rattle.packrat.specs.Gives.{Gives}
 use Rattle.packrat.proofs.Runs.{nesting_allowed, says_itself}
-use Rattle.evaluator.specs.declared.Run.{Run}
+use Rattle.evaluator.specs.declared.run.Run.{Run}
 use Rattle.evaluator.specs.Runs.{node_run, Ready, Kept}
 
 -- An answered word says its evaluation and nothing else, and its nesting is allowed.
 pub answered :
-    {text : List ℕ} {at next left r d : ℕ} {o : Out} {u : List ℕ}
-    → packrat.Ready text at (left + 1)
-    → Gives (length text) next left o (Ok r) u d
+    {p : Run} {at next left r d : ℕ} {o : Out} {u : List ℕ}
+    → Ready p at (left + 1)
+    → Gives (length p.text.now) next left o (Ok r) u d
     → (r ≡ word_of (value_of r)) × (nesting_of r ≤ 4096)
-answered ready g =
+answered {p} ready g =
     let most = ready.most in
-    (says_itself ready.short (omega arith) g, omega (arith, nesting_allowed ready.short (omega arith) g))
+    (says_itself p.short (omega arith) g, omega (arith, nesting_allowed p.short (omega arith) g))
 
 -- What a step gives over the run that it finds, it gives over the run before.
 pub before :
@@ -43,7 +42,7 @@ pub ready_after :
     (p q : Run) {at next left : ℕ} → Kept p q → Ready p at (left + 1) → next ≤ length p.text.now → Ready q next left
 ready_after p q kept ready here =
     let most = ready.most in
-    record { short = rw kept.2 ready.short; here = rw kept.2 here; most = omega arith }
+    record { here = rw kept.2 here; most = omega arith }
 
 -- What a word's node has inside is evaluated with an allowance that is one less.
 pub inside :
@@ -57,6 +56,6 @@ inside p word {f = f} pre same e is =
     let ready = pre.0 in
     let some = pre.1 in
     let most = ready.most in (
-      record { short = ready.short; here = ready.here; most = omega arith },
+      record { here = ready.here; most = omega arith },
       few f (omega (arith, same.its_a)) (omega (arith, same.its_b)) (sym e ∙ is),
     )

@@ -1,6 +1,6 @@
 -- A word that stands for a terminal: its answer is the terminal's, and table and count stay; and the words that are told by their first
 -- byte. Assumes nothing.
-use Rattle.std.proofs.Common.{Ok, ◌≡◌, ℕ, ◌-◌, ◌/◌, ◌^◌, ◌<◌, List, length, refl, ◌∙◌, arith}
+use Rattle.std.proofs.Common.{Ok, ◌≡◌, ℕ, ◌-◌, ◌/◌, ◌^◌, ◌≤◌, ◌<◌, List, length, refl, ◌∙◌, arith}
 use Rattle.grammar.specs.declared.node.NodeFields.{NodeFields}
 use Rattle.grammar.specs.declared.node.Terminal.{Terminal}
 use Rattle.grammar.specs.declared.node.Node.TheVariants.{Text}
@@ -17,24 +17,24 @@ use Rattle.packrat.specs.Model.{kind_m}
 use Rattle.loaded.specs.declared.form.LoadedGrammar.{LoadedGrammar}
 use Rattle.loaded.specs.Loaded.{word_node}
 use Rattle.packrat.specs.Loaded.{word_m}
-use Rattle.packrat.specs.Gives.{Ready, Gives}
+use Rattle.packrat.specs.Gives.{Gives}
 use Rattle.packrat.proofs.Gives.{gives_value}
 use Rattle.packrat.proofs.Rules.{word_goes}
 use Rattle.packrat.proofs.LoadedRuns.{word_is}
 
 pub terminal_goes :
     (g : LoadedGrammar) (text : List ℕ) (left w at : ℕ) (table : List ℕ) (count : ℕ) {t : Terminal} {r : ℕ}
-    → Ready text at left
+    → at ≤ length text
     → 0 < left
     → word_node w ≡ Text t
     → r ≡ word_of (terminal_at t text at)
     → Gives (length text) at left (word_m g text (left - 1) w at table count) (Ok r) table count
 unfolding kind_m
-terminal_goes g text left w at table count {t} ready some is e =
-    let s = shape t text at ready.here in
+terminal_goes g text left w at table count {t} here some is e =
+    let s = shape t text at here in
     word_goes g text left w at table count (λ z. omega arith) is
     (gives_value (terminal_at t text at) refl e
-    (terminal_within t text at ready.here)
+    (terminal_within t text at here)
     (omega (arith, s.flat)))
 
 -- The words that are answered by their first byte: any,

@@ -1,11 +1,11 @@
 -- A run of the evaluator: the evaluator's function over what a run has, and what each method may assume, keeps and gives.
-use Rattle.std.specs.Prelude.{ℕ, ◌≡◌, List, length, Result}
+use Rattle.std.specs.Prelude.{ℕ, ◌≤◌, ◌≡◌, List, length, Result}
 use Rattle.grammar.specs.declared.node.Node.{Node}
 use Rattle.grammar.specs.declared.refusal.Refusal.{Refusal}
 use Rattle.packrat.specs.Model.{Out, Evaluator, pair_m}
 use Rattle.packrat.specs.Loaded.{node_w, word_m, kind_w}
 use Rattle.packrat.specs.Gives as packrat
-use Rattle.evaluator.specs.declared.Run.{Run}
+use Rattle.evaluator.specs.declared.run.Run.{Run}
 
 -- What a run evaluates with an allowance of nesting: nodes by their number, a word, what a node has inside, a rule with that root.
 module _ (p : Run) (left : ℕ) where
@@ -21,9 +21,10 @@ module _ (p : Run) (left : ℕ) where
   abbrev pub rule_run : (root : ℕ) → Evaluator
   rule_run root = pair_m p.grammar.now.rules root p.text.now node_run left
 
--- What a method may assume: a text that is short enough, a position in it, an allowance.
-abbrev pub Ready : (p : Run) (at left : ℕ) → Type 0
-Ready p at left = packrat.Ready p.text.now at left
+-- What a method may assume: a position in the text, an allowance.
+pub record Ready (p : Run) (at left : ℕ) : Type 0 where
+  pub here : at ≤ length p.text.now
+  pub most : left ≤ 4096
 
 -- What a method keeps: which table is lent, the grammar and the text.
 abbrev pub Kept : (before after : Run) → Type 0

@@ -1,27 +1,21 @@
 // The evaluator, for sessions and for the plain reading, which lends it an empty table: "Nodes call rules and rules evaluate nodes, in
 // turn." A method for each kind that has something inside stands between the two. `left` is the remaining allowance of nesting: it falls
 // by one from a node to what is evaluated inside it, and not from a rule to its body. An answer is a record word, or a refusal. Each
-// method asks that a node's and a rule's number are below 4,096 and no type has that bound: the numbers come from a `Node`, where they
-// are plain numbers, as in every definition over nodes.
+// method asks that a node's number is below 4,096: a type with that bound would stand in `Node`, and so in every definition over nodes,
+// and each index would take the number out of it again. A rule comes with its body's root, in a `Body`, whose numbers have the bound.
 #![tactic(auto)]
+
+mod run;
 
 ghost use Rattle.std.specs.Prelude.{◌+◌, ◌-◌, ◌<◌};
 ghost use Rattle.grammar.specs.declared.node.Node.TheVariants.{Sequence, Choice, Star, NotPredicate, Call};
 ghost use Rattle.evaluator.specs.Runs.{node_run, word_run, kind_run, rule_run, Ready, Kept, Gives};
 
 use grammar::{Node, Refusal};
-use loaded::LoadedGrammar;
+use loaded::Body;
 use memo::Pair;
 use records::Record;
-
-// A loaded grammar over a text, the table that is lent, and the number of pairs whose body was evaluated.
-#[derive(Drop)]
-pub struct Run<'a, 't> {
-    pub grammar: &'a LoadedGrammar,
-    pub text: &'a [u8],
-    pub table: &'t mut [u64],
-    pub count: u64,
-}
+pub use run::Run;
 
 impl<'a, 't> Run<'a, 't> {
     // A node at a position. A byte range without the fold bit and an ASCII character are answered here, by the first byte of the word:
@@ -66,7 +60,13 @@ impl<'a, 't> Run<'a, 't> {
             Node::Choice(a, b) => self.eval_choice(a, b, at, left - 1),
             Node::Star(a) => self.eval_star(a, at, left - 1),
             Node::NotPredicate(a) => self.eval_not(a, at, left - 1),
-            Node::Call(rule) => self.eval_call(rule, fields.b, at, left - 1),
+            Node::Call(rule) => {
+                let body = Body {
+                    rule,
+                    root: fields.b,
+                };
+                self.eval_call(body, at, left - 1)
+            }
             Node::Unlawful => Err(Refusal::Words),
         }
     }
@@ -140,37 +140,25 @@ impl<'a, 't> Run<'a, 't> {
 
     // A call of a rule.
     #[cycle(eval)]
-    fn eval_call(
-        &mut self,
-        rule: usize,
-        root: usize,
-        at: usize,
-        left: usize,
-    ) -> Result<u64, Refusal>
-        requires { Ready self.old at (left + 1) × (rule < 4096) × (root < 4096) }
+    fn eval_call(&mut self, body: Body, at: usize, left: usize) -> Result<u64, Refusal>
+        requires { Ready self.old at (left + 1) }
         ensures kept { Kept self.old self.new }
-        ensures gives { Gives self.old at (left + 1) (kind_run self.old left root (Call rule)) result self.new }
+        ensures gives { Gives self.old at (left + 1) (kind_run self.old left body.root (Call body.rule)) result self.new }
     {
-        let x = self.eval_rule(rule, root, at, left)?;
+        let x = self.eval_rule(body, at, left)?;
         Ok(answers::taken_over(x))
     }
 
-    // A rule, whose body has that root, at a position: its pair is looked up before its body is evaluated.
+    // A rule at a position: its pair is looked up before its body is evaluated.
     #[cycle(eval)]
-    fn eval_rule(
-        &mut self,
-        rule: usize,
-        root: usize,
-        at: usize,
-        left: usize,
-    ) -> Result<u64, Refusal>
-        requires { Ready self.old at left × (rule < 4096) × (root < 4096) }
+    fn eval_rule(&mut self, body: Body, at: usize, left: usize) -> Result<u64, Refusal>
+        requires { Ready self.old at left }
         ensures kept { Kept self.old self.new }
-        ensures gives { Gives self.old at left (rule_run self.old left root rule) result self.new }
+        ensures gives { Gives self.old at left (rule_run self.old left body.root body.rule) result self.new }
     {
         let pair = Pair {
             rules: self.grammar.rules,
-            rule,
+            rule: body.rule,
             position: at,
         };
         let table = &mut *self.table;
@@ -184,7 +172,7 @@ impl<'a, 't> Run<'a, 't> {
             }
             return Ok(held.word());
         }
-        let value = self.eval_node(root, at, left)?;
+        let value = self.eval_node(body.root, at, left)?;
         pair.put(self.table, value);
         self.count = self.count.wrapping_add(1);
         Ok(value)

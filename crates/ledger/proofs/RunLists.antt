@@ -11,13 +11,13 @@ use lib.ListN.{length, take, drop, replicate, length-replicate}
 use lib.Dec.{eqb}
 use lib.Seq.{take_at, length-take-le}
 use Rattle.grammar.specs.declared.Evaluation.{Evaluation}
-use Rattle.grammar.specs.Image.{rules, start, root}
+use Rattle.grammar.specs.Image.{rules}
 use Rattle.grammar.specs.Questions.{First, Accepted}
 use Rattle.packrat.specs.Model.{answered, refused, Out, out}
 use Rattle.packrat.specs.Session.{start_run}
-use Rattle.rows.specs.Walk.{Walked, walked, stopped, Trail, trail, node_v, start_v}
+use Rattle.rows.specs.Walk.{Walked, walked, stopped, Trail, trail, start_v}
 use Rattle.rows.specs.Bounds.{Bounded, May}
-use Rattle.rows.proofs.Bounds.{node_bounded, pair_bounded}
+use Rattle.rows.proofs.Bounds.{start_bounded}
 use Rattle.editing.specs.Table.{cleared_table}
 use Rattle.promises.specs.Answers.{ListAnswer, sheet_reading}
 use Rattle.promises.specs.declared.SheetReading.{SheetReading}
@@ -32,7 +32,7 @@ use Rattle.promises.proofs.SheetLists.{refused_listed, written_listed, stopped_l
 
 -- The walk over the words that its reading left, its reply, and the words that are left then.
 abbrev pub walk_over : (slots : ℕ) (img text words : List ℕ) → Trail
-walk_over slots img text words = start_v slots img (loaded_grammar img) text words 0 (length text)
+walk_over slots img text words = start_v slots (loaded_grammar img) text words 0 (length text)
 
 abbrev pub walk_reply : SheetReading → Trail → Reply
 walk_reply x (trail (walked m l c) rows) = lists (Ok (record { reading = x; rows = length rows })) rows
@@ -107,13 +107,8 @@ module _ (img B : List ℕ) (n : ℕ) (W : List ℕ) (good : First (of_sheet img
     run-linked :
         (o : Out) → start_run img (take n B) W 0 ≡ o
         → ALink (list_reply n (length R) img (take n B) o) (list_words (length B) (length R) img (take n B) o)
-    unfolding start_v
     run-linked (out (answered z) words count) e =
-        walk-linked e
-        (pair_bounded (rules img) (root img (start img)) (length R) (take n B) words
-        (node_v (length R) (loaded_grammar img) (take n B) words 4096)
-        (node_bounded (length R) (loaded_grammar img) (take n B) words 4096) (start img) 0 0 (length (take n B)) 0 0 (omega arith)
-        (omega arith))
+        walk-linked e (start_bounded (length R) (loaded_grammar img) (take n B) words 0 (length (take n B)))
     run-linked (out (refused k) words count) e =
         linked
         (refused_listed img (take n B) (length B) W R passed.0 passed.1.short text_fits passed.1.whole_table

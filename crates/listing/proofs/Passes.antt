@@ -7,9 +7,7 @@ use mathlib.Core.List.{List, ◌++◌}
 use lib.ListN.{length, drop}
 use lib.Seq.{sets-eq}
 use Rattle.grammar.specs.declared.refusal.Refusal.{Refusal}
-use Rattle.loaded.specs.declared.form.LoadedGrammar.{LoadedGrammar}
-use Rattle.rows.specs.Walk.{Walked, walked, stopped, Trail, trail, node_v, rule_v}
-use Rattle.rows.proofs.Bounds.{node_bounded, pair_bounded}
+use Rattle.rows.specs.Walk.{Walked, walked, stopped, Trail, trail}
 use Rattle.rows.specs.Bounds.{Stops, Bounded}
 use Rattle.listing.specs.Gives.{coded, Gives}
 use Rattle.listing.specs.Listed.{counted, Passed, NotWritten, ListedAs}
@@ -27,14 +25,6 @@ pass_counted {l = l} {l' = l'} {d = d} {o = o} {x = x} b g i = go g.answer g.is 
         let same : d ≡ k = omega (arith, t.0.counted, g.counted) in
         record { answer = walked m len k; words = g.words; is = is; given_is = ap Ok same; written = g.written }
     go (stopped k) is given = absurd (let z : ◌≡◌ {A = ℕ} 0 1 = cc in omega arith)
-
--- The walk of a pass ends in its bounds.
-pub pass_bounded :
-    (room : ℕ) (g : LoadedGrammar) (text table : List ℕ) (root start : ℕ)
-    → Bounded (length text) room 0 0 (rule_v room g text table 4096 root start 0 0 (length text) 0 0)
-pass_bounded room g text table root start =
-    pair_bounded g.rules root room text table (node_v room g text table 4096) (node_bounded room g text table 4096) start 0 0
-    (length text) 0 0 (omega arith) (omega arith)
 
 abbrev answer_of : Trail → Walked
 answer_of (trail a ws) = a

@@ -4,7 +4,7 @@ use Rattle.std.specs.Prelude.{ℕ, ◌+◌, ◌≤◌, ◌≡◌, Bool, true, fa
 use Rattle.std.proofs.lemmas.List.Edits.{sets}
 use Rattle.grammar.specs.declared.Evaluation.{Evaluation}
 use Rattle.grammar.specs.declared.node.Node.{Node}
-use Rattle.rows.specs.Walk.{Walked, walked, stopped, Trail, trail, Walker, part_v, node_v, rule_v, inside_v}
+use Rattle.rows.specs.Walk.{Walked, walked, stopped, Trail, trail, Walker, part_v, node_v, rule_v, inside_v, start_v}
 use Rattle.listing.specs.declared.slots.Window.{Window}
 use Rattle.listing.specs.declared.state.Walk.{Walk}
 
@@ -38,6 +38,10 @@ parts_of w left = part_v (length w.text.now) (nodes_of w left)
 
 abbrev pub rules_of : Walk → (left root : ℕ) → Walker
 rules_of w left root = rule_v w.room w.grammar.now w.text.now w.table.now left root
+
+-- The walk of the start pair over the whole text.
+abbrev pub start_of : Walk → Trail
+start_of w = start_v w.room w.grammar.now w.text.now w.table.now 0 (length w.text.now)
 
 abbrev pub inside_of : Walk → (left root : ℕ) → Node → (at lo hi around count : ℕ) → Trail
 inside_of w left root m = inside_v w.room w.grammar.now w.text.now w.table.now left root m

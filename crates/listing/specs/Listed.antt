@@ -3,10 +3,9 @@
 use Rattle.grammar.specs.declared.refusal.Refusal.{Refusal}
 use Rattle.std.specs.Prelude.{ℕ, ◌≤◌, ◌≡◌, Bool, List, ◌++◌, length, drop, Result, Ok, Err}
 use Rattle.std.proofs.lemmas.List.Edits.{sets}
-use Rattle.grammar.specs.Image.{start, root}
 use Rattle.loaded.specs.declared.form.LoadedGrammar.{LoadedGrammar}
 use Rattle.loaded.specs.Loaded.{Loaded}
-use Rattle.rows.specs.Walk.{Walked, walked, stopped, Trail, trail, rule_v}
+use Rattle.rows.specs.Walk.{Walked, walked, stopped, Trail, trail, start_v}
 use Rattle.rows.specs.Bounds.{Stops}
 
 -- How many rows a walk gave, or its refusal.
@@ -42,12 +41,11 @@ ListedAs o slots (Ok m) left = Written o slots m left
 ListedAs o slots (Err r) left = NotWritten o slots r left
 
 -- The window (0, n) of the whole text.
-abbrev pub ListedIn : (g : LoadedGrammar) (text table : List ℕ) (start root : ℕ) (slots : List ℕ) → Result ℕ Refusal → List ℕ → Type 0
-ListedIn g text table start root slots r left =
-    ListedAs (rule_v (length slots) g text table 4096 root start 0 0 (length text) 0 0) slots r left
+abbrev pub ListedIn : (g : LoadedGrammar) (text table : List ℕ) (slots : List ℕ) → Result ℕ Refusal → List ℕ → Type 0
+ListedIn g text table slots r left = ListedAs (start_v (length slots) g text table 0 (length text)) slots r left
 
 -- The start pair of an image, by a grammar that was loaded from it.
 pub record ListedOver (img text table slots : List ℕ) (r : Result ℕ Refusal) (left : List ℕ) : Type 0 where
   pub grammar : LoadedGrammar
   pub loaded : Loaded img grammar
-  pub listed : ListedIn grammar text table (start img) (root img (start img)) slots r left
+  pub listed : ListedIn grammar text table slots r left

@@ -1,23 +1,20 @@
 // The rows of a start pair over records: counted first, and written only where they fit.
-ghost use Rattle.std.specs.Prelude.{◌≤◌, ◌<◌, length};
+ghost use Rattle.std.specs.Prelude.{◌≤◌, length};
 ghost use Rattle.listing.specs.Listed.{ListedIn};
 
 use crate::state::Walk;
 use grammar::Refusal;
 use loaded::LoadedGrammar;
 
-// "Counting ends at the first row too many". The start rule has that number and its body that root. Text, table and slots come one by one,
-// as C lends them.
+// "Counting ends at the first row too many". Text, table and slots come one by one, as C lends them.
 pub fn list_in(
     grammar: &LoadedGrammar,
     text: &[u8],
     table: &[u64],
     rows: &mut [u64],
-    start: usize,
-    root: usize,
 ) -> Result<usize, Refusal>
-    requires { (length text.now ≤ 65535) × (start < 4096) × (root < 4096) }
-    ensures { ListedIn grammar.now text.now table.now start root rows.old result rows.new }
+    requires { length text.now ≤ 65535 }
+    ensures { ListedIn grammar.now text.now table.now rows.old result rows.new }
 {
     let room = rows.len();
     let mut counting = Walk {
@@ -28,7 +25,7 @@ pub fn list_in(
         count: 0,
         room,
     };
-    counting.list(start, root)?;
+    counting.list()?;
     let mut writing = Walk {
         grammar,
         text,
@@ -37,5 +34,5 @@ pub fn list_in(
         count: 0,
         room,
     };
-    writing.list(start, root)
+    writing.list()
 }

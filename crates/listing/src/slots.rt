@@ -48,7 +48,6 @@ pub struct Window {
 impl Window {
     // The window past a text, which touches nothing.
     pub fn past(text: &[u8]) -> Window
-        requires { length text.now ≤ 65535 }
         ensures { result ≡ record { lo = length text.now + 1; hi = 0 } }
     {
         Window {

@@ -1,6 +1,6 @@
 // The rows of the text over the records that a reading left, by an image.
 ghost use Rattle.std.specs.Prelude.{◌≤◌, length};
-ghost use Rattle.grammar.specs.Questions.{Accepted};
+ghost use Rattle.grammar.specs.Questions.{Lawful};
 ghost use Rattle.listing.specs.Listed.{ListedOver};
 
 use crate::list;
@@ -13,13 +13,9 @@ pub fn list_over(
     table: &[u64],
     rows: &mut [u64],
 ) -> Result<usize, Refusal>
-    requires { Accepted image.now × (length text.now ≤ 65535) }
+    requires { Lawful image.now × (length text.now ≤ 65535) }
     ensures { ListedOver image.now text.now table.now rows.old result rows.new }
 {
     let grammar = loaded::load(image);
-    let header = image::header_of(image);
-    let start = header.start;
-    let body = image::rule_at(image, start);
-    let root = body.root;
-    list::list_in(&grammar, text, table, rows, start, root)
+    list::list_in(&grammar, text, table, rows)
 }

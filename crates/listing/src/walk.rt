@@ -1,17 +1,18 @@
 // The walk that lists rows. "the calls that made the match, parents first, left to right": a call is entered where its record says
 // that it matched and the window touches it. `left` is the remaining allowance of nesting, as in a reading. A step answers with the length
 // of a match, or none for a failure. A listing of nesting 4,096 fits in a thread of 2 MiB. A step takes window, depth and allowance one by
-// one: in a struct of three they cost a listing 1.18 of the time and 1.34 of the stack. It asks that a number is below 4,096 as the
-// evaluator's methods do.
+// one: in a struct of three they cost a listing 1.18 of the time and 1.34 of the stack. It asks that a node's number is below 4,096
+// as the evaluator's methods do.
 ghost use Rattle.std.specs.Prelude.{◌+◌, ◌<◌, ◌≡◌, length};
 ghost use Rattle.grammar.specs.declared.node.Node.TheVariants.{Sequence, Choice, Star, NotPredicate};
-ghost use Rattle.listing.specs.Gives.{Steady, Kept, Walks, nodes_of, parts_of, rules_of, inside_of, nowhere};
+ghost use Rattle.listing.specs.Gives.{Steady, Kept, Walks, nodes_of, parts_of, rules_of, start_of, inside_of, nowhere};
 ghost use Rattle.listing.specs.Listed.{Passed};
 
 use crate::bytes;
 use crate::slots::{Row, Window};
 use crate::state::Walk;
 use grammar::{Node, Refusal};
+use loaded::Body;
 use memo::Pair;
 use records::Record;
 
@@ -41,7 +42,13 @@ impl<'a> Walk<'a> {
             Node::Choice(a, b) => self.walk_choice(a, b, at, window, depth, left - 1),
             Node::Star(a) => self.walk_star(a, at, window, depth, left - 1),
             Node::NotPredicate(a) => self.walk_not(a, at, depth, left - 1),
-            Node::Call(rule) => self.walk_rule(rule, fields.b, at, window, depth, left - 1),
+            Node::Call(rule) => {
+                let body = Body {
+                    rule,
+                    root: fields.b,
+                };
+                self.walk_rule(body, at, window, depth, left - 1)
+            }
             // No accepted image has such a node. A walk is refused with 12, 14 or 15 alone.
             Node::Unlawful => Err(Refusal::Records),
         }
@@ -160,24 +167,23 @@ impl<'a> Walk<'a> {
         self.walk_node(a, at, window, depth, left)
     }
 
-    // A rule at a position: its record, its row, and the rows of its body, which has that root.
+    // A rule at a position: its record, its row, and the rows of its body.
     #[cycle(walk)]
     fn walk_rule(
         &mut self,
-        rule: usize,
-        root: usize,
+        body: Body,
         at: usize,
         window: Window,
         depth: usize,
         left: usize,
     ) -> Result<Option<usize>, Refusal>
-        requires { Steady self.old.text.now at depth (left + 1) × (rule < 4096) × (root < 4096) }
+        requires { Steady self.old.text.now at depth (left + 1) }
         ensures kept { Kept self.old self.new }
-        ensures gives { Walks self.old result self.new (rules_of self.old left root rule) at window depth }
+        ensures gives { Walks self.old result self.new (rules_of self.old left body.root body.rule) at window depth }
     {
         let pair = Pair {
             rules: self.grammar.rules,
-            rule,
+            rule: body.rule,
             position: at,
         };
         let word = pair.look(self.table);
@@ -198,7 +204,7 @@ impl<'a> Walk<'a> {
             return Err(Refusal::Rows);
         }
         let row = Row {
-            rule,
+            rule: body.rule,
             depth,
             start: at,
             length,
@@ -206,21 +212,22 @@ impl<'a> Walk<'a> {
         // Past the slots nothing is stored, so counting lends none.
         buffers::store(self.rows, self.count, u64::from(row));
         self.count += 1;
-        self.walk_node(root, at, window, depth + 1, left)?;
+        self.walk_node(body.root, at, window, depth + 1, left)?;
         Ok(Some(length))
     }
 
-    // The walk of the start rule, whose body has that root, over the whole text: how many rows it gives.
-    pub fn list(&mut self, start: usize, root: usize) -> Result<usize, Refusal>
-        requires { (self.old.count ≡ 0) × (start < 4096) × (root < 4096) }
+    // The walk of the start rule over the whole text: how many rows it gives.
+    #[tactic(auto, unfolding(rows::specs::Walk::start_v))]
+    pub fn list(&mut self) -> Result<usize, Refusal>
+        requires { self.old.count ≡ 0 }
         ensures kept { Kept self.old self.new }
-        ensures passed { Passed self.old.rows.now result self.new.rows.now (rules_of self.old 4096 root start 0 0 (length self.old.text.now) 0 0) }
+        ensures passed { Passed self.old.rows.now result self.new.rows.now (start_of self.old) }
     {
         let window = Window {
             lo: 0,
             hi: self.text.len(),
         };
-        self.walk_rule(start, root, 0, window, 0, Record::MAX_NESTING)?;
+        self.walk_rule(self.grammar.start, 0, window, 0, Record::MAX_NESTING)?;
         Ok(self.count)
     }
 }

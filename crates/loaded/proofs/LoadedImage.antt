@@ -5,7 +5,7 @@ use native.Mathlib.Omega.{arith}
 use mathlib.Core.Path.{◌≡◌, refl, subst}
 use mathlib.Core.List.{List, [], ◌∷◌}
 use lib.ListN.{get_or}
-use Rattle.grammar.specs.Image.{rules}
+use Rattle.grammar.specs.Image.{rules, start, root}
 use Rattle.grammar.specs.Questions.{Lawful}
 use Rattle.image.specs.Linked.{linked_word}
 use Rattle.loaded.specs.declared.form.LoadedGrammar.{LoadedGrammar}
@@ -17,13 +17,34 @@ pub few_rules : (img : List ℕ) → rules img < 256
 unfolding rules
 few_rules img = omega arith
 
+-- The number of a rule has 8 bits, and a root 12.
+pub rule_fits : (img : List ℕ) → start img < 4096
+unfolding start
+rule_fits img = omega arith
+
+pub root_fits : (img : List ℕ) (r : ℕ) → root img r < 4096
+unfolding root
+root_fits img r = omega arith
+
 -- So many words from node i on.
 unfoldable pub words_from : (img : List ℕ) (many i : ℕ) → List ℕ
 words_from img zero i = []
 words_from img (suc m) i = linked_word img i ∷ words_from img m (suc i)
 
 abbrev pub loaded_grammar : (img : List ℕ) → LoadedGrammar
-loaded_grammar img = record { words = words_from img 4096 0; rules = rules img; few_rules = few_rules img }
+loaded_grammar img =
+    record {
+      words = words_from img 4096 0;
+      rules = rules img;
+      start =
+          record {
+            rule = start img;
+            root = root img (start img);
+            rule_fits = rule_fits img;
+            root_fits = root_fits img (start img);
+          };
+      few_rules = few_rules img;
+    }
 
 module _ (img : List ℕ) (lawful : Lawful img) where
   -- The words from node i on where the image has no node past those.
@@ -40,6 +61,8 @@ module _ (img : List ℕ) (lawful : Lawful img) where
   image_loaded =
       record {
         rules_are = refl;
+        start_is = refl;
+        root_is = refl;
         words_are = λ i.
             subst (λ (j : ℕ). LoadedWord img j (get_or (words_from img 4096 0) i 0)) (let e : 0 + i ≡ i = omega arith in e)
             (each_loaded 4096 0 i (omega arith));

@@ -7,7 +7,7 @@ use mathlib.Core.List.{List}
 use lib.ListN.{get_or}
 use lib.Dec.{ltb}
 use borrow.Author.Tests.{ltb-true, ltb-false}
-use Rattle.grammar.specs.Image.{node_word, fields_of, fields_at, kind, rules, nodes, root}
+use Rattle.grammar.specs.Image.{node_word, fields_of, fields_at, kind, rules, nodes, start, root}
 use Rattle.grammar.specs.Questions.{Question3}
 use Rattle.grammar.proofs.Nodes.{is_empty, kind_of_call, rule_of_call}
 use Rattle.image.specs.Linked.{linked_word, LinkedWords}
@@ -37,9 +37,17 @@ module _ (img : List ℕ) (n : ℕ) where
         root_is = λ r c. absurd (let d = kind_of_call (fields_at img n) c in omega arith);
       }
 
--- The linked words with the number of rules are the image's grammar.
-pub loaded : (img : List ℕ) (g : LoadedGrammar) → Question3 img → g.rules ≡ rules img → LinkedWords img g.words → Loaded img g
-loaded img g q3 e h = record { rules_are = e; words_are = λ k. go k (ltb k (nodes img)) refl }
+-- The linked words with the number of rules and the start rule are the image's grammar.
+pub loaded :
+    (img : List ℕ) (g : LoadedGrammar)
+    → Question3 img
+    → g.rules ≡ rules img
+    → g.start.rule ≡ start img
+    → g.start.root ≡ root img g.start.rule
+    → LinkedWords img g.words
+    → Loaded img g
+loaded img g q3 e s r h =
+    record { rules_are = e; start_is = s; root_is = r ∙ ap (root img) s; words_are = λ k. go k (ltb k (nodes img)) refl }
   where
     go : (k : ℕ) (c : Bool) → ltb k (nodes img) ≡ c → LoadedWord img k (get_or g.words k 0)
     go k true f = rw (h.word_of k (ltb-true k (nodes img) f)) (linked_loaded img k)

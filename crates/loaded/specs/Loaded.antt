@@ -1,9 +1,9 @@
--- A grammar that was read once from its image. It has the number of rules, and a word for each number that a field of 12 bits can have:
--- the linked words of the nodes. A call's field B, which is 0 in the image, is the root of the called rule.
+-- A grammar that was read once from its image. It has the number of rules, the start rule with its body's root, and a word for each number
+-- that a field of 12 bits can have: the linked words of the nodes. A call's field B, which is 0 in the image, is the root of the called rule.
 use Rattle.std.specs.Prelude.{ℕ, ◌≡◌, List, get_or}
 use Rattle.grammar.specs.declared.node.Node.{Node}
 use Rattle.grammar.specs.declared.node.Node.TheVariants.{Call}
-use Rattle.grammar.specs.Image.{fields_of, node_of, node, rules, root}
+use Rattle.grammar.specs.Image.{fields_of, node_of, node, rules, start, root}
 use Rattle.loaded.specs.declared.form.LoadedGrammar.{LoadedGrammar}
 
 -- The node that a word stands for, and its field B.
@@ -21,4 +21,6 @@ pub record LoadedWord (img : List ℕ) (i word : ℕ) : Type 0 where
 -- A loaded grammar is the image's. Past the last node the image reads as 0, and so does the loaded grammar.
 pub record Loaded (img : List ℕ) (g : LoadedGrammar) : Type 0 where
   pub rules_are : g.rules ≡ rules img
+  pub start_is : g.start.rule ≡ start img
+  pub root_is : g.start.root ≡ root img (start img)
   pub words_are : (i : ℕ) → LoadedWord img i (get_or g.words i 0)

@@ -6,7 +6,7 @@ mod form;
 ghost use Rattle.grammar.specs.Questions.{Lawful};
 ghost use Rattle.loaded.specs.Loaded.{Loaded};
 
-pub use form::LoadedGrammar;
+pub use form::{Body, LoadedGrammar};
 
 // The grammar of an image.
 pub fn load(image: &[u8]) -> LoadedGrammar
@@ -16,8 +16,13 @@ pub fn load(image: &[u8]) -> LoadedGrammar
     let mut words = [0u32; 4096];
     image::link_words(image, &mut words);
     let header = image::header_of(image);
+    let body = image::rule_at(image, header.start);
     LoadedGrammar {
         words,
         rules: header.rules,
+        start: Body {
+            rule: header.start,
+            root: body.root,
+        },
     }
 }

@@ -63,8 +63,9 @@ module _ (img text : List ℕ) {g : LoadedGrammar} (l : Loaded img g) where
 -- So is the start rule's body, which the evaluator is given as its root's word.
 pub body_given :
     (img text : List ℕ) {g : LoadedGrammar} (l : Loaded img g) (t : List ℕ) (c : ℕ) {given : Result ℕ Refusal} {d : ℕ} {u : List ℕ}
-    → Gives (length text) 0 4096 (word_m g text 4095 (get_or g.words (root img (start img)) 0) 0 t c) given u d
+    → Gives (length text) 0 4096 (word_m g text 4095 (get_or g.words g.start.root 0) 0 t c) given u d
     → BodyOver img text t c given u d
 body_given img text {g} l t c {given} {d} {u} h =
     subst (λ (o : Out). Gives (length text) 0 4096 o given u d) (loaded_run img text l 4096 (root img (start img)) 0 t c)
-    (node_goes g text 4096 (root img (start img)) 0 t c (λ e. omega arith) h)
+    (node_goes g text 4096 (root img (start img)) 0 t c (λ e. omega arith)
+    (subst (λ (ρ : ℕ). Gives (length text) 0 4096 (word_m g text 4095 (get_or g.words ρ 0) 0 t c) given u d) l.root_is h))

@@ -1,6 +1,6 @@
 -- What a function of the evaluator promises: its answer, the table and the count are the model's, and an evaluation is in its bounds.
 use Rattle.grammar.specs.declared.refusal.Refusal.{Refusal}
-use Rattle.std.specs.Prelude.{ℕ, ◌≤◌, ◌≡◌, List, length, Result, Ok, Err}
+use Rattle.std.specs.Prelude.{ℕ, ◌≤◌, ◌≡◌, List, Result, Ok, Err}
 use Rattle.grammar.specs.declared.Evaluation.{Evaluation}
 use Rattle.evaluation.specs.Within.{Within}
 use Rattle.records.specs.Words.{word_of}
@@ -19,12 +19,6 @@ pub record Allowed (n p left : ℕ) (x : Evaluation) : Type 0 where
 abbrev pub Bounded : (n p left : ℕ) → Answer → Type 0
 Bounded n p left (answered x) = Allowed n p left x
 Bounded n p left (refused r) = Unit {0}
-
--- What the evaluator may assume: a text that is short enough, a position in it, an allowance.
-pub record Ready (text : List ℕ) (at left : ℕ) : Type 0 where
-  pub short : length text ≤ 65535
-  pub here : at ≤ length text
-  pub most : left ≤ 4096
 
 pub record Gives (n at left : ℕ) (o : Out) (given : Result ℕ Refusal) (table : List ℕ) (count : ℕ) : Type 0 where
   pub answer : Answer

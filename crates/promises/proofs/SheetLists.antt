@@ -109,12 +109,12 @@ module _ (img text : List ℕ) (cap : ℕ) (W R : List ℕ) (accepted : Accepted
       -- Over a table without foreign records the walk ends as the rows say.
       walk-fits :
           NotForeign img text W → (y : Evaluation) (d : Fresh img text (a_pair (start img)) 0 y)
-          → Fits (length R) 0 y.matched y.length (row_words (rows_of d 0)) (start_v (length R) img g text words 0 (length text))
+          → Fits (length R) 0 y.matched y.length (row_words (rows_of d 0)) (start_v (length R) g text words 0 (length text))
       walk-fits f y d = go (leb y.nesting 4096) refl
         where
           go :
               (b : Bool) → leb y.nesting 4096 ≡ b
-              → Fits (length R) 0 y.matched y.length (row_words (rows_of d 0)) (start_v (length R) img g text words 0 (length text))
+              → Fits (length R) 0 y.matched y.length (row_words (rows_of d 0)) (start_v (length R) g text words 0 (length text))
           go true k =
               let deep = leb-true y.nesting 4096 k in
               let reads =
@@ -123,7 +123,7 @@ module _ (img text : List ℕ) (cap : ℕ) (W R : List ℕ) (accepted : Accepted
               let same : reads.after ≡ words = ap left_in (sym reads.is ∙ e) in
               subst
               (λ (t : List ℕ).
-              Fits (length R) 0 y.matched y.length (row_words (rows_of d 0)) (start_v (length R) img g text t 0 (length text)))
+              Fits (length R) 0 y.matched y.length (row_words (rows_of d 0)) (start_v (length R) g text t 0 (length text)))
               same
               (reading_lists img text W accepted short loaded (length R) d deep reads)
           go false k =
@@ -137,7 +137,7 @@ module _ (img text : List ℕ) (cap : ℕ) (W R : List ℕ) (accepted : Accepted
           record { reading = Ok (sheet_reading (length text) z count); words = words; reads = the-reading e; then = then }
 
       pub written_listed :
-          {m : Bool} {len c : ℕ} {rows : List ℕ} → start_v (length R) img g text words 0 (length text) ≡ trail (walked m len c) rows
+          {m : Bool} {len c : ℕ} {rows : List ℕ} → start_v (length R) g text words 0 (length text) ≡ trail (walked m len c) rows
           → length rows ≤ length R
           → SheetListed img text cap W R
           (Ok (record { reading = sheet_reading (length text) z count; rows = length rows })) words
@@ -146,7 +146,7 @@ module _ (img text : List ℕ) (cap : ℕ) (W R : List ℕ) (accepted : Accepted
           then_listed (record { ends = listed rows fit; rows_are = λ f y d. (all_written (sheet_reading (length text) z count) (walk-fits f y d) w, refl) })
 
       pub stopped_listed :
-          {k : Refusal} {rows : List ℕ} → start_v (length R) img g text words 0 (length text) ≡ trail (stopped k) rows
+          {k : Refusal} {rows : List ℕ} → start_v (length R) g text words 0 (length text) ≡ trail (stopped k) rows
           → Stops k
           → SheetListed img text cap W R (Err k) (stopped_words (eqb (number k) 15) img cap words) R
       stopped_listed w no_slot =

@@ -15,8 +15,6 @@ impl<'a, 't> StartPair<'a, 't> {
         ensures body { BodyOver self.old.image.now self.old.text.now self.old.table.now self.old.count result self.new.table.now self.new.count }
     {
         let grammar = loaded::load(self.image);
-        let header = image::header_of(self.image);
-        let body = image::rule_at(self.image, header.start);
         let table = &mut *self.table;
         let mut run = Run {
             grammar: &grammar,
@@ -24,7 +22,7 @@ impl<'a, 't> StartPair<'a, 't> {
             table,
             count: self.count,
         };
-        let answer = run.eval_word(grammar.words[body.root], 0, Record::MAX_NESTING);
+        let answer = run.eval_word(grammar.words[grammar.start.root], 0, Record::MAX_NESTING);
         self.count = run.count;
         answer
     }

@@ -1,6 +1,7 @@
 -- Over any table the walk ends, gives no more rows than fit, stays in the text, and is refused with 12, 14 or 15 if at all.
 -- Assumes nothing.
 --     node_bounded, pair_bounded    for every loaded grammar, text, table, window and number of rows before
+--     start_bounded                 the walk of the start pair, before which there is no row
 use Rattle.grammar.specs.declared.refusal.Refusal.{Refusal}
 use Prim.Native.Nat.{ℕ, zero, suc, ◌+◌, ◌%◌, ◌≤◌, ◌<◌}
 use native.Mathlib.Omega.{arith}
@@ -22,7 +23,7 @@ use Rattle.loaded.specs.Loaded.{word_b, word_node}
 use Rattle.rows.specs.Rows.{row_word}
 use Rattle.rows.specs.Window.{touches}
 use Rattle.rows.specs.Walk.{Walked, walked, stopped, Trail, trail, Walker, bind, after, after_look, part_v, joined, after_first}
-use Rattle.rows.specs.Walk.{after_choice, after_round, rounds_v, met, entered, pair_v, kind_v, node_v}
+use Rattle.rows.specs.Walk.{after_choice, after_round, rounds_v, met, entered, pair_v, kind_v, node_v, start_v}
 use Rattle.rows.specs.Bounds.{Stops, impossible, too_deep, no_slot, May, Bounded}
 
 module _ {n room : ℕ} where
@@ -224,3 +225,10 @@ node_bounded room g text table (suc left) i at lo hi k c h few =
     (pair_v g.rules (word_b (get_or g.words i 0)) room text table (node_v room g text table left)) inner
     (pair_bounded g.rules (word_b (get_or g.words i 0)) room text table (node_v room g text table left) inner)
     (word_node (get_or g.words i 0)) at lo hi k c h few
+
+pub start_bounded :
+    (room : ℕ) (g : LoadedGrammar) (text table : List ℕ) (lo hi : ℕ) → Bounded (length text) room 0 0 (start_v room g text table lo hi)
+unfolding start_v
+start_bounded room g text table lo hi =
+    pair_bounded g.rules g.start.root room text table (node_v room g text table 4096) (node_bounded room g text table 4096) g.start.rule 0
+    lo hi 0 0 (omega arith) (omega arith)

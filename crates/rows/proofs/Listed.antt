@@ -4,7 +4,7 @@
 --     reading_lists    over the table of a reading
 use Prim.Native.Nat.{ℕ, ◌+◌, ◌≤◌}
 use native.Mathlib.Omega.{arith}
-use mathlib.Core.Path.{◌≡◌, refl, sym, ap, ◌∙◌}
+use mathlib.Core.Path.{◌≡◌, refl, sym, ap, ◌∙◌, subst}
 use mathlib.Core.Bool.{Bool, true, false}
 use mathlib.Core.List.{List, [], ◌∷◌}
 use lib.ListN.{length}
@@ -28,7 +28,7 @@ use Rattle.loaded.specs.Loaded.{Loaded}
 use Rattle.packrat.specs.Model.{Out}
 use Rattle.rows.specs.Rows.{if_matched, rows_of, row_word, row_words}
 use Rattle.rows.specs.Window.{touches}
-use Rattle.rows.specs.Walk.{Trail, met, entered, node_v, start_v}
+use Rattle.rows.specs.Walk.{Trail, met, entered, node_v, rule_v, start_v}
 use Rattle.rows.specs.Fits.{Fits}
 use Rattle.rows.proofs.RowsInside.{start_rows}
 use Rattle.rows.proofs.Windows.{all_shown}
@@ -48,9 +48,15 @@ module _ (img text table : List ℕ) (accepted : Accepted img) (short : length t
     {z : Evaluation} (u : Fresh img text (a_pair (start img)) 0 z)
     (held : is_held (word_at img table (start img) 0) ≡ true) (deep : z.nesting ≤ 4096)
   where
-    pub start_lists : Fits room 0 z.matched z.length (row_words (rows_of u 0)) (start_v room img g text table 0 (length text))
+    -- The start pair that the grammar was loaded with is the image's.
+    abbrev its_walk : (rule root : ℕ) → Trail
+    its_walk rule root = rule_v room g text table 4096 root rule 0 0 (length text) 0 0
+
+    pub start_lists : Fits room 0 z.matched z.length (row_words (rows_of u 0)) (start_v room g text table 0 (length text))
     unfolding start_v met row_words
-    start_lists = go z.matched refl
+    start_lists =
+        subst (Fits room 0 z.matched z.length (row_words (rows_of u 0)))
+        (λ i. its_walk (sym loaded.start_is i) (sym loaded.root_is i)) (go z.matched refl)
       where
         inner : Trail
         inner =
@@ -58,7 +64,7 @@ module _ (img text table : List ℕ) (accepted : Accepted img) (short : length t
             (row_word (record { rule = start img; depth = 0; start = 0; length = z.length }))
             (node_v room g text table 4096 (root img (start img)) 0 0 (length text) (0 + 1)) 0
 
-        go : (b : Bool) → z.matched ≡ b → Fits room 0 z.matched z.length (row_words (rows_of u 0)) (start_v room img g text table 0 (length text))
+        go : (b : Bool) → z.matched ≡ b → Fits room 0 z.matched z.length (row_words (rows_of u 0)) (its_walk (start img) (root img (start img)))
         go true m =
             same_words (sym (all_shown (length text) (start_rows img text accepted u)))
             (same_match m
@@ -78,7 +84,7 @@ pub reading_lists :
     (img text before : List ℕ) (accepted : Accepted img) (short : length text ≤ 65535) {g : LoadedGrammar} (loaded : Loaded img g) (room : ℕ)
     {z : Evaluation} (u : Fresh img text (a_pair (start img)) 0 z) → z.nesting ≤ 4096
     → {count : ℕ} {o : Out} (reads : Reads img text before count z (bodies_of u) o)
-    → Fits room 0 z.matched z.length (row_words (rows_of u 0)) (start_v room img g text reads.after 0 (length text))
+    → Fits room 0 z.matched z.length (row_words (rows_of u 0)) (start_v room g text reads.after 0 (length text))
 reading_lists img text before accepted short loaded room u deep reads =
     start_lists img text reads.after accepted short reads.gains.true_words reads.gains.closed loaded room u held deep
   where

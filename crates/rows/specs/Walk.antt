@@ -7,7 +7,6 @@ use Rattle.grammar.specs.declared.refusal.Refusal.TheVariants.{Records, Nesting,
 use Rattle.std.specs.Prelude.{ℕ, zero, suc, ◌+◌, ◌%◌, Bool, true, false, not, ◌&&◌, List, [], ◌∷◌, ◌++◌, length, get_or, leb, eqb}
 use Rattle.grammar.specs.declared.node.Node.{Node}
 use Rattle.grammar.specs.declared.node.Node.TheVariants.{Empty, Text, Sequence, Choice, Star, NotPredicate, Call, Unlawful}
-use Rattle.grammar.specs.Image.{start, root}
 use Rattle.grammar.specs.Terminal.{terminal_at}
 use Rattle.records.specs.Slots.{slot_of}
 use Rattle.records.specs.Words.{is_held, possible, matched_of, length_of}
@@ -124,6 +123,6 @@ rule_v room g text table left root = pair_v g.rules root room text table (node_v
 abbrev pub inside_v : (room : ℕ) → (g : LoadedGrammar) (text table : List ℕ) → (left root : ℕ) → Node → (at lo hi around count : ℕ) → Trail
 inside_v room g text table left root = kind_v text (node_v room g text table left) (rule_v room g text table left root)
 
--- The start pair, with the whole allowance.
-unfoldable pub start_v : (room : ℕ) → (img : List ℕ) (g : LoadedGrammar) (text table : List ℕ) → (lo hi : ℕ) → Trail
-start_v room img g text table lo hi = rule_v room g text table 4096 (root img (start img)) (start img) 0 lo hi 0 0
+-- The start pair of a loaded grammar, with the whole allowance.
+unfoldable pub start_v : (room : ℕ) → (g : LoadedGrammar) (text table : List ℕ) → (lo hi : ℕ) → Trail
+start_v room g text table lo hi = rule_v room g text table 4096 g.start.root g.start.rule 0 lo hi 0 0

@@ -15,8 +15,7 @@ use Rattle.grammar.specs.Refusals.{number}
 use Rattle.grammar.specs.Questions.{Accepted}
 use Rattle.packrat.specs.Model.{answered, refused, Out, out}
 use Rattle.packrat.specs.Session.{start_run}
-use Rattle.rows.specs.Walk.{start_v}
-use Rattle.listing.specs.Listed.{Written, NotWritten, ListedOver}
+use Rattle.listing.specs.Listed.{ListedOver}
 use Rattle.loaded.proofs.LoadedImage.{image_loaded}
 use Rattle.promises.specs.declared.SheetReading.{SheetReading}
 use Rattle.promises.specs.Answers.{ReadAnswer, ListAnswer, sheet_reading}
@@ -58,7 +57,6 @@ module _ (img B : List ℕ) (n : ℕ) (W R : List ℕ) (known : Accepted img × 
       pub list_rows :
           {x : SheetReading} {k : ℕ} {R' : List ℕ} → reading ≡ Ok x → ListedOver img text words R (Ok k) R'
           → ListPromise img B n W R (Ok (record { reading = x; rows = k })) words R'
-      unfolding start_v
       list_rows {x} {k} {R'} e w = go (start_run img text W 0) refl
         where
           go : (o : Out) → start_run img text W 0 ≡ o → ListPromise img B n W R (Ok (record { reading = x; rows = k })) words R'
@@ -66,7 +64,7 @@ module _ (img B : List ℕ) (n : ℕ) (W R : List ℕ) (known : Accepted img × 
               let same : sheet_reading (length text) z count ≡ x = cc (e, is, ap (answer_of (length text)) f) in
               let left : words ≡ t = words_are ∙ ap (words_of img (length B)) f in
               let there : ListedOver img text t R (Ok k) R' = subst (λ (u : List ℕ). ListedOver img text u R (Ok k) R') left w in
-              let y : Written (start_v (length R) img there.grammar text t 0 (length text)) R k R' = there.listed in
+              let y = there.listed in
               rw (← same, left, y.number_is, y.slots_are)
               (done (written_listed img text (length B) W R accepted lent.short fits lent.whole_table there.loaded f y.is y.fit))
           go (out (refused j) t count) f = absurd (let x : ◌≡◌ {A = ℕ} 0 1 = cc (e, is, ap (answer_of (length text)) f) in omega arith)
@@ -74,14 +72,13 @@ module _ (img B : List ℕ) (n : ℕ) (W R : List ℕ) (known : Accepted img × 
       pub list_stopped :
           {x : SheetReading} {r : Refusal} {R' : List ℕ} → reading ≡ Ok x → ListedOver img text words R (Err r) R'
           → ListPromise img B n W R (Err r) (stopped_words (eqb (number r) 15) img (length B) words) R'
-      unfolding start_v
       list_stopped {x} {r} {R'} e w = go (start_run img text W 0) refl
         where
           go : (o : Out) → start_run img text W 0 ≡ o → ListPromise img B n W R (Err r) (stopped_words (eqb (number r) 15) img (length B) words) R'
           go (out (answered z) t count) f =
               let left : words ≡ t = words_are ∙ ap (words_of img (length B)) f in
               let there : ListedOver img text t R (Err r) R' = subst (λ (u : List ℕ). ListedOver img text u R (Err r) R') left w in
-              let y : NotWritten (start_v (length R) img there.grammar text t 0 (length text)) R r R' = there.listed in
+              let y = there.listed in
               rw (left, y.same)
               (done (stopped_listed img text (length B) W R accepted lent.short fits lent.whole_table there.loaded f y.is y.stops))
           go (out (refused j) t count) f = absurd (let x : ◌≡◌ {A = ℕ} 0 1 = cc (e, is, ap (answer_of (length text)) f) in omega arith)

@@ -3,4 +3,5 @@ use Rattle.loaded.proofs.load.Goals as goal
 
 pub returns : goal.returns
 returns c =
-    loaded c.args.image.now _ c.requires.size c.header_of-header.ensures.its_rules c.link_words.ensures
+    let header = c.header_of-header.ensures in
+    loaded c.args.image.now _ c.requires.size header.its_rules header.its_start c.rule_at-body.ensures.its_root c.link_words.ensures

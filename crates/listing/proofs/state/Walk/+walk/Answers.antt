@@ -48,7 +48,14 @@ walk_node-walk_not-requires t c =
 
 pub walk_node-walk_rule-requires : goal.walk_node-walk_rule-requires
 walk_node-walk_rule-requires t c =
-    let ne = c.if-left-eq0.false in (omega (arith, ne), (smaller c.requires.0 (omega (arith, ne)), parts_small _ c.node_of-fields.ensures c.in-Call.ensures, omega (arith, c.node_of-fields.ensures.its_b)))
+    let ne = c.if-left-eq0.false in (omega (arith, ne), smaller c.requires.0 (omega (arith, ne)))
+
+pub walk_node-invariant_of-body : goal.walk_node-invariant_of-body
+walk_node-invariant_of-body t c =
+    record {
+      rule_fits = parts_small _ c.node_of-fields.ensures c.in-Call.ensures;
+      root_fits = omega (arith, c.node_of-fields.ensures.its_b);
+    }
 
 pub walk_node-returns-in-Empty-clause-gives : goal.walk_node-returns-in-Empty-clause-gives
 walk_node-returns-in-Empty-clause-gives t c =
@@ -121,15 +128,15 @@ walk_part-returns-clause-gives t c =
 
 pub walk_rule-returns-then-not-is_held-clause-gives : goal.walk_rule-returns-then-not-is_held-clause-gives
 walk_rule-returns-then-not-is_held-clause-gives t c =
-    rule_empty c.args.self.now c.requires.0 _ _ _ _ _ c.look-word.ensures (sym c.is_held.ensures ∙ c.if-not-is_held.true)
+    rule_empty c.args.self.now c.requires _ _ _ _ _ c.look-word.ensures (sym c.is_held.ensures ∙ c.if-not-is_held.true)
 
 pub walk_rule-returns-in_default-clause-gives : goal.walk_rule-returns-in_default-clause-gives
 walk_rule-returns-in_default-clause-gives t c =
-    rule_impossible c.args.self.now c.requires.0 _ _ _ _ _ c.look-word.ensures (sym c.in_default.is ∙ c.from_word.ensures)
+    rule_impossible c.args.self.now c.requires _ _ _ _ _ c.look-word.ensures (sym c.in_default.is ∙ c.from_word.ensures)
 
 pub walk_rule-returns-then-not-held-clause-gives : goal.walk_rule-returns-then-not-held-clause-gives
 walk_rule-returns-then-not-held-clause-gives t c =
-    rule_failed c.args.self.now c.requires.0 _ _ _ _ _ c.look-word.ensures (sym c.is_held.ensures ∙ c.if-not-is_held.false) c.in-Some.ensures c.if-not-held.true
+    rule_failed c.args.self.now c.requires _ _ _ _ _ c.look-word.ensures (sym c.is_held.ensures ∙ c.if-not-is_held.false) c.in-Some.ensures c.if-not-held.true
 
 pub walk_rule-touches-requires : goal.walk_rule-touches-requires
 walk_rule-touches-requires t c =
@@ -137,19 +144,19 @@ walk_rule-touches-requires t c =
 
 pub walk_rule-returns-then-not-touches-clause-gives : goal.walk_rule-returns-then-not-touches-clause-gives
 walk_rule-returns-then-not-touches-clause-gives t c =
-    rule_missed c.args.self.now c.requires.0 _ _ _ _ _ c.look-word.ensures (sym c.is_held.ensures ∙ c.if-not-is_held.false) c.in-Some.ensures c.if-not-held.false (sym c.touches.ensures ∙ c.if-not-touches.true)
+    rule_missed c.args.self.now c.requires _ _ _ _ _ c.look-word.ensures (sym c.is_held.ensures ∙ c.if-not-is_held.false) c.in-Some.ensures c.if-not-held.false (sym c.touches.ensures ∙ c.if-not-touches.true)
 
 pub walk_rule-returns-then-self-clause-gives : goal.walk_rule-returns-then-self-clause-gives
 walk_rule-returns-then-self-clause-gives t c =
-    rule_full c.args.self.now c.requires.0 _ _ _ _ _ c.look-word.ensures (sym c.is_held.ensures ∙ c.if-not-is_held.false) c.in-Some.ensures c.if-not-held.false (sym c.touches.ensures ∙ c.if-not-touches.false) c.if-self.true
+    rule_full c.args.self.now c.requires _ _ _ _ _ c.look-word.ensures (sym c.is_held.ensures ∙ c.if-not-is_held.false) c.in-Some.ensures c.if-not-held.false (sym c.touches.ensures ∙ c.if-not-touches.false) c.if-self.true
 
 pub walk_rule-returns-in_err-walk_node-clause-gives : goal.walk_rule-returns-in_err-walk_node-clause-gives
 walk_rule-returns-in_err-walk_node-clause-gives t c =
-    rule_stops c.args.self.now c.requires.0 _ _ _ _ _ c.look-word.ensures (sym c.is_held.ensures ∙ c.if-not-is_held.false) c.in-Some.ensures c.if-not-held.false (sym c.touches.ensures ∙ c.if-not-touches.false) c.if-self.false c.from.ensures (rw c.store.ensures at c.walk_node.ensures.gives) c.in_err-walk_node.was (left_with c.from_residual.ensures)
+    rule_stops c.args.self.now c.requires _ _ _ _ _ c.look-word.ensures (sym c.is_held.ensures ∙ c.if-not-is_held.false) c.in-Some.ensures c.if-not-held.false (sym c.touches.ensures ∙ c.if-not-touches.false) c.if-self.false c.from.ensures (rw c.store.ensures at c.walk_node.ensures.gives) c.in_err-walk_node.was (left_with c.from_residual.ensures)
 
 pub walk_rule-returns-clause-gives : goal.walk_rule-returns-clause-gives
 walk_rule-returns-clause-gives t c =
-    rule_goes c.args.self.now c.requires.0 _ _ _ _ _ c.look-word.ensures (sym c.is_held.ensures ∙ c.if-not-is_held.false) c.in-Some.ensures c.if-not-held.false (sym c.touches.ensures ∙ c.if-not-touches.false) c.if-self.false c.from.ensures (rw c.store.ensures at c.walk_node.ensures.gives) c.in_ok-walk_node.was
+    rule_goes c.args.self.now c.requires _ _ _ _ _ c.look-word.ensures (sym c.is_held.ensures ∙ c.if-not-is_held.false) c.in-Some.ensures c.if-not-held.false (sym c.touches.ensures ∙ c.if-not-touches.false) c.if-self.false c.from.ensures (rw c.store.ensures at c.walk_node.ensures.gives) c.in_ok-walk_node.was
 
 pub walk_sequence-returns-in_err-x-clause-gives : goal.walk_sequence-returns-in_err-x-clause-gives
 walk_sequence-returns-in_err-x-clause-gives t c =

@@ -1,5 +1,4 @@
-use Rattle.std.proofs.Common.{rules, ◌≡◌, ℕ, List, subst, ap, ◌∙◌}
-use Rattle.grammar.specs.Image.{root, start}
+use Rattle.std.proofs.Common.{rules, ℕ, List, subst}
 use Rattle.packrat.specs.Session.{BodyOver}
 use Rattle.packrat.proofs.LoadedRuns.{body_given}
 use Rattle.reading.proofs.pair.StartPair.body.Goals as goal
@@ -8,7 +7,5 @@ pub returns-clause-body : goal.returns-clause-body
 returns-clause-body c =
     let pair = c.args.self.now in
     let answer = c.eval_word-answer in
-    let e : c.rule_at-body.result.root ≡ root pair.image.now (start pair.image.now) =
-    c.rule_at-body.ensures.its_root ∙ ap (root pair.image.now) c.header_of-header.ensures.its_start in
     subst (λ (table : List ℕ). BodyOver pair.image.now pair.text.now pair.table.now pair.count answer.result table answer.new.self.count) (search rules)
-    (body_given pair.image.now pair.text.now c.load-grammar.ensures pair.table.now pair.count (rw e at answer.ensures.gives))
+    (body_given pair.image.now pair.text.now c.load-grammar.ensures pair.table.now pair.count answer.ensures.gives)

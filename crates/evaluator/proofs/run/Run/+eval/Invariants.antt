@@ -6,7 +6,7 @@ use Rattle.std.proofs.Common.{suc, ◌+◌, ◌-◌, ◌*◌, length}
 use Rattle.packrat.proofs.Stars.{Rounds}
 use Rattle.packrat.specs.Model.{rounds_m}
 use Rattle.evaluator.specs.Runs.{Kept, node_run}
-use Rattle.evaluator.proofs.Run.+eval.Given as goal
+use Rattle.evaluator.proofs.run.Run.+eval.Given as goal
 
 abbrev pub decreases-eval_call : goal.decreases-eval_call
 decreases-eval_call l = 4 * l.left + 3

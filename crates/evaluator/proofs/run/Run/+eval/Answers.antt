@@ -18,26 +18,23 @@ use Rattle.grammar.specs.Evaluates.{empty_here}
 use Rattle.std.proofs.Common.{ℕ, ◌+◌, get_or, sym, refl, ap, ◌∙◌, arith}
 use Rattle.terminals.proofs.CharacterWords.{ascii_word}
 use Rattle.evaluator.specs.Runs.{node_run, rule_run}
-use Rattle.evaluator.proofs.Run.+eval.Goals as goal
+use Rattle.evaluator.proofs.run.Run.+eval.Goals as goal
 
 pub eval_call-returns-in_err-x-clause-gives : goal.eval_call-returns-in_err-x-clause-gives
 eval_call-returns-in_err-x-clause-gives t c =
-    let pre = c.requires.0 in
-    rw (left_with c.from_residual.ensures) (call_refused _ _ _ _ _ pre.short pre.most _ c.in_err-x.ensures.gives)
+    rw (left_with c.from_residual.ensures) (call_refused _ _ _ _ _ c.args.self.now.short c.requires.most _ c.in_err-x.ensures.gives)
 
 pub eval_call-taken_over-requires : goal.eval_call-taken_over-requires
 eval_call-taken_over-requires t c =
-    answered c.requires.0 c.in_ok-x.ensures.gives
+    answered c.requires c.in_ok-x.ensures.gives
 
 pub eval_call-returns-clause-gives : goal.eval_call-returns-clause-gives
 eval_call-returns-clause-gives t c =
-    let pre = c.requires.0 in
-    call_answered _ _ _ _ _ pre.short pre.most _ c.in_ok-x.ensures.gives c.taken_over.ensures
+    call_answered _ _ _ _ _ c.args.self.now.short c.requires.most _ c.in_ok-x.ensures.gives c.taken_over.ensures
 
 pub eval_choice-returns-in_err-x-clause-gives : goal.eval_choice-returns-in_err-x-clause-gives
 eval_choice-returns-in_err-x-clause-gives t c =
-    let pre = c.requires.0 in
-    rw (left_with c.from_residual.ensures) (choice_refused _ _ _ _ _ pre.short pre.most _ _ c.in_err-x.ensures.gives)
+    rw (left_with c.from_residual.ensures) (choice_refused _ _ _ _ _ c.args.self.now.short c.requires.0.most _ _ c.in_err-x.ensures.gives)
 
 pub eval_choice-taken_over-requires : goal.eval_choice-taken_over-requires
 eval_choice-taken_over-requires t c =
@@ -45,14 +42,12 @@ eval_choice-taken_over-requires t c =
 
 pub eval_choice-returns-then-matched_of-clause-gives : goal.eval_choice-returns-then-matched_of-clause-gives
 eval_choice-returns-then-matched_of-clause-gives t c =
-    let pre = c.requires.0 in
-    choice_first _ _ _ _ _ pre.short pre.most _ _ c.in_ok-x.ensures.gives (sym c.matched_of.ensures ∙ c.if-matched_of.true) c.taken_over.ensures
+    choice_first _ _ _ _ _ c.args.self.now.short c.requires.0.most _ _ c.in_ok-x.ensures.gives (sym c.matched_of.ensures ∙ c.if-matched_of.true) c.taken_over.ensures
 
 pub eval_choice-returns-in_err-y-clause-gives : goal.eval_choice-returns-in_err-y-clause-gives
 eval_choice-returns-in_err-y-clause-gives t c =
-    let pre = c.requires.0 in
     rw (left_with c.from_residual-in_err-y.ensures)
-    (choice_second_refused _ _ _ _ _ pre.short pre.most _ _ c.in_ok-x.ensures.gives (sym c.matched_of.ensures ∙ c.if-matched_of.false) (before c.args.self.now c.eval_node.new.self _ _ _ c.eval_node.ensures.kept refl c.in_err-y.ensures.gives))
+    (choice_second_refused _ _ _ _ _ c.args.self.now.short c.requires.0.most _ _ c.in_ok-x.ensures.gives (sym c.matched_of.ensures ∙ c.if-matched_of.false) (before c.args.self.now c.eval_node.new.self _ _ _ c.eval_node.ensures.kept refl c.in_err-y.ensures.gives))
 
 pub eval_choice-second_choice-requires : goal.eval_choice-second_choice-requires
 eval_choice-second_choice-requires t c =
@@ -60,8 +55,7 @@ eval_choice-second_choice-requires t c =
 
 pub eval_choice-returns-clause-gives : goal.eval_choice-returns-clause-gives
 eval_choice-returns-clause-gives t c =
-    let pre = c.requires.0 in
-    choice_second _ _ _ _ _ pre.short pre.most _ _ c.in_ok-x.ensures.gives (sym c.matched_of.ensures ∙ c.if-matched_of.false) (before c.args.self.now c.eval_node.new.self _ _ _ c.eval_node.ensures.kept refl c.in_ok-y.ensures.gives) c.second_choice.ensures
+    choice_second _ _ _ _ _ c.args.self.now.short c.requires.0.most _ _ c.in_ok-x.ensures.gives (sym c.matched_of.ensures ∙ c.if-matched_of.false) (before c.args.self.now c.eval_node.new.self _ _ _ c.eval_node.ensures.kept refl c.in_ok-y.ensures.gives) c.second_choice.ensures
 
 pub eval_node-returns-then-left-eq0-clause-gives : goal.eval_node-returns-then-left-eq0-clause-gives
 eval_node-returns-then-left-eq0-clause-gives t c =
@@ -72,14 +66,14 @@ eval_node-returns-then-first-eq-PLAIN_RANGE-clause-gives t c =
     let word = get_or c.args.self.now.grammar.now.words c.args.node 0 in
     let ne = c.if-left-eq0.false in
     node_goes _ _ _ _ _ _ _ ne
-    (terminal_goes _ _ _ _ _ _ _ c.requires.0 (omega (arith, ne)) (first_range word c.node_of-fields.ensures (sym c.first_byte-first.ensures ∙ c.if-first-eq-PLAIN_RANGE.true)) c.byte_between.ensures)
+    (terminal_goes _ _ _ _ _ _ _ c.requires.0.here (omega (arith, ne)) (first_range word c.node_of-fields.ensures (sym c.first_byte-first.ensures ∙ c.if-first-eq-PLAIN_RANGE.true)) c.byte_between.ensures)
 
 pub eval_node-returns-then-is_ascii-clause-gives : goal.eval_node-returns-then-is_ascii-clause-gives
 eval_node-returns-then-is_ascii-clause-gives t c =
     let word = get_or c.args.self.now.grammar.now.words c.args.node 0 in
     let ne = c.if-left-eq0.false in
     node_goes _ _ _ _ _ _ _ ne
-    (terminal_goes _ _ _ _ _ _ _ c.requires.0 (omega (arith, ne)) (first_any word (sym c.first_byte-first.ensures ∙ c.if-first-eq-ANY.true)) (ascii_word _ _ (sym c.is_ascii.ensures ∙ c.if-is_ascii.true)))
+    (terminal_goes _ _ _ _ _ _ _ c.requires.0.here (omega (arith, ne)) (first_any word (sym c.first_byte-first.ensures ∙ c.if-first-eq-ANY.true)) (ascii_word _ _ (sym c.is_ascii.ensures ∙ c.if-is_ascii.true)))
 
 pub eval_node-returns-clause-gives : goal.eval_node-returns-clause-gives
 eval_node-returns-clause-gives t c =
@@ -87,8 +81,7 @@ eval_node-returns-clause-gives t c =
 
 pub eval_not-returns-in_err-x-clause-gives : goal.eval_not-returns-in_err-x-clause-gives
 eval_not-returns-in_err-x-clause-gives t c =
-    let pre = c.requires.0 in
-    rw (left_with c.from_residual.ensures) (not_refused _ _ _ _ _ pre.short pre.most _ c.in_err-x.ensures.gives)
+    rw (left_with c.from_residual.ensures) (not_refused _ _ _ _ _ c.args.self.now.short c.requires.0.most _ c.in_err-x.ensures.gives)
 
 pub eval_not-negated_answer-requires : goal.eval_not-negated_answer-requires
 eval_not-negated_answer-requires t c =
@@ -96,13 +89,11 @@ eval_not-negated_answer-requires t c =
 
 pub eval_not-returns-clause-gives : goal.eval_not-returns-clause-gives
 eval_not-returns-clause-gives t c =
-    let pre = c.requires.0 in
-    not_answered _ _ _ _ _ pre.short pre.most _ c.in_ok-x.ensures.gives c.negated_answer.ensures
+    not_answered _ _ _ _ _ c.args.self.now.short c.requires.0.most _ c.in_ok-x.ensures.gives c.negated_answer.ensures
 
 pub eval_sequence-returns-in_err-x-clause-gives : goal.eval_sequence-returns-in_err-x-clause-gives
 eval_sequence-returns-in_err-x-clause-gives t c =
-    let pre = c.requires.0 in
-    rw (left_with c.from_residual.ensures) (sequence_refused _ _ _ _ _ pre.short pre.most _ _ c.in_err-x.ensures.gives)
+    rw (left_with c.from_residual.ensures) (sequence_refused _ _ _ _ _ c.args.self.now.short c.requires.0.most _ _ c.in_err-x.ensures.gives)
 
 pub eval_sequence-first_failed-requires : goal.eval_sequence-first_failed-requires
 eval_sequence-first_failed-requires t c =
@@ -110,35 +101,30 @@ eval_sequence-first_failed-requires t c =
 
 pub eval_sequence-returns-then-not-matched_of-clause-gives : goal.eval_sequence-returns-then-not-matched_of-clause-gives
 eval_sequence-returns-then-not-matched_of-clause-gives t c =
-    let pre = c.requires.0 in
-    sequence_failed _ _ _ _ _ pre.short pre.most _ _ c.in_ok-x.ensures.gives (sym c.matched_of.ensures ∙ c.if-not-matched_of.true) c.first_failed.ensures
+    sequence_failed _ _ _ _ _ c.args.self.now.short c.requires.0.most _ _ c.in_ok-x.ensures.gives (sym c.matched_of.ensures ∙ c.if-not-matched_of.true) c.first_failed.ensures
 
 pub eval_sequence-eval_node-requires-2 : goal.eval_sequence-eval_node-requires-2
 eval_sequence-eval_node-requires-2 t c =
-    let pre = c.requires.0 in
-    let most = pre.most in
-    let inside = length_within pre.short (omega arith) c.in_ok-x.ensures.gives in
+    let most = c.requires.0.most in
+    let inside = length_within c.args.self.now.short (omega arith) c.in_ok-x.ensures.gives in
     (omega arith, (ready_after c.args.self.now c.eval_node.new.self c.eval_node.ensures.kept c.requires.0 (omega (arith, c.length_of.ensures.0)), c.requires.2))
 
 pub eval_sequence-returns-in_err-y-clause-gives : goal.eval_sequence-returns-in_err-y-clause-gives
 eval_sequence-returns-in_err-y-clause-gives t c =
-    let pre = c.requires.0 in
     rw (left_with c.from_residual-in_err-y.ensures)
-    (sequence_second_refused _ _ _ _ _ pre.short pre.most _ _ c.in_ok-x.ensures.gives (sym c.matched_of.ensures ∙ c.if-not-matched_of.false)
+    (sequence_second_refused _ _ _ _ _ c.args.self.now.short c.requires.0.most _ _ c.in_ok-x.ensures.gives (sym c.matched_of.ensures ∙ c.if-not-matched_of.false)
     (before c.args.self.now c.eval_node.new.self _ _ _ c.eval_node.ensures.kept (ap (λ (l : ℕ). c.args.at + l) c.length_of.ensures.0) c.in_err-y.ensures.gives))
 
 pub eval_sequence-in_sequence-requires : goal.eval_sequence-in_sequence-requires
 eval_sequence-in_sequence-requires t c =
     let a = c.args in
     let run = a.self.now in
-    let pre = c.requires.0 in
-    joinable run.text.now (node_run run a.left) (rule_run run a.left a.b) run.table.now run.count pre.short pre.most a.a a.b c.in_ok-x.ensures.gives (sym c.matched_of.ensures ∙ c.if-not-matched_of.false)
+    joinable run.text.now (node_run run a.left) (rule_run run a.left a.b) run.table.now run.count run.short c.requires.0.most a.a a.b c.in_ok-x.ensures.gives (sym c.matched_of.ensures ∙ c.if-not-matched_of.false)
     (before c.args.self.now c.eval_node.new.self _ _ _ c.eval_node.ensures.kept (ap (λ (l : ℕ). c.args.at + l) c.length_of.ensures.0) c.in_ok-y.ensures.gives)
 
 pub eval_sequence-returns-clause-gives : goal.eval_sequence-returns-clause-gives
 eval_sequence-returns-clause-gives t c =
-    let pre = c.requires.0 in
-    sequence_both _ _ _ _ _ pre.short pre.most _ _ c.in_ok-x.ensures.gives (sym c.matched_of.ensures ∙ c.if-not-matched_of.false)
+    sequence_both _ _ _ _ _ c.args.self.now.short c.requires.0.most _ _ c.in_ok-x.ensures.gives (sym c.matched_of.ensures ∙ c.if-not-matched_of.false)
     (before c.args.self.now c.eval_node.new.self _ _ _ c.eval_node.ensures.kept (ap (λ (l : ℕ). c.args.at + l) c.length_of.ensures.0) c.in_ok-y.ensures.gives)
     c.in_sequence.ensures
 
@@ -161,15 +147,13 @@ eval_rule-returns-then-is_held-clause-gives t c =
 
 pub eval_rule-returns-in_err-value-clause-gives : goal.eval_rule-returns-in_err-value-clause-gives
 eval_rule-returns-in_err-value-clause-gives t c =
-    let pre = c.requires.0 in
     rw (left_with c.from_residual.ensures)
-    (rule_refused _ _ _ _ _ _ _ _ _ c.look-word.ensures pre.short pre.most (sym c.is_held.ensures ∙ c.if-is_held.false) c.in_err-value.ensures.gives)
+    (rule_refused _ _ _ _ _ _ _ _ _ c.look-word.ensures c.args.self.now.short c.requires.most (sym c.is_held.ensures ∙ c.if-is_held.false) c.in_err-value.ensures.gives)
 
 pub eval_rule-returns-clause-gives : goal.eval_rule-returns-clause-gives
 eval_rule-returns-clause-gives t c =
-    let pre = c.requires.0 in
     rw c.put.ensures
-    (rule_stored _ _ _ _ _ _ _ _ _ c.look-word.ensures pre.short pre.most (sym c.is_held.ensures ∙ c.if-is_held.false) c.in_ok-value.ensures.gives)
+    (rule_stored _ _ _ _ _ _ _ _ _ c.look-word.ensures c.args.self.now.short c.requires.most (sym c.is_held.ensures ∙ c.if-is_held.false) c.in_ok-value.ensures.gives)
 
 pub eval_star-loop-x-init : goal.eval_star-loop-x-init
 eval_star-loop-x-init t c =
@@ -178,46 +162,42 @@ eval_star-loop-x-init t c =
 pub eval_star-returns-in_err-x-clause-gives : goal.eval_star-returns-in_err-x-clause-gives
 unfolding kind_m
 eval_star-returns-in_err-x-clause-gives t c =
-    let pre = c.requires.0 in
     rw (left_with c.from_residual.ensures)
-    (gives_refusal (round_refused _ _ pre.short pre.most c.loop-x.invariant.1 (before c.args.self.now c.loop-x.self _ _ _ c.loop-x.invariant.0 refl c.in_err-x.ensures.gives)))
+    (gives_refusal (round_refused _ _ c.args.self.now.short c.requires.0.most c.loop-x.invariant.1 (before c.args.self.now c.loop-x.self _ _ _ c.loop-x.invariant.0 refl c.in_err-x.ensures.gives)))
 
 pub eval_star-answer-requires : goal.eval_star-answer-requires
 eval_star-answer-requires t c =
-    let pre = c.requires.0 in
+    let run = c.args.self.now in
+    let most = c.requires.0.most in
     let so_far = c.loop-x.invariant in
-    let b = round_bounds _ _ pre.short pre.most so_far.1 (before c.args.self.now c.loop-x.self _ _ _ so_far.0 refl c.in_ok-x.ensures.gives) in
+    let b = round_bounds _ _ run.short most so_far.1 (before run c.loop-x.self _ _ _ so_far.0 refl c.in_ok-x.ensures.gives) in
     let d = (rw c.examined_of.ensures.0 at c.max-examined.ensures) in
     let e = (rw c.nesting_of.ensures.0 at c.max-deepest.ensures) in
-    (omega (arith, b.1, pre.most), omega (arith, b.0, pre.short), omega (arith, so_far.1.in_text, pre.short))
+    (omega (arith, b.1, most), omega (arith, b.0, run.short), omega (arith, so_far.1.in_text, run.short))
 
 pub eval_star-returns-then-not-matched_of-clause-gives : goal.eval_star-returns-then-not-matched_of-clause-gives
 eval_star-returns-then-not-matched_of-clause-gives t c =
-    let pre = c.requires.0 in
     let so_far = c.loop-x.invariant in
-    round_fails _ _ pre.short pre.most so_far.1 (before c.args.self.now c.loop-x.self _ _ _ so_far.0 refl c.in_ok-x.ensures.gives) _ _ _ _ refl (sym c.matched_of.ensures ∙ c.if-not-matched_of.true) (rw c.examined_of.ensures.0 at c.max-examined.ensures) (rw c.nesting_of.ensures.0 at c.max-deepest.ensures) c.answer.ensures
+    round_fails _ _ c.args.self.now.short c.requires.0.most so_far.1 (before c.args.self.now c.loop-x.self _ _ _ so_far.0 refl c.in_ok-x.ensures.gives) _ _ _ _ refl (sym c.matched_of.ensures ∙ c.if-not-matched_of.true) (rw c.examined_of.ensures.0 at c.max-examined.ensures) (rw c.nesting_of.ensures.0 at c.max-deepest.ensures) c.answer.ensures
 
 pub eval_star-returns-then-length-eq0-clause-gives : goal.eval_star-returns-then-length-eq0-clause-gives
 unfolding kind_m
 eval_star-returns-then-length-eq0-clause-gives t c =
-    let pre = c.requires.0 in
     let so_far = c.loop-x.invariant in
-    gives_refusal (round_still _ _ pre.short pre.most so_far.1 (before c.args.self.now c.loop-x.self _ _ _ so_far.0 refl c.in_ok-x.ensures.gives) (sym c.matched_of.ensures ∙ c.if-not-matched_of.false) (sym c.length_of-length.ensures.0 ∙ c.if-length-eq0.true))
+    gives_refusal (round_still _ _ c.args.self.now.short c.requires.0.most so_far.1 (before c.args.self.now c.loop-x.self _ _ _ so_far.0 refl c.in_ok-x.ensures.gives) (sym c.matched_of.ensures ∙ c.if-not-matched_of.false) (sym c.length_of-length.ensures.0 ∙ c.if-length-eq0.true))
 
 pub eval_star-loop-x-smaller : goal.eval_star-loop-x-smaller
 eval_star-loop-x-smaller t c =
-    let pre = c.requires.0 in
-    let most = pre.most in
+    let most = c.requires.0.most in
     let ne = c.if-length-eq0.false in
-    let inside = length_within pre.short (omega arith) (before c.args.self.now c.loop-x.self _ _ _ c.loop-x.invariant.0 refl c.in_ok-x.ensures.gives) in
+    let inside = length_within c.args.self.now.short (omega arith) (before c.args.self.now c.loop-x.self _ _ _ c.loop-x.invariant.0 refl c.in_ok-x.ensures.gives) in
     omega (arith, c.length_of-length.ensures.0, ne)
 
 pub eval_star-loop-x-preserved : goal.eval_star-loop-x-preserved
 eval_star-loop-x-preserved t c =
-    let pre = c.requires.0 in
     let so_far = c.loop-x.invariant in (
       kept_on c.args.self.now c.loop-x.self c.eval_node.new.self so_far.0 c.eval_node.ensures.kept,
-      round_goes _ _ pre.short pre.most so_far.1 (before c.args.self.now c.loop-x.self _ _ _ so_far.0 refl c.in_ok-x.ensures.gives) (sym c.matched_of.ensures ∙ c.if-not-matched_of.false) (rw c.examined_of.ensures.0 at c.max-examined.ensures) (rw c.nesting_of.ensures.0 at c.max-deepest.ensures) c.length_of-length.ensures.0 c.if-length-eq0.false,
+      round_goes _ _ c.args.self.now.short c.requires.0.most so_far.1 (before c.args.self.now c.loop-x.self _ _ _ so_far.0 refl c.in_ok-x.ensures.gives) (sym c.matched_of.ensures ∙ c.if-not-matched_of.false) (rw c.examined_of.ensures.0 at c.max-examined.ensures) (rw c.nesting_of.ensures.0 at c.max-deepest.ensures) c.length_of-length.ensures.0 c.if-length-eq0.false,
     )
 
 pub eval_word-eval_sequence-requires : goal.eval_word-eval_sequence-requires
@@ -240,8 +220,14 @@ eval_word-eval_not-requires t c =
 
 pub eval_word-eval_call-requires : goal.eval_word-eval_call-requires
 eval_word-eval_call-requires t c =
-    let r = inside c.args.self.now c.args.word c.requires c.node_of-fields.ensures c.from.ensures c.in-Call.is in
-    (omega (arith, c.requires.1), (r.0, r.1, omega (arith, c.node_of-fields.ensures.its_b)))
+    (omega (arith, c.requires.1), (inside c.args.self.now c.args.word c.requires c.node_of-fields.ensures c.from.ensures c.in-Call.is).0)
+
+pub eval_word-invariant_of-body : goal.eval_word-invariant_of-body
+eval_word-invariant_of-body t c =
+    record {
+      rule_fits = (inside c.args.self.now c.args.word c.requires c.node_of-fields.ensures c.from.ensures c.in-Call.is).1;
+      root_fits = omega (arith, c.node_of-fields.ensures.its_b);
+    }
 
 pub eval_word-returns-in-Empty-clause-gives : goal.eval_word-returns-in-Empty-clause-gives
 unfolding kind_m word_of
@@ -251,7 +237,7 @@ eval_word-returns-in-Empty-clause-gives t c =
 
 pub eval_word-returns-in-Text-clause-gives : goal.eval_word-returns-in-Text-clause-gives
 eval_word-returns-in-Text-clause-gives t c =
-    terminal_goes _ _ _ _ _ _ _ c.requires.0 c.requires.1 (word_is c.args.word c.node_of-fields.ensures (sym c.from.ensures ∙ c.in-Text.is)) c.terminal.ensures
+    terminal_goes _ _ _ _ _ _ _ c.requires.0.here c.requires.1 (word_is c.args.word c.node_of-fields.ensures (sym c.from.ensures ∙ c.in-Text.is)) c.terminal.ensures
 
 pub eval_word-returns-in-Sequence-clause-gives : goal.eval_word-returns-in-Sequence-clause-gives
 unfolding kind_m
