@@ -25,31 +25,31 @@ pub const HELD: u64 = 1 << 63;
 // "matched 1"
 pub const MATCHED: u64 = 1 << 62;
 
-// Both.
+// A held word that matched.
 pub const HELD_MATCHED: u64 = HELD + MATCHED;
 
 // "zero 16"
 pub const SPARE_VALUES: usize = 1 << 16;
 
-// 1 in it.
+// 1 in the zero bits.
 pub const SPARE_UNIT: usize = 1 << 46;
 
 // "nesting 13"
 pub const NESTING_VALUES: usize = 1 << 13;
 
-// 1 in it.
+// 1 in the nesting.
 pub const NESTING_UNIT: usize = 1 << 33;
 
 // "examined 17"
 pub const EXAMINED_VALUES: usize = 1 << 17;
 
-// 1 in it.
+// 1 in the examined length.
 pub const EXAMINED_UNIT: usize = 1 << 16;
 
 // "length 16"
 pub const LENGTH_VALUES: usize = 1 << 16;
 
-// The units, to add to a word: 1 in the nesting,
+// The units as words, to add to one: 1 in the nesting,
 pub const ONE_NESTING: u64 = NESTING_UNIT as u64;
 
 // and 1 in the examined length. `as` stands in both since std has no `From<usize>` for `u64`.
