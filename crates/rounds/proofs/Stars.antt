@@ -18,15 +18,6 @@ use Rattle.rounds.proofs.FormedRounds.{formed_nodes_least}
 pub stars_passed : {img : List ℕ} → Lawful img → Question6 img → First (of_stars img) 0
 stars_passed l q = inr (l.header, inr (l.counts, inr (l.size, inr (l.words, inr (l.tree, inr (q, refl))))))
 
--- The first places of an array that has the nodes from the highest down, where count and image are known by other names.
-pub in_order :
-    {img other : List ℕ} {count : ℕ} (places : List ℕ)
-    → count ≡ nodes other
-    → other ≡ img
-    → take (nodes img) places ≡ descending (nodes img)
-    → take count places ≡ descending (nodes other)
-in_order places c o e = rw (c, o) e
-
 -- The rounds of a lawful image in the order that is from the highest node down.
 module _ (img order : List ℕ) (e : order ≡ descending (nodes img)) where
   pub order_visits : VisitsAll (nodes img) order
