@@ -3,7 +3,6 @@ use Prim.Native.Nat.{ℕ}
 use mathlib.Core.Path.{◌≡◌, refl, ap, sym, subst}
 use mathlib.Core.Bool.{Bool}
 use mathlib.Core.List.{List}
-use lib.ListN.{take}
 use mathlib.Core.Logic.{inr}
 use Rattle.grammar.specs.Image.{nodes}
 use Rattle.grammar.specs.Questions.{First, Lawful, Question6}
