@@ -3,7 +3,6 @@ ghost use Rattle.std.specs.Prelude.{◌≡◌, ◌<◌, ◌^◌};
 ghost use Rattle.grammar.specs.Image.{field};
 
 // The field of `width` bits that has `low` bits of the word below it. `as` stands here since std has no `From<u64>` for `usize`.
-#[inline(always)]
 pub fn field(word: u64, low: u32, width: u32) -> usize
     requires { (low < 64) × (width < 64) }
     ensures { (result ≡ field word low width) × (result < 2 ^ width) }

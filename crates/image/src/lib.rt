@@ -43,6 +43,7 @@ fn word16_at(bytes: &[u8], at: usize) -> u16
 }
 
 // The four bytes from a place on as a number, the first byte highest.
+// It stands beside `word16_at`: one array of N bytes for both needs a clause over its places and a proof of that. These need none.
 fn partial_word32_at(bytes: &[u8], at: usize) -> u32
     ensures { result ≡ word32 bytes.now at }
 {

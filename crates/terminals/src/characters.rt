@@ -76,8 +76,8 @@ pub fn is_ascii(text: &[u8], at: usize) -> bool
     crate::has_at(text, at, |byte| byte.is_ascii())
 }
 
-// "Kind 1 now matches one character as RFC 3629 defines it" (02, R-5). An ASCII character is told without a call: by a call for it a listing
-// took 8 % more instructions.
+// "Kind 1 now matches one character as RFC 3629 defines it" (02, R-5). An ASCII character is answered with no call: without the two hints
+// a listing takes 7 % more instructions and a reading 2 %.
 #[inline(always)]
 pub fn any_character(text: &[u8], at: usize) -> u64
     ensures { result ≡ word_of (terminal_at Any text.now at) }

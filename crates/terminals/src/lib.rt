@@ -75,7 +75,6 @@ pub fn byte_folded(text: &[u8], from: usize, to: usize, at: usize) -> u64
 }
 
 // What a terminal does at a position.
-#[inline(always)]
 pub fn terminal(text: &[u8], terminal: Terminal, at: usize) -> u64
     ensures { result ≡ word_of (terminal_at terminal text.now at) }
 {
