@@ -231,4 +231,4 @@ pub start_bounded :
 unfolding start_v
 start_bounded room g text table lo hi =
     pair_bounded g.rules g.start.root room text table (node_v room g text table 4096) (node_bounded room g text table 4096) g.start.rule 0
-    lo hi 0 0 (omega arith) (omega arith)
+    lo hi _ 0 (omega arith) (omega arith)
