@@ -1,5 +1,6 @@
--- A grammar that was read once from its image. It has the number of rules, the start rule with its body's root, and a word for each number
--- that a field of 12 bits can have: the linked words of the nodes. A call's field B, which is 0 in the image, is the root of the called rule.
+-- A grammar that was read once from its image. It has the number of rules, the start rule with its body's root, and a word for each
+-- number that a field of 12 bits can have: the linked words of the nodes. A call's field B, which is 0 in the image, is the root of the
+-- called rule.
 use Rattle.std.specs.Prelude.{ℕ, ◌≡◌, List, get_or}
 use Rattle.grammar.specs.declared.node.Node.{Node}
 use Rattle.grammar.specs.declared.node.Node.TheVariants.{Call}

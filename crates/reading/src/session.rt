@@ -22,8 +22,8 @@ fn met(word: u64, n: usize) -> Result<u64, Refusal>
 }
 
 impl<'a, 't> StartPair<'a, 't> {
-    // Its word, or a refusal; `count` goes up by the pairs that are evaluated. The steps are those of evaluator `eval_rule`: by a call of it a
-    // plain reading in the same library takes 4.5 % more instructions, a first reading 4 % (docs/DECISIONS.md, "where a reading starts").
+    // Its word, or a refusal; `count` goes up by the pairs that are evaluated. The steps are those of evaluator `eval_rule`: by a call of it
+    // a plain reading in the same library takes 4.5 % more instructions, a first reading 4 % (docs/DECISIONS.md, "where a reading starts").
     pub fn word(&mut self) -> Result<u64, Refusal>
         ensures kept { Kept self.old self.new }
         ensures word { StartOver self.old.image.now self.old.text.now self.old.table.now self.old.count result self.new.table.now self.new.count }
