@@ -48,6 +48,7 @@ pub struct NodeFields {
     pub b: usize,
 }
 
+// A match on the kind number with 8 to 15 as a range: document 01's form.
 impl From<NodeFields> for Node {
     ghost from_gives = { λ f n. n ≡ node_of f };
 

@@ -1,8 +1,8 @@
 // The walk that lists rows. "the calls that made the match, parents first, left to right": a call is entered where its record says
 // that it matched and the window touches it. `left` is the remaining allowance of nesting, as in a reading. A step answers with the length
 // of a match, or none for a failure. A listing of nesting 4,096 fits in a thread of 2 MiB. A step takes window, depth and allowance one by
-// one: in a struct of three they cost a listing 1.18 of the time and 1.34 of the stack. It asks that a node's number is below 4,096
-// as the evaluator's methods do.
+// one: each changes at another step, so a struct of the three would be made anew at each. As such they cost a listing 1.18 of the time and
+// 1.34 of the stack. A step asks that a node's number is below 4,096 as the evaluator's methods do.
 ghost use Rattle.std.specs.Prelude.{◌+◌, ◌<◌, ◌≡◌, length};
 ghost use Rattle.grammar.specs.declared.node.Node.TheVariants.{Sequence, Choice, Star, NotPredicate};
 ghost use Rattle.listing.specs.Gives.{Steady, Kept, Walks, nodes_of, parts_of, rules_of, start_of, inside_of, nowhere};

@@ -18,7 +18,8 @@ pub struct EditedSheet {
 // The answer of an edit.
 pub type EditAnswer = Result<EditedSheet, Refusal>;
 
-// "it also gives length, examined length and nesting, and in a session evaluations"
+// "it also gives length, examined length and nesting, and in a session evaluations". There is no `Reading` in it: document 01 asks for the
+// outcome inside the reading's struct with its lengths and evaluation count.
 #[derive(Clone, Copy, Debug, PartialEq, Eq)]
 pub struct SheetReading {
     pub outcome: Outcome,

@@ -1,5 +1,6 @@
 // Records: what an evaluation found, as one 64-bit word.
-// "A record is a 64-bit word: held 1, matched 1, zero 16, nesting 13, examined 17, length 16."
+// "A record is a 64-bit word: held 1, matched 1, zero 16, nesting 13, examined 17, length 16." A word is a plain number, since C lends the
+// table as words.
 #![tactic(auto)]
 
 ghost use Rattle.std.specs.Prelude.{◌<◌, ◌≡◌};

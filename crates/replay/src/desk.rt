@@ -12,7 +12,8 @@ use promises::{EditAnswer, ListAnswer, LookUpAnswer, OpenAnswer, ReadAnswer};
 use std::marker::Model;
 
 // The bytes, words and row slots that may be lent, how many of each are, and the text's length. Buffer and table keep what calls leave in
-// them, also where less of them is lent.
+// them, also where less of them is lent. There is no heap, so a length stands beside its room: a slice of that length cannot be kept beside
+// the room that it is cut from.
 #[derive(Drop)]
 pub struct Desk<'a> {
     image: &'a mut [u8],

@@ -1,5 +1,6 @@
 // The memo table in its lent words, the first rules × (cap + 1) of them. `TableLent` is a `requires` and not the invariant of a type: a
-// host lends the words as a slice for one call, and sheet passes the slice on to readings and listings too.
+// host lends the words as a slice for one call, and sheet passes the slice on to readings and listings too, so that a type would be made and
+// taken apart in each call.
 #![tactic(auto)]
 
 ghost use Rattle.std.specs.Prelude.{◌≡◌, length};

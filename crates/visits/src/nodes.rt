@@ -9,7 +9,8 @@ ghost use Rattle.visits.specs.Sets.{OnlySets};
 use crate::{sets, table};
 use grammar::{Node, NodeFields};
 
-// The image with its nodes' words, in which a call's B is the root of its rule. There is no heap: 1,024 is the most nodes.
+// The image with its nodes' words, in which a call's B is the root of its rule. There is no heap: 1,024 is the most nodes. They stay words,
+// as in a loaded grammar: decoded they would take six times the room.
 #[derive(Drop)]
 pub struct Nodes<'a> {
     pub image: &'a [u8],
@@ -44,7 +45,7 @@ impl<'a> Nodes<'a> {
         image::node_of(self.words[n])
     }
 
-    // The outcomes of node n, from the sets known so far.
+    // The outcomes of node n, from the sets known so far. The kind is a place in the table.
     pub fn outcomes(&self, known: &[u8; 1024], n: usize) -> u8
         requires { (n < nodes self.now.image.now) × OnlySets known.now }
         ensures { result ≡ gathered self.now.image.now known.now (node self.now.image.now n) }
