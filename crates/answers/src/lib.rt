@@ -10,8 +10,8 @@ ghost use Rattle.records.specs.Joinable.{Joinable};
 // The word of the empty node's evaluation: matched, nesting 1.
 pub const EMPTY_HERE: u64 = records::HELD_MATCHED + records::ONE_NESTING;
 
-// The word of an evaluation. Its fields fit, so that none loses bits. By a call of `Record::word` a first reading took 1.9 % more
-// instructions.
+// The word of an evaluation. Its fields fit, so that none loses bits. By a call of `Record::word` a plain reading took 1.9 to
+// 2.8 % more instructions. `as` stands here since std has no `From<usize>` for `u64`.
 pub fn answer(matched: bool, nesting: usize, examined: usize, length: usize) -> u64
     requires { (nesting < 8192) × (examined < 131072) × (length < 65536) }
     ensures { result ≡ word_of (record { matched = matched; length = length; examined = examined; nesting = nesting }) }

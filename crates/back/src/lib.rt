@@ -7,7 +7,8 @@ ghost use Rattle.back.specs.Back.{RowOf, Put, Carried, BackFits, Back};
 
 use records::Record;
 
-// `count` words go from `from` to `to`, the last first where they go up; those that are not held become 0. Answers how many are held.
+// `count` words go from `from` to `to`, the last first where they go up; those that are not held become 0. Answers how many are held. The
+// loop is over places: words are read and stored in one slice, which no iterator lends twice.
 fn carry_in<const UP: bool>(part: &mut [u64], from: usize, to: usize, count: usize) -> usize
     requires in_bounds { (from + count ≤ length part.old) × (to + count ≤ length part.old) }
     requires order { (UP ≡ true → from ≤ to) × (UP ≡ false → to ≤ from) }
@@ -38,7 +39,7 @@ fn carry(part: &mut [u64], from: usize, to: usize, count: usize) -> usize
     }
 }
 
-// The words of position s that stay there, "q + examined ≤ s": those that examined nothing.
+// The words of position s that stay there, "q + examined ≤ s": those that examined nothing. There is no heap: 64 is the most rules.
 fn staying_row(part: &[u64], rules: usize) -> [u64; 64]
     requires { (rules ≤ 64) × (rules ≤ length part.now) }
     ensures { RowOf part.now rules result }

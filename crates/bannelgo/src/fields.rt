@@ -1,4 +1,5 @@
-// The seven numbers that a call answers with; which they are for each case of each answer is said in specs/Fields.antt.
+// The seven numbers that a call answers with; which they are for each case of each answer is said in specs/Fields.antt. `as` stands here
+// since std has no `From<usize>` for `u64`.
 ghost use Rattle.std.specs.Prelude.{◌≡◌};
 ghost use Rattle.grammar.specs.Refusals.{number};
 ghost use Rattle.bannelgo.specs.Fields.{refusal, open_fields, edit_fields, reading_fields, read_fields, look_up_fields, list_fields};

@@ -1,5 +1,5 @@
 // What a host links: libbannelgo.a. "The image check and plain reading are exported to our Rust host." They answer one number; each
-// answer of the sheet's calls is coded as seven (fields.rt).
+// answer of the sheet's calls is coded as seven (fields.rt). What is lent comes one by one, as C lends it.
 #![tactic(auto)]
 
 pub mod fields;

@@ -6,7 +6,7 @@ ghost use Rattle.rounds.specs.Order.{descending};
 
 use visits::Nodes;
 
-// As many nodes as there are places, from the highest down to 0.
+// As many nodes as there are places, from the highest down to 0. `as` narrows what is below 1,024.
 fn count_down(places: &mut [u16])
     requires { length places.old ≤ 1024 }
     ensures { places.new ≡ descending (length places.old) }

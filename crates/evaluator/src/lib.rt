@@ -19,7 +19,7 @@ pub use run::Run;
 
 impl<'a, 't> Run<'a, 't> {
     // A node at a position. A byte range without the fold bit and an ASCII character are answered here, by the first byte of the word:
-    // measured, it saves the call that most visits would end in (02, R-5).
+    // measured, it saves the call that most visits would end in (02, R-5): without it dots took 1.10 to 1.21 of the time.
     #[cycle(eval)]
     fn eval_node(&mut self, node: usize, at: usize, left: usize) -> Result<u64, Refusal>
         requires { Ready self.old at left × (node < 4096) }

@@ -34,7 +34,7 @@ pub fn first_field(line: &[u8]) -> (&[u8], &[u8])
     }
 }
 
-// The number that a field of digits is, where it is below 2^64.
+// The number that a field of digits is, where it is below 2^64. `as` stands here since std has no `From<u32>` for `usize`.
 pub fn decimal(field: &[u8]) -> Option<usize>
     ensures { DecimalOf field.now result }
 {

@@ -108,7 +108,7 @@ pub fn node_word(image: &[u8], node: usize) -> u32
     word32_at(image, 4 + 2 * header_of(image).rules + 4 * node)
 }
 
-// The fields of a word that is a node's.
+// The fields of a word that is a node's, its kind as a number: a call's field B in a linked word, which a `Node` leaves out, is asked too.
 pub fn node_of(word: u32) -> NodeFields
     ensures { SameFields result (fields_of word) }
 {
@@ -121,7 +121,8 @@ pub fn node_of(word: u32) -> NodeFields
     }
 }
 
-// The first byte of a node's word: "kind 4, zero 4". The evaluator asks it where the kind alone is enough.
+// The first byte of a node's word: "kind 4, zero 4". The evaluator asks it where the kind alone is enough: measured, it saves a
+// call in most visits.
 pub fn first_byte(word: u32) -> usize
     ensures { result ≡ word / 2 ^ 24 }
 {

@@ -2,3 +2,4 @@
 pub mod All
 pub mod InRange
 pub mod Tallies
+pub mod Told

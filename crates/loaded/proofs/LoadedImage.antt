@@ -13,7 +13,7 @@ use Rattle.loaded.specs.Loaded.{LoadedWord, Loaded}
 use Rattle.loaded.proofs.LoadedWords.{linked_loaded, past_word}
 
 -- The number of rules has 8 bits.
-pub few_rules : (img : List ℕ) → rules img < 256
+pub few_rules : (img : List ℕ) → rules img < 2 ^ 32
 unfolding rules
 few_rules img = omega arith
 

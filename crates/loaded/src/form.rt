@@ -1,5 +1,5 @@
 // What a loaded grammar has. It stands in a file of its own, apart from what `load` promises of it: specs/Loaded.antt names it.
-ghost use Rattle.std.specs.Prelude.{◌<◌};
+ghost use Rattle.std.specs.Prelude.{◌<◌, ◌^◌};
 
 // A rule and the root of its body. An image has both in fields of at most 12 bits.
 #[derive(Clone, Copy)]
@@ -17,5 +17,5 @@ pub struct LoadedGrammar {
     pub words: [u32; 4096],
     pub rules: usize,
     pub start: Body,
-    ghost few_rules: { rules < 256 },
+    ghost few_rules: { rules < 2 ^ 32 },
 }

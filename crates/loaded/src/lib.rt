@@ -8,7 +8,7 @@ ghost use Rattle.loaded.specs.Loaded.{Loaded};
 
 pub use form::{Body, LoadedGrammar};
 
-// The grammar of an image.
+// The grammar of an image. There is no heap: 4,096 is the most numbers of 12 bits.
 pub fn load(image: &[u8]) -> LoadedGrammar
     requires { Lawful image.now }
     ensures { Loaded image.now result }

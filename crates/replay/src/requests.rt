@@ -36,7 +36,7 @@ fn edit<'a>(rest: &[u8], given: &'a mut [u8]) -> Result<Request<'a>, LineError> 
 }
 
 impl<'a> Request<'a> {
-    // The request of a line; its bytes lie in `given`.
+    // The request of a line; its bytes lie in `given`. The line's first word says which it is.
     pub fn of_line(text: &[u8], given: &'a mut [u8]) -> Result<Request<'a>, LineError> {
         let (verb, rest) = fields::first_field(text);
         match verb {
