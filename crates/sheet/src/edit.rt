@@ -31,9 +31,9 @@ pub fn edit(
         n,
         s,
         e,
-        r: replacement,
+        k: replacement.len(),
     };
     let standing = table::edit_table(table, rules, cap, &edit);
-    let length = text::edit_text(buffer, &edit);
+    let length = text::edit_text(buffer, &edit, replacement);
     Ok(EditedSheet { length, standing })
 }

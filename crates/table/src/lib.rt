@@ -3,7 +3,7 @@
 // taken apart in each call.
 #![tactic(auto)]
 
-ghost use Rattle.std.specs.Prelude.{◌≡◌, length};
+ghost use Rattle.std.specs.Prelude.{◌≡◌};
 ghost use Rattle.editing.specs.Text.{EditFits};
 ghost use Rattle.editing.specs.Table.{TableLent, cleared_table, words_after, table_after, held_in};
 
@@ -21,15 +21,15 @@ pub fn clear_table(table: &mut [u64], rules: usize, cap: usize)
 // The table after the edit of a text. Answers the number of pairs standing.
 pub fn edit_table(table: &mut [u64], rules: usize, cap: usize, edit: &Edit) -> usize
     requires table_lent { TableLent rules cap table.old }
-    requires edit_fits { EditFits cap edit.now.n edit.now.s edit.now.e (length edit.now.r.now) }
-    ensures standing { result ≡ held_in (words_after rules cap edit.now.n edit.now.s edit.now.e (length edit.now.r.now) table.old) }
-    ensures after { table.new ≡ table_after rules cap edit.now.n edit.now.s edit.now.e (length edit.now.r.now) table.old }
+    requires edit_fits { EditFits cap edit.now.n edit.now.s edit.now.e edit.now.k }
+    ensures standing { result ≡ held_in (words_after rules cap edit.now.n edit.now.s edit.now.e edit.now.k table.old) }
+    ensures after { table.new ≡ table_after rules cap edit.now.n edit.now.s edit.now.e edit.now.k table.old }
 {
     let size = rules * (cap + 1);
     let from = edit.s * rules;
     let kept = front::keep_front(&mut table[..from], rules, edit.s);
     let gone = edit.gone() * rules;
-    let new = edit.r.len() * rules;
+    let new = edit.k * rules;
     let tail = (edit.behind() + 1) * rules;
     kept + back::edit_back(&mut table[from..size], rules, gone, new, tail)
 }
