@@ -3,7 +3,7 @@
 
 ghost use Rattle.std.specs.Prelude.{ℕ, ◌+◌, ◌*◌, ◌≤◌, ◌<◌, ◌≡◌, ◌≢◌, length, slice_index, IfOk, IfSome, IfNone, SomeIff, ◌==◌};
 ghost use Rattle.std.specs.List.{position};
-ghost use Rattle.fields.specs.Fields.{DecimalOf, hex_value, byte_at, HexOf, FieldOf};
+ghost use Rattle.fields.specs.Fields.{DecimalOf, hex_value, HexOf, FieldOf};
 
 // The first place that has this byte, where there is one.
 fn first_place(line: &[u8], byte: u8) -> Option<usize>

@@ -1,9 +1,7 @@
 // The plain reading: a reading without records. Its answer depends on the image and the text alone.
-ghost use Rattle.std.specs.Prelude.{◌≡◌, ◌≤◌, length, ◌==◌};
-ghost use Rattle.grammar.specs.Questions.{Lawful};
+ghost use Rattle.std.specs.Prelude.{◌≡◌, ◌==◌};
 ghost use Rattle.records.specs.Words.{value_of};
 ghost use Rattle.reading.specs.Plain.{PlainRead, outcome_of, reading_of};
-ghost use Rattle.packrat.specs.Session.{StartWord};
 
 use crate::pair::StartPair;
 use grammar::Refusal;
