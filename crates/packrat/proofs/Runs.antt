@@ -4,7 +4,7 @@ use Rattle.std.specs.Prelude.{Ok, Err}
 use Rattle.grammar.specs.declared.refusal.Refusal.{Refusal}
 use Prim.Native.Nat.{ℕ, ◌+◌, ◌≤◌}
 use native.Mathlib.Omega.{arith}
-use mathlib.Core.Path.{◌≡◌, sym, ap, ◌∙◌, subst}
+use mathlib.Core.Path.{◌≡◌, refl, sym, ap, ◌∙◌, subst}
 use mathlib.Core.Bool.{Bool, true, false}
 use mathlib.Core.List.{List}
 use Rattle.grammar.specs.declared.Evaluation.{Evaluation}
@@ -161,15 +161,33 @@ module _ {n at left : ℕ} (text : List ℕ) (nodes called : Evaluator) (t : Lis
         (second_within x.bounds.shape y.bounds.shape)
         (omega (arith, x.bounds.allowed, y.bounds.allowed))
 
+  -- One evaluation inside, of which f makes the node's, with a nesting of one more.
+  module _ (f : Evaluation → Evaluation) {o : Out} where
+    inside_refused : {r : Refusal} {d : ℕ} {u : List ℕ} → Gives n at left o (Err r) u d → Gives n at (left + 1) (made f o) (Err r) u d
+    inside_refused g = let w = was_refused short (omega arith) g in gives_refusal (ap (made f) w)
+
+    inside_answered :
+        ((z : Evaluation) → Within n at z → Within n at (f z))
+        → ((z : Evaluation) → (f z).nesting ≡ 1 + z.nesting)
+        → {r d w : ℕ} {u : List ℕ}
+        → Gives n at left o (Ok r) u d
+        → w ≡ word_of (f (value_of r))
+        → Gives n at (left + 1) (made f o) (Ok w) u d
+    inside_answered within nests g e =
+        let x = found short (omega arith) g in
+        gives_value (f x.value)
+        (ap (made f) x.is)
+        (e ∙ ap (λ (z : Evaluation). word_of (f z)) (says short (omega arith) x))
+        (within x.value x.bounds.shape)
+        (omega (arith, x.bounds.allowed, nests x.value))
+
   -- Not A.
   pub not_refused :
       (a : ℕ) {r : Refusal} {d : ℕ} {u : List ℕ}
       → Gives n at left (nodes a at t c) (Err r) u d
       → Gives n at (left + 1) (kind_m text nodes called (NotPredicate a) at t c) (Err r) u d
   unfolding kind_m
-  not_refused a g =
-      let f = was_refused short (omega arith) g in
-      gives_refusal (ap (made negated) f)
+  not_refused a g = inside_refused negated g
 
   pub not_answered :
       (a : ℕ) {r d w : ℕ} {u : List ℕ}
@@ -177,13 +195,7 @@ module _ {n at left : ℕ} (text : List ℕ) (nodes called : Evaluator) (t : Lis
       → w ≡ word_of (negated (value_of r))
       → Gives n at (left + 1) (kind_m text nodes called (NotPredicate a) at t c) (Ok w) u d
   unfolding kind_m
-  not_answered a g e =
-      let f = found short (omega arith) g in
-      gives_value (negated f.value)
-      (ap (made negated) f.is)
-      (e ∙ ap (λ (x : Evaluation). word_of (negated x)) (says short (omega arith) f))
-      (negated_within f.bounds.shape)
-      (omega (arith, f.bounds.allowed))
+  not_answered a g e = inside_answered negated (λ z w. negated_within w) (λ z. refl) g e
 
   -- A call.
   pub call_refused :
@@ -191,9 +203,7 @@ module _ {n at left : ℕ} (text : List ℕ) (nodes called : Evaluator) (t : Lis
       → Gives n at left (called rule at t c) (Err r) u d
       → Gives n at (left + 1) (kind_m text nodes called (Call rule) at t c) (Err r) u d
   unfolding kind_m
-  call_refused rule g =
-      let f = was_refused short (omega arith) g in
-      gives_refusal (ap (made taken_over) f)
+  call_refused rule g = inside_refused taken_over g
 
   pub call_answered :
       (rule : ℕ) {r d w : ℕ} {u : List ℕ}
@@ -201,13 +211,7 @@ module _ {n at left : ℕ} (text : List ℕ) (nodes called : Evaluator) (t : Lis
       → w ≡ word_of (taken_over (value_of r))
       → Gives n at (left + 1) (kind_m text nodes called (Call rule) at t c) (Ok w) u d
   unfolding kind_m
-  call_answered rule g e =
-      let f = found short (omega arith) g in
-      gives_value (taken_over f.value)
-      (ap (made taken_over) f.is)
-      (e ∙ ap (λ (x : Evaluation). word_of (taken_over x)) (says short (omega arith) f))
-      (taken_within f.bounds.shape)
-      (omega (arith, f.bounds.allowed))
+  call_answered rule g e = inside_answered taken_over (λ z w. taken_within w) (λ z. refl) g e
 
 -- The nesting of an answered word is at most the allowance.
 pub nesting_allowed :
