@@ -19,15 +19,42 @@ use Rattle.records.specs.Joinable.{Joinable}
 use Rattle.packrat.proofs.Gives.{found, was_refused, says, says_matched, says_length, says_examined, says_nesting, gives_value, gives_refusal}
 
 module _ {n at left : ℕ} (text : List ℕ) (nodes called : Evaluator) (t : List ℕ) (c : ℕ) (short : n ≤ 65535) (most : left + 1 ≤ 4096) where
+  -- A first part, after which comes what its test says: where it is refused, and where it ends there with f of it.
+  module _ (after : Bool → Evaluation → List ℕ → ℕ → Out) {o : Out} where
+    part_refused :
+        {r : Refusal} {d : ℕ} {u : List ℕ}
+        → Gives n at left o (Err r) u d
+        → Gives n at (left + 1) (bind o (λ x u d. after x.matched x u d)) (Err r) u d
+    part_refused g =
+        let w = was_refused short (omega arith) g in
+        gives_refusal (ap (λ (o : Out). bind o (λ x u d. after x.matched x u d)) w)
+
+    part_ends :
+        (f : Evaluation → Evaluation) (z : Bool)
+        → ((x : Evaluation) (u : List ℕ) (d : ℕ) → after z x u d ≡ out (answered (f x)) u d)
+        → ((x : Evaluation) → Within n at x → Within n at (f x))
+        → ((x : Evaluation) → (f x).nesting ≡ 1 + x.nesting)
+        → {r d w : ℕ} {u : List ℕ}
+        → Gives n at left o (Ok r) u d
+        → matched_of r ≡ z
+        → w ≡ word_of (f (value_of r))
+        → Gives n at (left + 1) (bind o (λ x u d. after x.matched x u d)) (Ok w) u d
+    part_ends f z ends within nests {d = d} {u = u} g m e =
+        let x = found short (omega arith) g in
+        let k = sym (says_matched short (omega arith) x) ∙ m in
+        gives_value (f x.value)
+        (ap (λ (o : Out). bind o (λ x u d. after x.matched x u d)) x.is ∙ ap (λ (b : Bool). after b x.value u d) k ∙ ends x.value u d)
+        (e ∙ ap (λ (y : Evaluation). word_of (f y)) (says short (omega arith) x))
+        (within x.value x.bounds.shape)
+        (omega (arith, x.bounds.allowed, nests x.value))
+
   -- A then B.
   pub sequence_refused :
       (a b : ℕ) {r : Refusal} {d : ℕ} {u : List ℕ}
       → Gives n at left (nodes a at t c) (Err r) u d
       → Gives n at (left + 1) (kind_m text nodes called (Sequence a b) at t c) (Err r) u d
   unfolding kind_m
-  sequence_refused a b g =
-      let f = was_refused short (omega arith) g in
-      gives_refusal (ap (λ (o : Out). bind o (λ x u d. after_first x.matched nodes b at x u d)) f)
+  sequence_refused a b g = part_refused (λ z x u d. after_first z nodes b at x u d) g
 
   pub sequence_failed :
       (a b : ℕ) {r d w : ℕ} {u : List ℕ}
@@ -36,15 +63,8 @@ module _ {n at left : ℕ} (text : List ℕ) (nodes called : Evaluator) (t : Lis
       → w ≡ word_of (first_failed (value_of r))
       → Gives n at (left + 1) (kind_m text nodes called (Sequence a b) at t c) (Ok w) u d
   unfolding kind_m after_first
-  sequence_failed a b {d = d} {u = u} g m e =
-      let f = found short (omega arith) g in
-      let k = sym (says_matched short (omega arith) f) ∙ m in
-      gives_value (first_failed f.value)
-      (ap (λ (o : Out). bind o (λ x u d. after_first x.matched nodes b at x u d)) f.is
-      ∙ ap (λ (z : Bool). after_first z nodes b at f.value u d) k)
-      (e ∙ ap (λ (x : Evaluation). word_of (first_failed x)) (says short (omega arith) f))
-      (failed_within f.bounds.shape)
-      (omega (arith, f.bounds.allowed))
+  sequence_failed a b g m e =
+      part_ends (λ z x u d. after_first z nodes b at x u d) first_failed false (λ x u d. refl) (λ x w. failed_within w) (λ x. refl) g m e
 
   -- What the first part leaves: its evaluation, its length as the word says it.
   module _ (a b : ℕ) {r d : ℕ} {u : List ℕ} (g : Gives n at left (nodes a at t c) (Ok r) u d) (m : matched_of r ≡ true) where
@@ -105,9 +125,7 @@ module _ {n at left : ℕ} (text : List ℕ) (nodes called : Evaluator) (t : Lis
       → Gives n at left (nodes a at t c) (Err r) u d
       → Gives n at (left + 1) (kind_m text nodes called (Choice a b) at t c) (Err r) u d
   unfolding kind_m
-  choice_refused a b g =
-      let f = was_refused short (omega arith) g in
-      gives_refusal (ap (λ (o : Out). bind o (λ x u d. after_choice x.matched nodes b at x u d)) f)
+  choice_refused a b g = part_refused (λ z x u d. after_choice z nodes b at x u d) g
 
   pub choice_first :
       (a b : ℕ) {r d w : ℕ} {u : List ℕ}
@@ -116,15 +134,8 @@ module _ {n at left : ℕ} (text : List ℕ) (nodes called : Evaluator) (t : Lis
       → w ≡ word_of (taken_over (value_of r))
       → Gives n at (left + 1) (kind_m text nodes called (Choice a b) at t c) (Ok w) u d
   unfolding kind_m after_choice
-  choice_first a b {d = d} {u = u} g m e =
-      let f = found short (omega arith) g in
-      let k = sym (says_matched short (omega arith) f) ∙ m in
-      gives_value (taken_over f.value)
-      (ap (λ (o : Out). bind o (λ x u d. after_choice x.matched nodes b at x u d)) f.is
-      ∙ ap (λ (z : Bool). after_choice z nodes b at f.value u d) k)
-      (e ∙ ap (λ (x : Evaluation). word_of (taken_over x)) (says short (omega arith) f))
-      (taken_within f.bounds.shape)
-      (omega (arith, f.bounds.allowed))
+  choice_first a b g m e =
+      part_ends (λ z x u d. after_choice z nodes b at x u d) taken_over true (λ x u d. refl) (λ x w. taken_within w) (λ x. refl) g m e
 
   module _ (a b : ℕ) {r d : ℕ} {u : List ℕ} (g : Gives n at left (nodes a at t c) (Ok r) u d) (m : matched_of r ≡ false) where
     else-runs : (o : Out) → nodes b at u d ≡ o → kind_m text nodes called (Choice a b) at t c ≡ made (second_choice (value_of r)) o
