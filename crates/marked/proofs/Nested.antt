@@ -5,7 +5,7 @@ use Prim.Native.Nat.{ℕ, zero, suc, ◌+◌, ◌*◌, ◌≤◌, ◌<◌, max}
 use native.Mathlib.Omega.{arith}
 use mathlib.Core.Path.{◌≡◌, refl, sym, ap, ◌∙◌, subst}
 use mathlib.Core.Bool.{Bool, true, cond}
-use mathlib.Core.List.{[], ◌∷◌}
+use mathlib.Core.List.{List, [], ◌∷◌}
 use mathlib.Core.Logic.{inl, inr}
 use lib.ListN.{length, length-replicate, get_or-replicate}
 use Rattle.grammar.specs.declared.Evaluation.{Evaluation}
@@ -13,7 +13,7 @@ use Rattle.grammar.specs.Image.{edition, rules, nodes, start, rule_zero, root, r
 use Rattle.grammar.specs.declared.node.Terminal.TheVariants.{Range}
 use Rattle.grammar.specs.Image.{node, node_of, body, byte_at}
 use Rattle.grammar.specs.WellFormed.{WellFormed, wf_empty, wf_terminal, wf_call, wf_then, wf_else}
-use Rattle.grammar.specs.Questions.{Question7, Checked, of_image, roots, children_below, occurrences}
+use Rattle.grammar.specs.Questions.{Question, Question7, Checked, of_image, roots, children_below, occurrences}
 use Rattle.grammar.specs.Terminal.{terminal_at, accepts, has_at, taken, not_taken}
 use Rattle.grammar.specs.Evaluates.{Fresh, bodies_only, a_pair}
 use Rattle.grammar.specs.Evaluates.{ev_empty, ev_terminal, ev_then_first_fails, ev_then, ev_else_first, ev_else_second, ev_call, ev_body}
@@ -106,6 +106,10 @@ module _ (k : ℕ) (short : k ≤ 65535) where
   short_text : ShortText (brackets k)
   short_text = record { short = rw (long k) short }
 
+  -- The plain reading's own questions.
+  abbrev plain_questions : List Question
+  plain_questions = record { number = 8; holds = ShortText (brackets k) } ∷ record { number = 14; holds = DepthAllowed M10 (brackets k) } ∷ []
+
   -- k brackets are read where 3 (k + 1) is at most 4,096,
   read_brackets :
       3 * (k + 1) ≤ 4096
@@ -114,7 +118,7 @@ module _ (k : ℕ) (short : k ≤ 65535) where
       record {
         first =
             then_asked (of_image M10)
-            (record { number = 8; holds = ShortText (brackets k) } ∷ record { number = 14; holds = DepthAllowed M10 (brackets k) } ∷ [])
+            plain_questions
             0
             (image_numbers M10)
             m10_accepted.first
@@ -133,7 +137,7 @@ module _ (k : ℕ) (short : k ≤ 65535) where
       record {
         first =
             then_asked (of_image M10)
-            (record { number = 8; holds = ShortText (brackets k) } ∷ record { number = 14; holds = DepthAllowed M10 (brackets k) } ∷ [])
+            plain_questions
             14
             (image_numbers M10)
             m10_accepted.first
