@@ -1,6 +1,6 @@
 /* Bannelgo's gap-sheet reader from C and C++: C99 or C++11 and later.
  *
- * Link libbannelgo.a, which needs only the C library's memcpy, memmove and memset. Every image, text, number and table content has an answer.
+ * Link libbannelgo.a, which needs only the C library's memcpy and memset. Every image, text, number and table content has an answer.
  *
  * How to lend: a slice passes as a pointer and its length, in bytes or, for the table and the rows, in words of 64 bits. It is lent
  * until the call returns; nothing is kept. A pointer is never NULL, also where the length is 0 (data() of an empty std::vector may be

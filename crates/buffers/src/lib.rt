@@ -12,12 +12,14 @@ pub fn shift(part: &mut [u8], from: usize, to: usize, count: usize)
     part.copy_within(from..from + count, to);
 }
 
-// The bytes of `text` go to the front of the slice.
+// The bytes of `text` go to the front of the slice. By index: std's `copy_from_slice` is compiled to memmove, which the library does without.
 pub fn copy(part: &mut [u8], text: &[u8])
     requires { length text.now ≤ length part.old }
     ensures { Filled (at text.now) part.old part.new 0 (length text.now) }
 {
-    part[..text.len()].copy_from_slice(text);
+    for (i, byte) in text.iter().enumerate() {
+        part[i] = *byte;
+    }
 }
 
 // Every word becomes 0.

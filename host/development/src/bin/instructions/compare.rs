@@ -76,7 +76,7 @@ fn is_above(count: u64, before: u64) -> bool {
 
 fn print_head() {
     println!(
-        "Instructions of one call and the bytes that memcpy, memmove and memset write in it, beside those of {}",
+        "Instructions of one call and the bytes that memcpy and memset write in it, beside those of {}",
         file::NAME
     );
     print!(

@@ -14,7 +14,7 @@ const HEAD: &str = "\
 `bin/bench instructions write` writes this file; [BENCHMARKS.md](BENCHMARKS.md) says what is counted. A landing that changes a count writes it
 again, and its note says why.
 
-| Call | Instructions | Bytes by memcpy, memmove and memset |
+| Call | Instructions | Bytes by memcpy and memset |
 | --- | ---: | ---: |
 ";
 
