@@ -13,9 +13,14 @@ fn told(word: u64) -> Option<usize>
     records::matched_of(word).then_some(records::length_of(word))
 }
 
-// A terminal.
+// A terminal. An ASCII character is told without a call.
 pub fn leaf(text: &[u8], terminal: Terminal, at: usize) -> Option<usize>
     ensures { result ≡ told_length (terminal_at terminal text.now at) }
 {
+    if let Terminal::Any = terminal {
+        if terminals::characters::is_ascii(text, at) {
+            return Some(1);
+        }
+    }
     told(terminals::terminal(text, terminal, at))
 }

@@ -1,8 +1,8 @@
 use Prim.Native.Nat.{ℕ}
-use mathlib.Core.Path.{◌≡◌, refl, ap, ◌∙◌}
+use mathlib.Core.Path.{◌≡◌, refl, ◌∙◌}
 use mathlib.Core.Bool.{Bool, true, false}
 use Rattle.std.specs.Bool.{then_some}
-use Rattle.records.specs.Words.{value_of, length_of}
+use Rattle.records.specs.Words.{value_of}
 use Rattle.listing.specs.Gives.{length_or}
 use Rattle.listing.proofs.bytes.told.Goals as goal
 
