@@ -4,6 +4,6 @@
 
 mod nodes;
 pub mod sets;
-mod table;
+pub mod table;
 
 pub use nodes::Nodes;

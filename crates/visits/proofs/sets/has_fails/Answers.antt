@@ -1,0 +1,7 @@
+use Rattle.rounds.specs.Sets.{bit}
+use borrow.Author.Rules.{rules}
+use Rattle.visits.proofs.sets.has_fails.Goals as goal
+
+pub returns : goal.returns
+unfolding bit
+returns c = search rules
