@@ -1,6 +1,6 @@
 // Why a line is not replayed.
 use fields::HexError;
-use std::{fmt, io};
+use std::fmt;
 
 // What is wrong with a line that gets a message.
 #[derive(Clone, Copy, Debug, PartialEq, Eq)]
@@ -28,24 +28,5 @@ impl From<HexError> for LineError {
             HexError::TooLong => LineError::TooLong,
             HexError::NotHex => LineError::NotUnderstood,
         }
-    }
-}
-
-// What ends a line early: a message, or output that failed, which ends the program.
-#[derive(Debug, Drop)]
-pub enum Failure {
-    Line(LineError),
-    Io(io::Error),
-}
-
-impl From<LineError> for Failure {
-    fn from(error: LineError) -> Failure {
-        Failure::Line(error)
-    }
-}
-
-impl From<io::Error> for Failure {
-    fn from(error: io::Error) -> Failure {
-        Failure::Io(error)
     }
 }

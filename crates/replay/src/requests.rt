@@ -1,11 +1,17 @@
 // What a line asks for.
 use crate::errors::LineError;
 
-// What the words of a line give.
+// What the words of a line give: an image, how much is lent, or a call.
 #[derive(Clone, Copy, Debug, PartialEq, Eq)]
 pub enum Request<'a> {
     Image(&'a [u8]),
     Lend(usize, usize),
+    Call(Call<'a>),
+}
+
+// A call, which has an answer.
+#[derive(Clone, Copy, Debug, PartialEq, Eq)]
+pub enum Call<'a> {
     Open(&'a [u8]),
     Edit(usize, usize, &'a [u8]),
     Read,
@@ -29,10 +35,10 @@ fn bytes<'a>(digits: &[u8], given: &'a mut [u8]) -> Result<&'a [u8], LineError> 
     Ok(&given[..count])
 }
 
-fn edit<'a>(rest: &[u8], given: &'a mut [u8]) -> Result<Request<'a>, LineError> {
+fn edit<'a>(rest: &[u8], given: &'a mut [u8]) -> Result<Call<'a>, LineError> {
     let (start, rest) = fields::first_field(rest);
     let (end, digits) = fields::first_field(rest);
-    Ok(Request::Edit(number(start)?, number(end)?, bytes(digits, given)?))
+    Ok(Call::Edit(number(start)?, number(end)?, bytes(digits, given)?))
 }
 
 impl<'a> Request<'a> {
@@ -45,14 +51,14 @@ impl<'a> Request<'a> {
                 let (cap, words) = two_numbers(rest)?;
                 Ok(Request::Lend(cap, words))
             }
-            b"open" => Ok(Request::Open(bytes(rest, given)?)),
-            b"edit" => edit(rest, given),
-            b"read" if rest.is_empty() => Ok(Request::Read),
+            b"open" => Ok(Request::Call(Call::Open(bytes(rest, given)?))),
+            b"edit" => Ok(Request::Call(edit(rest, given)?)),
+            b"read" if rest.is_empty() => Ok(Request::Call(Call::Read)),
             b"look" => {
                 let (rule, position) = two_numbers(rest)?;
-                Ok(Request::Look(rule, position))
+                Ok(Request::Call(Call::Look(rule, position)))
             }
-            b"list" => Ok(Request::List(number(rest)?)),
+            b"list" => Ok(Request::Call(Call::List(number(rest)?))),
             _ => Err(LineError::NotUnderstood),
         }
     }
