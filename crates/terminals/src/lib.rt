@@ -55,6 +55,7 @@ pub fn byte_between(text: &[u8], from: usize, to: usize, at: usize) -> u64
 }
 
 // The other ASCII case of a letter; any other byte stands for itself.
+#[tactic(auto, unfolding(grammar::specs::Terminal::other_case), using(std::proofs::lemmas::Bool::Decides::nat_tests))]
 fn other_case(byte: u8) -> u8
     ensures { result ≡ other_case byte }
 {

@@ -16,17 +16,17 @@ loop-node-init c = turn_none c.requires
 
 pub bounds-known-n : goal.bounds-known-n
 bounds-known-n c =
-    let named = (order_visits _ _ c.args.self.now.downward).only_nodes c.loop-node.node-index (omega arith) in
+    let named = (order_visits _ _ c.args.self.now.downward).only_nodes in
     omega (arith, c.from-n.ensures, named, c.args.self.now.all.now.lawful.counts.few_nodes)
 
 pub outcomes-requires : goal.outcomes-requires
 outcomes-requires c =
-    let named = (order_visits _ _ c.args.self.now.downward).only_nodes c.loop-node.node-index (omega arith) in
+    let named = (order_visits _ _ c.args.self.now.downward).only_nodes in
     (omega (arith, c.from-n.ensures, named), c.loop-node.invariant.good.small)
 
 pub bounds-known-n-then-new-old : goal.bounds-known-n-then-new-old
 bounds-known-n-then-new-old c =
-    let named = (order_visits _ _ c.args.self.now.downward).only_nodes c.loop-node.node-index (omega arith) in
+    let named = (order_visits _ _ c.args.self.now.downward).only_nodes in
     omega (arith, c.from-n.ensures, named, c.args.self.now.all.now.lawful.counts.few_nodes)
 
 pub loop-node-preserved : goal.loop-node-preserved
