@@ -6,8 +6,8 @@ use crate::requests::{Call, Request};
 use std::io;
 use std::io::Write;
 
-// The bytes of a comment, whatever they are. This and the other functions here are not inlined: a blank line or one that lends then clears
-// none of the stack that printing takes. Measured: inlined, such a line took 1.5 times as long.
+// The bytes of a comment, whatever they are. This and the other functions here are not inlined: a line that prints nothing then clears less of
+// the stack. Counted: one that lends takes 296 instructions, and 370 where all is inlined.
 #[inline(never)]
 fn comment(rt: &HostRuntime, words: &[u8]) -> io::Result<()> {
     let mut out = io::writer(rt);
